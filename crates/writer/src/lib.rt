@@ -1,0 +1,142 @@
+ghost use mathlib.Core.Path.{_≡_};
+ghost use Prim.Native.Nat.{ℕ, _+_, _<_, _≤_, min};
+ghost use lib.ListN.{length, take, drop};
+ghost use mathlib.Core.List.{[], _∷_, _++_};
+ghost use Rattle.writer.specs.Wrote.{over, after, Wrote};
+ghost use Rattle.writer.specs.Text.{pick, digits, decimal};
+
+const CAP: usize = 9223372036854775808;
+
+// The place n bytes after at.
+pub fn advance(at: usize, n: usize) -> usize
+    ensures { λ r. ⌜ r ≡ after at n ⌝ }
+{
+    if CAP <= at {
+        return at;
+    }
+    if n < CAP - at {
+        return at + n;
+    }
+    CAP
+}
+
+// The first n bytes of s, which has room in t.
+fn copy(t: &mut [u8], at: usize, s: &[u8], n: usize)
+    requires { ⌜ (at + n ≤ length (now t)) × (n ≤ length (now s)) ⌝ }
+    ensures { λ _. ⌜ now (t .exit) ≡ over (now (t .entry)) at (take n (now (s .entry))) ⌝ }
+{
+    let mut j = 0;
+    while j < n {
+        t[at + j] = s[j];
+        j += 1;
+    }
+}
+
+pub fn put(t: &mut [u8], at: usize, s: &[u8]) -> usize
+    ensures { λ r. ⌜ Wrote (now (t .entry)) at (now (s .entry)) (now (t .exit)) r ⌝ }
+{
+    let n = s.len();
+    if t.len() <= at {
+        return advance(at, n);
+    }
+    let room = t.len() - at;
+    if n <= room {
+        copy(t, at, s, n);
+        return advance(at, n);
+    }
+    copy(t, at, s, room);
+    advance(at, n)
+}
+
+pub fn put_byte(t: &mut [u8], at: usize, x: u8) -> usize
+    ensures { λ r. ⌜ Wrote (now (t .entry)) at (x ∷ []) (now (t .exit)) r ⌝ }
+{
+    if at < t.len() {
+        t[at] = x;
+        return advance(at, 1);
+    }
+    advance(at, 1)
+}
+
+// s where on holds, and else nothing.
+pub fn put_if(t: &mut [u8], at: usize, on: bool, s: &[u8]) -> usize
+    ensures { λ r. ⌜ Wrote (now (t .entry)) at (pick on (now (s .entry)) []) (now (t .exit)) r ⌝ }
+{
+    if on {
+        return put(t, at, s);
+    }
+    at
+}
+
+// p where on holds, and else q.
+pub fn put_either(t: &mut [u8], at: usize, on: bool, p: &[u8], q: &[u8]) -> usize
+    ensures { λ r. ⌜ Wrote (now (t .entry)) at (pick on (now (p .entry)) (now (q .entry))) (now (t .exit)) r ⌝ }
+{
+    if on {
+        return put(t, at, p);
+    }
+    put(t, at, q)
+}
+
+fn put_digits(t: &mut [u8], at: usize, n: u32, k: usize) -> usize
+    ensures { λ r. ⌜ Wrote (now (t .entry)) at (digits k n) (now (t .exit)) r ⌝ }
+{
+    if k == 0 {
+        return at;
+    }
+    let d = 48 + (n % 10) as u8;
+    if n < 10 {
+        return put_byte(t, at, d);
+    }
+    let a = put_digits(t, at, n / 10, k - 1);
+    put_byte(t, a, d)
+}
+
+pub fn put_number(t: &mut [u8], at: usize, n: u32) -> usize
+    ensures { λ r. ⌜ Wrote (now (t .entry)) at (decimal n) (now (t .exit)) r ⌝ }
+{
+    put_digits(t, at, n, 10)
+}
+
+// The smaller of the two: where the part of a slice begins that a writer is lent.
+pub fn within(a: usize, n: usize) -> usize
+    ensures { λ r. ⌜ r ≡ min a n ⌝ }
+{
+    if a < n {
+        return a;
+    }
+    n
+}
+
+// What a text that is asked for comes to: it is written, and is so long; or it needs so much room.
+pub enum Answer {
+    Written(usize),
+    Short(usize),
+}
+
+// The n bytes of s from `from` on, as many as there are.
+pub fn put_part(t: &mut [u8], at: usize, s: &[u8], from: usize, n: usize) -> usize
+    ensures { λ r. ⌜ Wrote (now (t .entry)) at (take n (drop from (now (s .entry)))) (now (t .exit)) r ⌝ }
+{
+    let a = within(from, s.len());
+    let m = within(n, s.len() - a);
+    let e = a + m;
+    put(t, at, &s[a..e])
+}
+
+// Two texts, one after the other.
+pub fn put_two(t: &mut [u8], at: usize, p: &[u8], q: &[u8]) -> usize
+    ensures { λ r. ⌜ Wrote (now (t .entry)) at (now (p .entry) ++ now (q .entry)) (now (t .exit)) r ⌝ }
+{
+    let a = put(t, at, p);
+    put(t, a, q)
+}
+
+// Three texts, one after the other.
+pub fn put_three(t: &mut [u8], at: usize, p: &[u8], q: &[u8], s: &[u8]) -> usize
+    ensures { λ r. ⌜ Wrote (now (t .entry)) at (now (p .entry) ++ now (q .entry) ++ now (s .entry)) (now (t .exit)) r ⌝ }
+{
+    let a = put(t, at, p);
+    let a = put(t, a, q);
+    put(t, a, s)
+}
