@@ -16,7 +16,7 @@ returns c = search needs
 
 -- src/lib.rt:7:1
 returns-2 : tie.Need-returns-2
-returns-2 c = sym (List·getD-eq-default _ 0 (c .if1 .left))
+returns-2 c = sym (List·getD-eq-default (c .before .args .s .now) 0 (c .if1 .left))
 
 pub byte-at-spec : {M : Type 1} → statement M
 byte-at-spec = tie.close (tie.spec shared-slice-read-result returns returns-2)
