@@ -1,0 +1,5 @@
+pub mod Ident
+pub mod Spaced
+pub mod Prefix
+pub mod Name
+pub mod Convert
