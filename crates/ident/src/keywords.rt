@@ -11,7 +11,7 @@ pub enum Addition {
     Leading,
 }
 
-// Is x one of the words? A space stands behind each.
+// Is x one of the words? A space stands between two of them.
 fn listed(x: &[u8], words: &[u8]) -> bool
     ensures { λ r. ⌜ r ≡ among (now (x .entry)) (spaced (now (words .entry))) ⌝ }
 {
@@ -19,13 +19,15 @@ fn listed(x: &[u8], words: &[u8]) -> bool
     let mut i = 0;
     while i < words.len() {
         let next_i = i + 1;
-        if words[i] == 32 {
-            let found = base::same_bytes(x, &words[from..i]);
-            if found {
-                return true;
-            }
-            from = next_i;
+        if words[i] != 32 {
+            i = next_i;
+            continue;
         }
+        let found = base::same_bytes(x, &words[from..i]);
+        if found {
+            return true;
+        }
+        from = next_i;
         i = next_i;
     }
     base::same_bytes(x, &words[from..])
@@ -36,12 +38,12 @@ pub fn addition_of(x: &[u8]) -> Addition
 {
     let raw = listed(
         x,
-        b"as break const continue else enum false fn for if impl in let loop match mod move mut pub ref return static struct trait true type unsafe use where while dyn abstract become box do final macro override priv typeof unsized virtual yield async await try gen ",
+        b"as break const continue else enum false fn for if impl in let loop match mod move mut pub ref return static struct trait true type unsafe use where while dyn abstract become box do final macro override priv typeof unsized virtual yield async await try gen",
     );
     if raw {
         return Addition::Raw;
     }
-    let kept = listed(x, b"_ super self Self extern crate ");
+    let kept = listed(x, b"_ super self Self extern crate");
     if kept {
         return Addition::Trailing;
     }

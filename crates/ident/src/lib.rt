@@ -12,7 +12,7 @@ ghost use lib.ListN.{drop};
 ghost use Rattle.writer.specs.Wrote.{Wrote};
 ghost use Rattle.heck.specs.Pass.{cased};
 ghost use Rattle.ident.specs.Ident.{addition, with-addition, sanitize-identifier, to-snake, to-upper-camel, strip-enum-prefix};
-ghost use Rattle.ident.specs.Convert.{is-name, convert};
+ghost use Rattle.ident.specs.Convert.{convert};
 
 // What a name writer answers: the place behind the name.
 pub struct Named {

@@ -1,8 +1,8 @@
 // Two names compared as the case rule spells them in camel case: what stands behind the one in the other.
 use heck::State;
 ghost use mathlib.Core.Path.{_≡_};
-ghost use Prim.Native.Nat.{_<_, _≤_};
-ghost use lib.ListN.{drop, length};
+ghost use mathlib.Core.Bool.{true};
+ghost use lib.ListN.{drop};
 ghost use Rattle.heck.specs.Case.{to-upper-camel-case};
 ghost use Rattle.heck.specs.Pass.{cased};
 ghost use Rattle.ident.specs.Ident.{strip-prefix, true-prefix};
@@ -57,7 +57,7 @@ fn camel_step(s: &[u8], from: usize, state: State) -> Step
 
 // The whole name.
 fn whole() -> Rest
-    ensures { λ r. ⌜ r ≡ record { at = 0; state = Start } ⌝ }
+    ensures { λ r. ⌜ r ≡ record { at = 0; state = State.Start } ⌝ }
 {
     Rest {
         at: 0,
