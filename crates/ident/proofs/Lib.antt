@@ -1,2 +1,4 @@
 pub mod SpacedLaws
 pub mod NameLaws
+pub mod AdditionLaws
+pub mod PrefixLaws

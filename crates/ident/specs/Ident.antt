@@ -32,6 +32,12 @@ kept-words = b "_" ∷ b "super" ∷ b "self" ∷ b "Self" ∷ b "extern" ∷ b 
 unfoldable pub addition : List ℕ → Addition
 addition x = choose (among x raw-words) Raw (choose (among x kept-words) Trailing (choose (is-digit (getD x 0 0)) Leading Nothing))
 
+abbrev pub is-trailing : Addition → Bool
+is-trailing Nothing = false
+is-trailing Raw = false
+is-trailing Trailing = true
+is-trailing Leading = false
+
 unfoldable pub with-addition : Addition → List ℕ → List ℕ
 with-addition Nothing x = x
 with-addition Raw x = b "r#" ++ x

@@ -1,6 +1,6 @@
 // What sanitising adds to a name that is a keyword or begins with a digit.
 ghost use mathlib.Core.Path.{_≡_};
-ghost use Rattle.ident.specs.Ident.{addition, among};
+ghost use Rattle.ident.specs.Ident.{addition, among, is-trailing};
 ghost use Rattle.ident.specs.Spaced.{spaced};
 
 // What is added to a name: nothing, `r#` in front, `_` behind, `_` in front.
@@ -52,4 +52,15 @@ pub fn addition_of(x: &[u8]) -> Addition
         return Addition::Leading;
     }
     Addition::Nothing
+}
+
+pub fn is_trailing(added: Addition) -> bool
+    ensures { λ r. ⌜ r ≡ is-trailing added ⌝ }
+{
+    match added {
+        Addition::Nothing => false,
+        Addition::Raw => false,
+        Addition::Trailing => true,
+        Addition::Leading => false,
+    }
 }

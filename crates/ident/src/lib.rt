@@ -26,7 +26,7 @@ fn addition_to(s: &[u8], from: usize, state: State, camel: bool) -> Addition
     let mut head = [0u8; 9];
     let n = heck::put_case(&mut head, 0, s, from, state, camel);
     let m = writer::within(n, 9);
-    keywords::addition_of(&head[0..m])
+    keywords::addition_of(&head[..m])
 }
 
 // The rest of a name, as the case rule spells it from a state on, sanitised.
@@ -74,15 +74,14 @@ pub fn put_upper_camel(t: &mut [u8], at: usize, s: &[u8]) -> Named
 pub fn put_variant(t: &mut [u8], at: usize, prefix: &[u8], name: &[u8]) -> Named
     ensures { λ r. ⌜ Wrote (now (t .entry)) at (strip-enum-prefix (to-upper-camel (now (prefix .entry))) (to-upper-camel (now (name .entry)))) (now (t .exit)) (r .next) ⌝ }
 {
-    match addition_to(prefix, 0, State::Start, true) {
-        Addition::Trailing => put_name(t, at, name, 0, State::Start, true),
-        _ => {
-            let r = prefix::behind(prefix, name);
-            let from = r.at;
-            let state = r.state;
-            put_name(t, at, name, from, state, true)
-        }
+    let kept = keywords::is_trailing(addition_to(prefix, 0, State::Start, true));
+    if kept {
+        return put_name(t, at, name, 0, State::Start, true);
     }
+    let rest = prefix::behind(prefix, name);
+    let from = rest.at;
+    let state = rest.state;
+    put_name(t, at, name, from, state, true)
 }
 
 // The convert call's answer: number and place of the refusal (0 and 0 where there is none), and the two names with

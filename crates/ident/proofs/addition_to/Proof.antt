@@ -1,3 +1,8 @@
+use native.Mathlib.Omega.{arith}
+use lib.Seq.{length-take-le}
+use Rattle.writer.specs.Wrote.{kept}
+use Rattle.ident.proofs.AdditionLaws.{head-addition}
+use mathlib.Core.Path.{refl, _∙_, sym}
 use borrow.Author.Needs.{needs}
 use Rattle.ident.proofs.addition_to.Statement.{statement}
 use Rattle.ident.proofs.addition_to.Tie as tie
@@ -20,16 +25,12 @@ within-requires : tie.Need-within-requires
 within-requires c κs = search needs
 
 -- src/lib.rt:29:27
-sub-addition-of : tie.Need-sub-addition-of
-sub-addition-of c = search needs
+array-share-prefix-head : tie.Need-array-share-prefix-head
+array-share-prefix-head c = search needs
 
 -- src/lib.rt:29:27
-part-addition-of-start : tie.Need-part-addition-of-start
-part-addition-of-start c = search needs
-
--- src/lib.rt:29:27
-part-addition-of-end : tie.Need-part-addition-of-end
-part-addition-of-end c = search needs
+slice-aggregate-addition-of : tie.Need-slice-aggregate-addition-of
+slice-aggregate-addition-of c = let h = kept (c .before .before .before .put-case .ensures) in sym (length-take-le _ _ (omega arith))
 
 -- src/lib.rt:29:5
 addition-of-requires : tie.Need-addition-of-requires
@@ -37,7 +38,7 @@ addition-of-requires c κs = search needs
 
 -- src/lib.rt:23:1
 returns : tie.Need-returns
-returns c = ?
+returns c = c .addition-of .ensures ∙ head-addition (c .before .before .before .before .put-case .ensures) refl (c .before .before .within .ensures)
 
 pub addition-to-spec : {M : Type 1} → statement M
 addition-to-spec =
@@ -46,8 +47,7 @@ addition-to-spec =
     slice-aggregate-put-case
     put-case-requires
     within-requires
-    sub-addition-of
-    part-addition-of-start
-    part-addition-of-end
+    array-share-prefix-head
+    slice-aggregate-addition-of
     addition-of-requires
     returns)

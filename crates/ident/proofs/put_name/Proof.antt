@@ -1,3 +1,5 @@
+use Rattle.writer.specs.Wrote.{_►_, kept}
+use Rattle.ident.specs.Ident.{sanitize-identifier, with-addition}
 use borrow.Author.Needs.{needs}
 use Rattle.ident.proofs.put_name.Statement.{statement}
 use Rattle.ident.proofs.put_name.Tie as tie
@@ -73,7 +75,8 @@ same-length c = search needs
 
 -- src/lib.rt:33:1
 returns : tie.Need-returns
-returns c = ?
+unfolding sanitize-identifier with-addition
+returns c = rw (← c .before .before .before .before .before .before .addition-to .ensures, c .before .before .before .before .enum-told .given .1) (c .before .before .put-case .ensures)
 
 -- src/lib.rt:33:1
 same-length-2 : tie.Need-same-length-2
@@ -81,7 +84,8 @@ same-length-2 c = search needs
 
 -- src/lib.rt:33:1
 returns-2 : tie.Need-returns-2
-returns-2 c = ?
+unfolding sanitize-identifier with-addition
+returns-2 c = rw (← c .before .before .before .before .before .before .before .before .before .before .before .addition-to .ensures, c .before .before .before .before .before .before .before .before .before .enum-told2 .given .1) (c .before .before .before .before .before .before .put .ensures ► c .before .before .put-case2 .ensures)
 
 -- src/lib.rt:33:1
 same-length-3 : tie.Need-same-length-3
@@ -89,7 +93,8 @@ same-length-3 c = search needs
 
 -- src/lib.rt:33:1
 returns-3 : tie.Need-returns-3
-returns-3 c = ?
+unfolding sanitize-identifier with-addition
+returns-3 c = rw (← c .before .before .before .before .before .before .before .before .before .before .before .addition-to .ensures, c .before .before .before .before .before .before .before .before .before .enum-told3 .given .1) (c .before .before .before .before .before .before .before .put-case3 .ensures ► c .before .before .put2 .ensures)
 
 -- src/lib.rt:33:1
 same-length-4 : tie.Need-same-length-4
@@ -97,7 +102,8 @@ same-length-4 c = search needs
 
 -- src/lib.rt:33:1
 returns-4 : tie.Need-returns-4
-returns-4 c = ?
+unfolding sanitize-identifier with-addition
+returns-4 c = rw (← c .before .before .before .before .before .before .before .before .before .before .before .addition-to .ensures, c .before .before .before .before .before .before .before .before .before .enum-told4 .given .1) (c .before .before .before .before .before .before .put3 .ensures ► c .before .before .put-case4 .ensures)
 
 pub put-name-spec : {M : Type 1} → statement M
 put-name-spec =

@@ -1,3 +1,7 @@
+use mathlib.Core.Path.{ap}
+use Rattle.writer.specs.Wrote.{named}
+use Rattle.ident.specs.Ident.{sanitize-identifier, to-upper-camel}
+use Rattle.heck.proofs.Spelling.{camel-cased}
 use borrow.Author.Needs.{needs}
 use Rattle.ident.proofs.put_upper_camel.Statement.{statement}
 use Rattle.ident.proofs.put_upper_camel.Tie as tie
@@ -15,7 +19,8 @@ same-length c = search needs
 
 -- src/lib.rt:67:1
 returns : tie.Need-returns
-returns c = ?
+unfolding to-upper-camel
+returns c = named (ap sanitize-identifier (camel-cased _)) (c .before .before .put-name .ensures)
 
 pub put-upper-camel-spec : {M : Type 1} → statement M
 put-upper-camel-spec = tie.close (tie.spec put-name-requires same-length returns)

@@ -1,3 +1,5 @@
+use borrow.Author.Tests.{le-leb, lt-leb}
+use Rattle.ident.specs.Convert.{convertible}
 use borrow.Author.Needs.{needs}
 use Rattle.ident.proofs.names.convertible.Statement.{statement}
 use Rattle.ident.proofs.names.convertible.Tie as tie
@@ -16,15 +18,18 @@ has-word-requires c κs = search needs
 
 -- src/names.rt:73:13
 returns : tie.Need-returns
-returns c = ?
+unfolding convertible
+returns c = rw (← c .before .before .before .is-name .ensures, c .before .before .if1 .taken, le-leb _ _ (c .before .if2 .taken)) (c .has-word .ensures)
 
 -- src/names.rt:75:9
 returns-2 : tie.Need-returns-2
-returns-2 c = ?
+unfolding convertible
+returns-2 c = rw (← c .before .before .is-name .ensures, c .before .if1 .taken, lt-leb _ _ (c .if2 .left))
 
 -- src/names.rt:67:1
 returns-3 : tie.Need-returns-3
-returns-3 c = ?
+unfolding convertible
+returns-3 c = rw (← c .before .is-name .ensures, c .if1 .left)
 
 pub convertible-spec : {M : Type 1} → statement M
 convertible-spec =
