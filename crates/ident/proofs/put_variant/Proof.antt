@@ -1,3 +1,7 @@
+use mathlib.Core.Path.{sym, ap, _∙_}
+use Rattle.writer.specs.Wrote.{named}
+use Rattle.ident.specs.Ident.{is-trailing}
+use Rattle.ident.proofs.Stripped.{strip-none, strip-rest}
 use borrow.Author.Needs.{needs}
 use Rattle.ident.proofs.put_variant.Statement.{statement}
 use Rattle.ident.proofs.put_variant.Tie as tie
@@ -26,7 +30,7 @@ same-length c = search needs
 
 -- src/lib.rt:79:9
 returns : tie.Need-returns
-returns c = ?
+returns c = named (strip-none _ _ (ap is-trailing (sym (c .before .before .before .before .before .before .addition-to .ensures)) ∙ sym (c .before .before .before .before .before .is-trailing .ensures) ∙ c .before .before .before .before .if1 .taken)) (c .before .before .put-name .ensures)
 
 -- src/lib.rt:81:9
 behind-requires : tie.Need-behind-requires
@@ -42,7 +46,7 @@ same-length-2 c = search needs
 
 -- src/lib.rt:74:1
 returns-2 : tie.Need-returns-2
-returns-2 c = ?
+returns-2 c = named (strip-rest _ _ (ap is-trailing (sym (c .before .before .before .before .before .before .before .addition-to .ensures)) ∙ sym (c .before .before .before .before .before .before .is-trailing .ensures) ∙ c .before .before .before .before .before .if1 .left) _ (c .before .before .before .before .behind .ensures)) (c .before .before .put-name2 .ensures)
 
 pub put-variant-spec : {M : Type 1} → statement M
 put-variant-spec =
