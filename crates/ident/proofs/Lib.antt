@@ -5,3 +5,4 @@ pub mod PrefixLaws
 pub mod EveryLaws
 pub mod Spelled
 pub mod Stripped
+pub mod Sizes

@@ -1,3 +1,10 @@
+use mathlib.Core.Path.{_≡_, refl, sym, ap, _∙_}
+use native.Mathlib.Omega.{arith}
+use Prim.Native.Nat.{_≤_}
+use lib.ListN.{length}
+use Rattle.base.specs.Choose.{choose}
+use Rattle.ident.specs.Convert.{convert, converted, refused, padded}
+use Rattle.ident.proofs.Sizes.{converted-is}
 use borrow.Author.Needs.{needs}
 use Rattle.ident.proofs.convert.Statement.{statement}
 use Rattle.ident.proofs.convert.Tie as tie
@@ -29,11 +36,13 @@ put-upper-camel-requires c κs = search needs
 
 -- src/lib.rt:109:9
 returns : tie.Need-returns
-returns c = ?
+unfolding convert choose
+returns c = rw (← c .before .before .before .before .before .before .before .convertible .ensures, c .before .before .before .before .before .before .if1 .taken) (converted-is _ (sym (c .before .before .before .before .before .before .before .convertible .ensures) ∙ c .before .before .before .before .before .before .if1 .taken) (c .before .before .before .before .put-snake .ensures) (c .before .put-upper-camel .ensures))
 
 -- src/lib.rt:100:1
 returns-2 : tie.Need-returns-2
-returns-2 c = ?
+unfolding convert choose refused padded
+returns-2 c = rw (← c .before .convertible .ensures, c .if1 .left)
 
 pub convert-spec : {M : Type 1} → statement M
 convert-spec =
