@@ -6,3 +6,5 @@ pub mod EveryLaws
 pub mod Spelled
 pub mod Stripped
 pub mod Sizes
+pub mod Written
+pub mod Table

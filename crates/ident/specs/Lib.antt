@@ -3,3 +3,4 @@ pub mod Spaced
 pub mod Prefix
 pub mod Name
 pub mod Convert
+pub mod Reference
