@@ -1,15 +1,17 @@
 // Runs the recorded conversions and compares: ident.txt has a name, its snake and its camel name on each line, strip.txt a
 // prefix, a name and what strip_enum_prefix gives.
 ghost use mathlib.Core.Path.{_≡_};
-ghost use Prim.Native.Nat.{_+_, _≤_, min};
+ghost use Prim.Native.Nat.{_+_, _<_, _≤_, min};
 ghost use lib.ListN.{length};
 ghost use Rattle.ident_cases.specs.Lines.{Inside, InOrder};
 
-// Where the three parts of a line end and start, and where the next line starts.
+// A line has three parts: the ends of all and the starts of the second and third, and where the next line starts.
 struct Line {
-    first: usize,
+    end: usize,
     second: usize,
+    secondend: usize,
     third: usize,
+    thirdend: usize,
     next: usize,
 }
 
@@ -48,17 +50,21 @@ fn behind(s: &[u8], at: usize) -> usize
 }
 
 fn line_at(s: &[u8], at: usize) -> Line
-    requires { ⌜ at ≤ length (now s) ⌝ }
+    requires { ⌜ at < length (now s) ⌝ }
     ensures { λ r. ⌜ InOrder (now (s .entry)) at r ⌝ }
 {
-    let first = end_of(s, at);
-    let second = end_of(s, behind(s, first));
-    let third = end_of(s, behind(s, second));
+    let end = end_of(s, at);
+    let second = behind(s, end);
+    let secondend = end_of(s, second);
+    let third = behind(s, secondend);
+    let thirdend = end_of(s, third);
     Line {
-        first: first,
+        end: end,
         second: second,
+        secondend: secondend,
         third: third,
-        next: behind(s, third),
+        thirdend: thirdend,
+        next: behind(s, thirdend),
     }
 }
 
@@ -69,37 +75,38 @@ fn both(p: bool, q: bool) -> bool {
     false
 }
 
+// Do the first n bytes of a buffer hold s?
+fn is_text(buffer: &[u8], n: usize, s: &[u8]) -> bool {
+    let m = writer::within(n, buffer.len());
+    base::same_bytes(&buffer[..m], s)
+}
+
 fn snake_is(name: &[u8], snake: &[u8]) -> bool {
     let mut out = [0u8; 256];
     let end = ident::put_snake(&mut out, 0, name);
-    let n = writer::within(end.next, 256);
-    base::same_bytes(&out[..n], snake)
+    is_text(&out, end.next, snake)
 }
 
 fn camel_is(name: &[u8], camel: &[u8]) -> bool {
     let mut out = [0u8; 256];
     let end = ident::put_upper_camel(&mut out, 0, name);
-    let n = writer::within(end.next, 256);
-    base::same_bytes(&out[..n], camel)
+    is_text(&out, end.next, camel)
 }
 
 fn stripped_is(prefix: &[u8], name: &[u8], stripped: &[u8]) -> bool {
     let mut out = [0u8; 256];
     let end = ident::put_stripped(&mut out, 0, prefix, name);
-    let n = writer::within(end.next, 256);
-    base::same_bytes(&out[..n], stripped)
+    is_text(&out, end.next, stripped)
 }
 
 // Convert gives the same two names, where it takes the name.
 fn converted_is(name: &[u8], snake: &[u8], camel: &[u8]) -> bool {
     let c = ident::convert(name);
     if c.number == 0 {
-        let n = writer::within(c.snakelen, 106);
-        let m = writer::within(c.camellen, 64);
         let x = c.snake;
         let y = c.camel;
-        let p = base::same_bytes(&x[..n], snake);
-        let q = base::same_bytes(&y[..m], camel);
+        let p = is_text(&x, c.snakelen, snake);
+        let q = is_text(&y, c.camellen, camel);
         return both(p, q);
     }
     true
@@ -133,7 +140,7 @@ fn counted(t: Tally, good: bool) -> Tally {
     }
 }
 
-fn tally(s: &[u8], strip: bool) -> Tally {
+fn compare(s: &[u8], strip: bool) -> Tally {
     let mut t = Tally {
         compared: 0,
         differ: 0,
@@ -141,12 +148,17 @@ fn tally(s: &[u8], strip: bool) -> Tally {
     let mut at = 0;
     while at < s.len() {
         let line = line_at(s, at);
-        let first = line.first;
+        let end = line.end;
         let second = line.second;
+        let secondend = line.secondend;
         let third = line.third;
-        let b = behind(s, first);
-        let c = behind(s, second);
-        let good = agrees(strip, &s[at..first], &s[b..second], &s[c..third]);
+        let thirdend = line.thirdend;
+        let good = agrees(
+            strip,
+            &s[at..end],
+            &s[second..secondend],
+            &s[third..thirdend],
+        );
         t = counted(t, good);
         at = line.next;
     }
@@ -172,7 +184,7 @@ fn run(path: &[u8], strip: bool) {
     let mut buffer = [0u8; 131072];
     let n = io::read_full(file, &mut buffer);
     libc::close(file);
-    say(tally(&buffer[..n], strip));
+    say(compare(&buffer[..n], strip));
 }
 
 fn main() {
