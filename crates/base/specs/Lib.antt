@@ -1,2 +1,3 @@
 pub mod Choose
+pub mod Tests
 pub mod Bytes
