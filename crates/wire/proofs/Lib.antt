@@ -1,0 +1,3 @@
+pub mod VarintLaws
+pub mod StepLaws
+pub mod RecordsLaws

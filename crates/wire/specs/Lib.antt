@@ -1,0 +1,4 @@
+pub mod Varint
+pub mod Step
+pub mod Records
+
