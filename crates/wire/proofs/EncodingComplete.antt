@@ -1,28 +1,26 @@
 -- What the bytes encode is read. Assumes nothing.
-use mathlib.Core.Path.{_≡_, refl, sym, ap, _∙_, subst}
+use mathlib.Core.Path.{_≡_, refl, sym, ap, _∙_}
 use mathlib.Core.List.{List, [], _∷_, _++_, append-assoc}
-use mathlib.Core.Option.{Option, none, some}
+use mathlib.Core.Option.{some}
 use Prim.Native.Nat.{ℕ, zero, suc, _+_, _*_, _-_, _/_, _%_, _^_, _<_, _≤_}
-use native.Mathlib.Numerals.{add-one, sub-one}
+use native.Mathlib.Numerals.{sub-one}
 use native.Mathlib.Omega.{arith}
 use lib.ListN.{length, getD, take, drop, length-drop, length-append}
-use lib.Seq.{drop-cons, drop-drop, drop-at, take-at, getD-drop}
+use lib.Seq.{drop-drop, drop-at, take-at, getD-drop}
 use borrow.Author.Tests.{ne-eqb, lt-leb, le-leb}
 use Rattle.base.specs.Choose.{choose, choices}
 use Rattle.wire.specs.Varint.{varint, groups, onVarint, cap}
 use Rattle.wire.specs.Step.{stepAt, payload, sized}
 use Rattle.wire.specs.Records.{records}
-use Rattle.wire.specs.Encoding.{Base128, EncodesVarint, EncodesBytes, EncodesField, EncodesValue, Encodes, Value, VARINT, I64, LEN, I32, Field, wire-type, little-endian}
+use Rattle.wire.specs.Encoding.{Base128, EncodesVarint, EncodesField, EncodesValue, Encodes, Value, VARINT, I64, LEN, I32, Field, wire-type, little-endian}
 use Rattle.wire.specs.Encoding.Base128.{last, more}
 use Rattle.wire.specs.Encoding.Encodes.{none as no-fields, more as more-fields}
-use Rattle.wire.specs.Contents.{value-of, field-of, fields-of, also, contents, payload-of}
+use Rattle.wire.specs.Contents.{value-of, field-of, fields-of, contents}
 use Rattle.wire.proofs.VarintLaws.{tenth, final, goes-value}
 use Rattle.wire.proofs.RecordsLaws.{records-end, records-found}
-use Rattle.wire.specs.declared.Varint.{Varint}
-use Rattle.wire.specs.declared.Varint.the-variants.{Fault as NoVarint, Value as Is}
+use Rattle.wire.specs.declared.Varint.the-variants.{Value as Is}
 use Rattle.wire.specs.declared.Record.{Record}
-use Rattle.wire.specs.declared.Step.{Step}
-use Rattle.wire.specs.declared.Step.the-variants.{End, Fault, Found}
+use Rattle.wire.specs.declared.Step.the-variants.{End, Found}
 
 module _ (s : List ℕ) where
   -- these bytes stand from at on: so many are left

@@ -1,20 +1,19 @@
 -- What is read encodes these fields. Assumes nothing.
 use mathlib.Core.Path.{_≡_, refl, sym, ap, _∙_, subst}
-use mathlib.Core.Bool.{true, false}
 use mathlib.Core.List.{List, [], _∷_, _++_, append-assoc}
 use mathlib.Core.Option.{Option, none, some}
-use Prim.Native.Nat.{ℕ, zero, suc, _+_, _*_, _-_, _/_, _%_, _^_, _<_, _≤_}
+use Prim.Native.Nat.{ℕ, zero, suc, _+_, _*_, _-_, _/_, _%_, _<_, _≤_}
 use native.Mathlib.Numerals.{add-one}
 use native.Mathlib.Omega.{arith}
 use lib.ListN.{length, getD, take, drop, take-append-drop, length-drop, drop-of-length-le}
 use lib.Seq.{drop-cons, drop-drop, length-take-le}
 use lib.Dec.{ltb, leb, eqb}
 use borrow.Author.Tests.{ltb-true, ltb-false, leb-true, leb-false, eqb-true, eqb-false}
-use Rattle.base.specs.Choose.{choose, choose-case, choices}
+use Rattle.base.specs.Choose.{choose, choose-case}
 use Rattle.wire.specs.Varint.{varint, groups, onVarint, below, last, cap}
 use Rattle.wire.specs.Step.{stepAt, payload, sized, scalar, delimited, keyed}
-use Rattle.wire.specs.Records.{onStep, scan, records, part}
-use Rattle.wire.specs.Encoding.{Base128, EncodesVarint, EncodesBytes, EncodesField, EncodesValue, Encodes, Value, VARINT, I64, LEN, I32, Field, wire-type, little-endian, Bytes}
+use Rattle.wire.specs.Records.{onStep, scan, records}
+use Rattle.wire.specs.Encoding.{Base128, EncodesVarint, EncodesField, EncodesValue, Encodes, Value, VARINT, I64, LEN, I32, Field, wire-type, little-endian, Bytes}
 use Rattle.wire.specs.Encoding.Base128.{last as last-group, more as more-groups}
 use Rattle.wire.specs.Encoding.Encodes.{none as no-fields, more as more-fields}
 use Rattle.wire.proofs.StepLaws.{Lies, lies}

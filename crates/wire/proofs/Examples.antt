@@ -1,7 +1,7 @@
 -- Worked examples of the encoding's document, by computation. Assumes nothing.
 use mathlib.Core.Path.{_≡_, refl}
 use mathlib.Core.List.{List, [], _∷_}
-use mathlib.Core.Option.{Option, none, some}
+use mathlib.Core.Option.{none, some}
 use Prim.Native.Nat.{ℕ, _-_, _^_}
 use Rattle.base.specs.Bytes.{b}
 use Rattle.base.specs.Choose.{choose}
@@ -10,7 +10,6 @@ use Rattle.wire.specs.Step.{stepAt, payload}
 use Rattle.wire.specs.Records.{records, scan, onStep}
 use Rattle.wire.specs.Encoding.{Value, VARINT, I64, LEN, I32, Field, little-endian}
 use Rattle.wire.specs.Contents.{value-of, field-of, fields-of, contents}
-use Rattle.wire.specs.declared.Varint.{Varint}
 use Rattle.wire.specs.declared.Varint.the-variants.{Fault, Value as Is}
 
 abbrev field : ℕ → Value → Field

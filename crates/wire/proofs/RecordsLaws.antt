@@ -25,7 +25,7 @@ unfolding scan onStep
 none-past zero s at h = refl
 none-past (suc m) s at h = rw (past s at h)
 
--- a field, and what follows it read with one fuel or another
+-- a record, and what follows it read with one fuel or another
 same-step : (n m : ℕ) (s : List ℕ) (at : ℕ)
     → ((f : Record) → Lies (length s) at f → scan n s (f .next) ≡ scan m s (f .next))
     → (r : Step) → r ≡ stepAt s at
@@ -78,7 +78,7 @@ module _ {ℓ κ} {A : Type ℓ} {S : Type κ} (body : Record → S → (S → A
 
 pub ruleset passes = (over-end, over-fault, over-found)
 
--- what a field's place gives a loop that goes on at its end
+-- what a record's place gives a loop that goes on at its end
 module _ (s : List ℕ) (at : ℕ) (r : Step) (f : Record) (e : r ≡ stepAt s at) (is : r ≡ Found f) where
   pub closer : length s - f .next < length s - at
   closer = let l : Lies (length s) at f = lies s at r f e is in omega arith
@@ -124,7 +124,7 @@ pub ruleset rooms = (fault-room, key-room, start-room, part-room)
 pub length-part : (s : List ℕ) (a e : ℕ) → e ≤ length s → length (part s a (e - a)) ≡ e - a
 length-part s a e l = length-take-le (e - a) (drop a s) (rw (length-drop a s) (omega arith))
 
--- Where a field of a message of n bytes lies.
+-- Where a record of a message of n bytes lies.
 pub record In (n : ℕ) (f : Record) : Type 0 where
   pub from : f .start ≤ f .next
   pub to : f .next ≤ n
@@ -147,7 +147,7 @@ unfolding scan
 scan-in zero s at = tt
 scan-in (suc n) s at = step-in s at (λ f. scan n s (f .next)) (λ f. scan-in n s (f .next)) (stepAt s at) refl
 
--- What holds at the end and at a fault, and at a field where it holds of going on, holds of a pass.
+-- What holds at the end and at a fault, and at a record where it holds of going on, holds of a pass.
 module _ {ℓ κ ι} {A : Type ℓ} {S : Type κ} (P : A → Type ι) (body : Record → S → (S → A) → A) (fault : ℕ → S → A) (done : S → A) (n : ℕ)
     (at-end : (x : S) → P (done x)) (at-fault : (key : ℕ) (x : S) → P (fault key x))
     (at-found : (f : Record) → In n f → (x : S) (go-on : S → A) → ((y : S) → P (go-on y)) → P (body f x go-on)) where

@@ -1,21 +1,14 @@
--- Where a field lies, and a pass one field on. Assumes nothing.
-use mathlib.Core.Path.{_≡_, refl, sym, ap, _∙_, subst}
-use mathlib.Core.Bool.{Bool, true, false}
-use mathlib.Core.List.{List, [], _∷_}
-use Prim.Native.Nat.{ℕ, zero, suc, _+_, _*_, _-_, _/_, _%_, _^_, _<_, _≤_}
+-- Where a record lies. Assumes nothing.
+use mathlib.Core.Path.{_≡_, refl}
+use mathlib.Core.List.{List}
+use Prim.Native.Nat.{ℕ, _-_, _/_, _%_, _<_, _≤_}
 use native.Mathlib.Omega.{arith}
-use native.Mathlib.Nat.{min-le-left}
-use mir.Syntax.{w64}
-use mir.Val.{Fits}
-use lib.ListN.{length, getD, drop, length-take, length-drop, drop-of-length-le}
-use lib.Seq.{length-take-le, drop-cons}
-use native.Mathlib.Numerals.{add-one}
-use lib.Dec.{ltb, leb, eqb}
+use lib.ListN.{length}
+use lib.Dec.{leb, eqb}
 use borrow.Author.Tests.{leb-true, leb-false}
-use Rattle.base.specs.Choose.{choose, choose-case, choices}
+use Rattle.base.specs.Choose.{choose-case}
 use Rattle.wire.specs.Varint.{varint, onVarint}
 use Rattle.wire.specs.Step.{stepAt, payload, sized, scalar, delimited}
-use Rattle.wire.specs.Records.{onStep, scan, records, pass, over, part}
 use Rattle.wire.proofs.VarintLaws.{Known, known-varint}
 use Rattle.wire.specs.declared.Varint.{Varint}
 use Rattle.wire.specs.declared.Varint.the-variants.{Fault as NoVarint, Value}
@@ -23,7 +16,7 @@ use Rattle.wire.specs.declared.Record.{Record}
 use Rattle.wire.specs.declared.Step.{Step}
 use Rattle.wire.specs.declared.Step.the-variants.{End, Fault, Found}
 
--- a field read at position at of n bytes
+-- a record read at position at of n bytes
 pub record Lies (n at : ℕ) (f : Record) : Type 0 where
   pub key : f .key ≡ at
   pub after : at < f .start

@@ -1,15 +1,12 @@
--- One step of `groups`, case by case, and what a groups is bounded by. Assumes nothing.
-use mathlib.Core.Path.{_≡_, refl, sym, ap, _∙_, subst}
-use mathlib.Core.Bool.{true, false}
+-- One step of `groups`, case by case, and what a varint is bounded by. Assumes nothing.
+use mathlib.Core.Path.{_≡_, refl}
 use mathlib.Core.List.{List}
 use Prim.Native.Nat.{ℕ, zero, suc, _+_, _*_, _-_, _%_, _^_, _<_, _≤_}
 use native.Mathlib.Numerals.{sub-one}
 use native.Mathlib.Omega.{arith}
-use mir.Syntax.{w64}
-use mir.Val.{Fits}
 use lib.ListN.{length, getD}
 use lib.Dec.{ltb, leb, eqb}
-use borrow.Author.Tests.{ltb-true, ltb-false, leb-false, eqb-true, eqb-false, le-ltb, lt-ltb, le-leb, lt-leb, eq-eqb, ne-eqb}
+use borrow.Author.Tests.{ltb-true, leb-false}
 use Rattle.base.specs.Choose.{choose, choose-case, choices}
 use Rattle.wire.specs.Varint.{groups, varint, below, onVarint, last, cap}
 use Rattle.wire.specs.declared.Varint.{Varint}
@@ -51,7 +48,7 @@ module _ (left : ℕ) (s : List ℕ) (at : ℕ) (ne : left ≡ 0 → ⊥) where
     unfolding onVarint
     goes-value r v next big e is = rw is at (goes-on r big e)
 
--- what is known of a groups at position at, of at most left bytes
+-- what is known of a varint at position at, of at most left bytes
 abbrev pub Known : ℕ → List ℕ → ℕ → Varint → Type 0
 Known left s at Fault = Unit
 Known left s at (Value v next) = (v < cap left) × (at < next) × (next ≤ length s)

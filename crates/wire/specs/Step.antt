@@ -7,7 +7,6 @@ use lib.Dec.{leb, eqb}
 use Rattle.base.specs.Choose.{choose}
 use Rattle.wire.specs.Varint.{varint, onVarint}
 use Rattle.wire.specs.declared.Varint.{Varint}
-use Rattle.wire.specs.declared.Record.{Record}
 use Rattle.wire.specs.declared.Step.{Step}
 use Rattle.wire.specs.declared.Step.the-variants.{End, Fault, Found}
 

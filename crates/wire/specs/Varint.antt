@@ -1,6 +1,6 @@
 -- A varint at a position: groups of seven bits, the lowest first, each in a byte that is 128 or more where another follows.
 -- It takes at most ten bytes, and its value is below 2 ^ 64.
-use Prim.Native.Nat.{ℕ, zero, suc, _+_, _*_, _-_, _%_, _<_, _≤_}
+use Prim.Native.Nat.{ℕ, zero, suc, _+_, _*_, _%_}
 use mathlib.Core.Path.{_≡_}
 use mathlib.Core.List.{List}
 use lib.ListN.{length, getD}

@@ -23,7 +23,6 @@ abbrev read-groups-below : ℕ → In 1 read-groups-kinds.ps
 read-groups-below t =
     and 1 read-groups-kinds.ps (falls 1 read-groups-kinds.ps _<_ μ-read-groups t) read-groups.Pre
 
--- src/lib.rt:38:9
 read-groups-returns : (t : ℕ) → read-groups-lts.Need-returns (
   wide-reads.Asked,
   wide-reads.Learnt,
@@ -32,7 +31,6 @@ read-groups-returns : (t : ℕ) → read-groups-lts.Need-returns (
 ) (read-groups-at t) read-groups.Post
 read-groups-returns t c = search none
 
--- src/lib.rt:41:9
 read-groups-returns-2 : (t : ℕ) → read-groups-lts.Need-returns-2 (
   wide-reads.Asked,
   wide-reads.Learnt,
@@ -41,7 +39,6 @@ read-groups-returns-2 : (t : ℕ) → read-groups-lts.Need-returns-2 (
 ) (read-groups-at t) read-groups.Post
 read-groups-returns-2 t c = search past
 
--- src/lib.rt:43:18
 read-groups-shared-slice-read-wide : (t : ℕ) → read-groups-lts.Need-shared-slice-read-wide (
   wide-reads.Asked,
   wide-reads.Learnt,
@@ -50,7 +47,6 @@ read-groups-shared-slice-read-wide : (t : ℕ) → read-groups-lts.Need-shared-s
 ) (read-groups-at t) read-groups.Post
 read-groups-shared-slice-read-wide t c = search needs
 
--- src/lib.rt:43:9
 read-groups-wide-requires : (t : ℕ) → read-groups-lts.Need-wide-requires (
   wide-reads.Asked,
   wide-reads.Learnt,
@@ -59,7 +55,6 @@ read-groups-wide-requires : (t : ℕ) → read-groups-lts.Need-wide-requires (
 ) (read-groups-at t) read-groups.Post
 read-groups-wide-requires t c κs = search needs
 
--- src/lib.rt:47:27
 read-groups-add-end : (t : ℕ) → read-groups-lts.Need-add-end (
   wide-reads.Asked,
   wide-reads.Learnt,
@@ -68,7 +63,6 @@ read-groups-add-end : (t : ℕ) → read-groups-lts.Need-add-end (
 ) (read-groups-at t) read-groups.Post
 read-groups-add-end t c = search needs
 
--- src/lib.rt:48:17
 read-groups-returns-3 : (t : ℕ) → read-groups-lts.Need-returns-3 (
   wide-reads.Asked,
   wide-reads.Learnt,
@@ -77,7 +71,6 @@ read-groups-returns-3 : (t : ℕ) → read-groups-lts.Need-returns-3 (
 ) (read-groups-at t) read-groups.Post
 read-groups-returns-3 t c = search tenth
 
--- src/lib.rt:50:13
 read-groups-returns-4 : (t : ℕ) → read-groups-lts.Need-returns-4 (
   wide-reads.Asked,
   wide-reads.Learnt,
@@ -86,7 +79,6 @@ read-groups-returns-4 : (t : ℕ) → read-groups-lts.Need-returns-4 (
 ) (read-groups-at t) read-groups.Post
 read-groups-returns-4 t c = search wrong-tenth
 
--- src/lib.rt:52:19
 read-groups-add-end-2 : (t : ℕ) → read-groups-lts.Need-add-end-2 (
   wide-reads.Asked,
   wide-reads.Learnt,
@@ -95,7 +87,6 @@ read-groups-add-end-2 : (t : ℕ) → read-groups-lts.Need-add-end-2 (
 ) (read-groups-at t) read-groups.Post
 read-groups-add-end-2 t c = search needs
 
--- src/lib.rt:53:9
 read-groups-returns-5 : (t : ℕ) → read-groups-lts.Need-returns-5 (
   wide-reads.Asked,
   wide-reads.Learnt,
@@ -104,7 +95,6 @@ read-groups-returns-5 : (t : ℕ) → read-groups-lts.Need-returns-5 (
 ) (read-groups-at t) read-groups.Post
 read-groups-returns-5 t c = search final
 
--- src/lib.rt:55:17
 read-groups-add-after : (t : ℕ) → read-groups-lts.Need-add-after (
   wide-reads.Asked,
   wide-reads.Learnt,
@@ -113,7 +103,6 @@ read-groups-add-after : (t : ℕ) → read-groups-lts.Need-add-after (
 ) (read-groups-at t) read-groups.Post
 read-groups-add-after t c = search needs
 
--- src/lib.rt:56:17
 read-groups-sub-fewer : (t : ℕ) → read-groups-lts.Need-sub-fewer (
   wide-reads.Asked,
   wide-reads.Learnt,
@@ -122,7 +111,6 @@ read-groups-sub-fewer : (t : ℕ) → read-groups-lts.Need-sub-fewer (
 ) (read-groups-at t) read-groups.Post
 read-groups-sub-fewer t c = search needs
 
--- src/lib.rt:57:11
 read-groups-read-groups-requires : (t : ℕ) → read-groups-lts.Need-read-groups-requires (
   wide-reads.Asked,
   wide-reads.Learnt,
@@ -131,7 +119,6 @@ read-groups-read-groups-requires : (t : ℕ) → read-groups-lts.Need-read-group
 ) (read-groups-at t) read-groups.Post
 read-groups-read-groups-requires t c κs = (omega arith, search cap-less)
 
--- src/lib.rt:58:24
 read-groups-enum-told : (t : ℕ) → read-groups-lts.Need-enum-told (
   wide-reads.Asked,
   wide-reads.Learnt,
@@ -140,7 +127,6 @@ read-groups-enum-told : (t : ℕ) → read-groups-lts.Need-enum-told (
 ) (read-groups-at t) read-groups.Post
 read-groups-enum-told t c = search needs
 
--- src/lib.rt:59:20
 read-groups-enum-known-v : (t : ℕ) → read-groups-lts.Need-enum-known-v (
   wide-reads.Asked,
   wide-reads.Learnt,
@@ -149,7 +135,6 @@ read-groups-enum-known-v : (t : ℕ) → read-groups-lts.Need-enum-known-v (
 ) (read-groups-at t) read-groups.Post
 read-groups-enum-known-v t c = search needs
 
--- src/lib.rt:60:24
 read-groups-mul-high : (t : ℕ) → read-groups-lts.Need-mul-high (
   wide-reads.Asked,
   wide-reads.Learnt,
@@ -158,7 +143,6 @@ read-groups-mul-high : (t : ℕ) → read-groups-lts.Need-mul-high (
 ) (read-groups-at t) read-groups.Post
 read-groups-mul-high t c = record { fits = lt-of-le-of-lt (le-add-right _ 127) (search room) }
 
--- src/lib.rt:62:25
 read-groups-add-value : (t : ℕ) → read-groups-lts.Need-add-value (
   wide-reads.Asked,
   wide-reads.Learnt,
@@ -169,7 +153,6 @@ read-groups-add-value t c =
     let l : c .before .v .given .0 .0 * 128 + 127 < 2 ^ 64 = search room in
     omega arith
 
--- src/lib.rt:33:1
 read-groups-returns-6 : (t : ℕ) → read-groups-lts.Need-returns-6 (
   wide-reads.Asked,
   wide-reads.Learnt,
@@ -178,7 +161,6 @@ read-groups-returns-6 : (t : ℕ) → read-groups-lts.Need-returns-6 (
 ) (read-groups-at t) read-groups.Post
 read-groups-returns-6 t c = search goes-fault
 
--- src/lib.rt:33:1
 read-groups-returns-7 : (t : ℕ) → read-groups-lts.Need-returns-7 (
   wide-reads.Asked,
   wide-reads.Learnt,

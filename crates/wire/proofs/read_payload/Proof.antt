@@ -5,83 +5,62 @@ use Rattle.wire.specs.Step.{payload}
 use borrow.Author.Needs.{needs}
 use Rattle.wire.proofs.read_payload.Statement.{statement}
 use Rattle.wire.proofs.read_payload.Tie as tie
-use Rattle.wire.proofs.read_payload.Reads as reads
-use Rattle.wire.proofs.read_payload.Lts as lts
-use Rattle.wire.proofs.read_varint.Reads as read-varint-reads
-use Rattle.wire.proofs.read_sized.Reads as read-sized-reads
 
--- src/lib.rt:93:9
 returns : tie.Need-returns
 unfolding payload
 returns c = search (choices, on-varint) depth 12
 
--- src/lib.rt:96:22
 read-varint-requires : tie.Need-read-varint-requires
 read-varint-requires c κs = search needs
 
--- src/lib.rt:97:28
 enum-told : tie.Need-enum-told
 enum-told c = search needs
 
--- src/lib.rt:98:24
 enum-known-value : tie.Need-enum-known-value
 enum-known-value c = search needs
 
--- src/lib.rt:96:9
 returns-2 : tie.Need-returns-2
 unfolding payload
 returns-2 c = search (choices, on-varint) depth 12
 
--- src/lib.rt:96:9
 returns-3 : tie.Need-returns-3
 unfolding payload
 returns-3 c = search (choices, on-varint) depth 12
 
--- src/lib.rt:102:9
 read-sized-requires : tie.Need-read-sized-requires
 read-sized-requires c κs = search needs
 
--- src/lib.rt:102:9
 returns-4 : tie.Need-returns-4
 unfolding payload
 returns-4 c = search (choices, on-varint) depth 12
 
--- src/lib.rt:105:22
 read-varint-requires-2 : tie.Need-read-varint-requires-2
 read-varint-requires-2 c κs = search needs
 
--- src/lib.rt:106:28
 enum-told-2 : tie.Need-enum-told-2
 enum-told-2 c = search needs
 
--- src/lib.rt:107:24
 enum-known-len : tie.Need-enum-known-len
 enum-known-len c = search needs
 
--- src/lib.rt:107:38
 read-sized-requires-2 : tie.Need-read-sized-requires-2
 read-sized-requires-2 c κs = search in-part
 
--- src/lib.rt:105:9
 returns-5 : tie.Need-returns-5
 unfolding payload
 returns-5 c = search (choices, on-varint) depth 12
 
--- src/lib.rt:105:9
 returns-6 : tie.Need-returns-6
 unfolding payload
 returns-6 c = search (choices, on-varint) depth 12
 
--- src/lib.rt:111:9
 read-sized-requires-3 : tie.Need-read-sized-requires-3
 read-sized-requires-3 c κs = search needs
 
--- src/lib.rt:111:9
 returns-7 : tie.Need-returns-7
 unfolding payload
 returns-7 c = search (choices, on-varint) depth 12
 
--- src/lib.rt:88:1
 returns-8 : tie.Need-returns-8
 unfolding payload
 returns-8 c = search (choices, on-varint) depth 12

@@ -5,38 +5,27 @@ use Rattle.wire.specs.Step.{stepAt}
 use borrow.Author.Needs.{needs}
 use Rattle.wire.proofs.read_step.Statement.{statement}
 use Rattle.wire.proofs.read_step.Tie as tie
-use Rattle.wire.proofs.read_step.Reads as reads
-use Rattle.wire.proofs.read_step.Lts as lts
-use Rattle.wire.proofs.read_payload.Reads as read-payload-reads
-use Rattle.wire.proofs.read_varint.Reads as read-varint-reads
 
--- src/lib.rt:121:9
 returns : tie.Need-returns
 unfolding stepAt
 returns c = search (choices, on-varint) depth 12
 
--- src/lib.rt:123:11
 read-varint-requires : tie.Need-read-varint-requires
 read-varint-requires c κs = search needs
 
--- src/lib.rt:124:24
 enum-told : tie.Need-enum-told
 enum-told c = search needs
 
--- src/lib.rt:125:20
 enum-known-key : tie.Need-enum-known-key
 enum-known-key c = search needs
 
--- src/lib.rt:128:13
 read-payload-requires : tie.Need-read-payload-requires
 read-payload-requires c κs = search in-part
 
--- src/lib.rt:117:1
 returns-2 : tie.Need-returns-2
 unfolding stepAt
 returns-2 c = search (choices, on-varint) depth 12
 
--- src/lib.rt:117:1
 returns-3 : tie.Need-returns-3
 unfolding stepAt
 returns-3 c = search (choices, on-varint) depth 12
