@@ -1,3 +1,4 @@
 pub mod Choose
 pub mod Tests
 pub mod Bytes
+pub mod Given
