@@ -5,6 +5,7 @@ declaration), then the options, then the order and padding of the records.
 """
 
 import random
+import re
 
 from model import (
     BYTES, ENUM, GROUP, MAP_KEYS, MESSAGE, OPTIONAL, REPEATED, REQUIRED, SCALARS, SINT32, STRING,
@@ -24,7 +25,7 @@ SIZES = [
 WRAPPERS = """BoolValue BytesValue DoubleValue Empty FloatValue Int32Value Int64Value StringValue
 UInt32Value UInt64Value""".split()
 WELL_KNOWN = WRAPPERS + ["Timestamp", "Any", "NullValue"]
-SET_LIMIT, FULL_NAME_LIMIT, MESSAGE_LIMIT, FIELD_LIMIT = 32768, 255, 256, 2048
+SET_LIMIT, FULL_NAME_LIMIT, NESTING_LIMIT, MESSAGE_LIMIT, FIELD_LIMIT = 32768, 255, 16, 256, 2048
 
 
 class Order(Plain):
@@ -283,7 +284,8 @@ class Draw:
     def map_field(self, full_name, message, file, field):
         """Makes the field a map field, its entry declared in the message."""
         rng = self.rng
-        if self.all_messages >= MESSAGE_LIMIT - 1:
+        outside = 0 if file.package is None else file.package.count(".") + 1
+        if self.all_messages >= MESSAGE_LIMIT - 1 or full_name.count(".") - outside >= NESTING_LIMIT:
             return False
         wanted = "".join(word.capitalize() for word in field.name.split("_"))[:50] + "Entry"
         if wanted[0].isdigit():
@@ -344,7 +346,9 @@ class Draw:
             elif pick == 3:
                 found += rng.choice(("\u00e9", "\u20ac", "\U0001f680", "8", "\x7f", "\"")).encode()
             else:
-                found += bytes([rng.choice(b"aZ 09'x~")])
+                # No digit that would make a shorter octal escape longer, and above 255.
+                octal_before = re.search(rb"\\[0-7]{1,2}\Z", found)
+                found += bytes([rng.choice(b"aZ 89'x~" if octal_before else b"aZ 09'x~")])
         if self.unescapable and rng.random() < 0.3:
             found += rng.choice(wrong)
         return found

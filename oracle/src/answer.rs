@@ -20,8 +20,12 @@ pub fn decode(set: &[u8]) -> Option<FileDescriptorSet> {
     Some(set)
 }
 
+/// Document 01's longest text.
+const TEXT_LIMIT: usize = 65_536;
+
 /// `//@ ` line and text of each file. Where that ends early, the last line says why: `undecodable`,
-/// `options` (layout), `extern` (extern paths), or `panicked` in place of a file's `//@ ` line.
+/// `options` (layout), `extern` (extern paths), and in place of a file's `//@ ` line `panicked`, or
+/// `refused 10 LENGTH` for a text that is too long.
 pub fn answer(set: &[u8], options: &[u8]) -> String {
     let Some(mut config) = Config::read(options) else {
         return "options\n".to_string();
@@ -43,6 +47,10 @@ pub fn answer(set: &[u8], options: &[u8]) -> String {
         let generate = || CodeGenerator::generate(&mut context, file, &mut text);
         if catch_unwind(AssertUnwindSafe(generate)).is_err() {
             output.push_str("panicked\n");
+            return output;
+        }
+        if text.len() > TEXT_LIMIT {
+            output.push_str(&format!("refused 10 {}\n", text.len()));
             return output;
         }
         output.push_str(&format!("//@ {package}\n{text}"));
