@@ -169,5 +169,5 @@ def limit_cases():
         yield set_bytes, NO_OPTIONS
     for each in limit_options():
         yield STICK, each
-    for length in (65535, 65536, 65537):
+    for length in (65536, 65537):
         yield text_of(length)
