@@ -22,10 +22,16 @@ const CODE_GENERATOR: [&str; 3] = [
 
 fn main() {
     println!("cargo:rerun-if-env-changed=PROST_BUILD_SRC");
-    let given = env::var_os("PROST_BUILD_SRC").map(PathBuf::from).unwrap_or_else(|| {
-        Path::new(&env::var_os("CARGO_MANIFEST_DIR").unwrap()).join("../../shared/docs/src")
-    });
-    let source = if given.join("src").is_dir() { given.join("src") } else { given };
+    let given = env::var_os("PROST_BUILD_SRC")
+        .map(PathBuf::from)
+        .unwrap_or_else(|| {
+            Path::new(&env::var_os("CARGO_MANIFEST_DIR").unwrap()).join("../../shared/docs/src")
+        });
+    let source = if given.join("src").is_dir() {
+        given.join("src")
+    } else {
+        given
+    };
     let out = PathBuf::from(env::var_os("OUT_DIR").unwrap());
     let generator = out.join("generator");
     fs::create_dir_all(&generator).unwrap();
@@ -38,7 +44,10 @@ fn main() {
     for file in CODE_GENERATOR {
         bring(&source.join(file), &generator);
     }
-    modules.push_str(&declare("code_generator", &generator.join("code_generator.rs")));
+    modules.push_str(&declare(
+        "code_generator",
+        &generator.join("code_generator.rs"),
+    ));
     fs::write(out.join("modules.rs"), modules).unwrap();
     // c_escaping.rs once more, under a parent of ours, since code_generator.rs keeps it private.
     fs::write(
@@ -51,13 +60,20 @@ fn main() {
 /// Copies a file byte for byte into the folder.
 fn bring(file: &Path, folder: &Path) -> PathBuf {
     println!("cargo:rerun-if-changed={}", file.display());
-    let bytes = fs::read(file)
-        .unwrap_or_else(|e| panic!("{}: {e} (set PROST_BUILD_SRC to the generator's folder)", file.display()));
+    let bytes = fs::read(file).unwrap_or_else(|e| {
+        panic!(
+            "{}: {e} (set PROST_BUILD_SRC to the generator's folder)",
+            file.display()
+        )
+    });
     let copy = folder.join(file.file_name().unwrap());
     fs::write(&copy, bytes).unwrap();
     copy
 }
 
 fn declare(module: &str, file: &Path) -> String {
-    format!("#[allow(dead_code)]\n#[path = {:?}]\nmod {module};\n", file.display().to_string())
+    format!(
+        "#[allow(dead_code)]\n#[path = {:?}]\nmod {module};\n",
+        file.display().to_string()
+    )
 }

@@ -27,7 +27,10 @@ def expected(set_bytes, options, answer):
         return answer, "refused 10"
     refused = [own for own in told if own]
     if refused and last == b"panicked":
-        return answer[: -len(b"panicked\n")] + b"refused %d %d\n" % refused[0], f"refused {refused[0][0]}"
+        return (
+            answer[: -len(b"panicked\n")] + b"refused %d %d\n" % refused[0],
+            f"refused {refused[0][0]}",
+        )
     if refused or last == b"panicked":
         raise Differs(f"told {told}, but the answer ends in {last[:60]!r}")
     return answer, "texts"

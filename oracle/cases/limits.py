@@ -1,7 +1,18 @@
 """Sets and options at each of document 01's limits and one past it."""
 
 from model import (
-    BOOL, BYTES, ENUM, MESSAGE, OPTIONAL, STRING, Enum, Field, File, Message, Value, encode,
+    BOOL,
+    BYTES,
+    ENUM,
+    MESSAGE,
+    OPTIONAL,
+    STRING,
+    Enum,
+    Field,
+    File,
+    Message,
+    Value,
+    encode,
 )
 from wire import NO_OPTIONS, key, options, part, varint
 
@@ -71,7 +82,15 @@ def names(length):
     long = "L" + "o" * (length - 2) + "g"
     yield encode([File("a", None, [Message(long)])])
     yield encode([File("a", None, [Message("M", [Field(long, 1, OPTIONAL, BOOL)])])])
-    yield encode([File("a", None, [Message("M", [Field("f", 1, OPTIONAL, BOOL, oneof_index=0)], oneofs=[long])])])
+    yield encode(
+        [
+            File(
+                "a",
+                None,
+                [Message("M", [Field("f", 1, OPTIONAL, BOOL, oneof_index=0)], oneofs=[long])],
+            )
+        ]
+    )
     yield encode([File("a", None, [], [Enum(long)])])
     yield encode([File("a", None, [], [Enum("E", [Value(long, 0)])])])
     for package in (long, "a." + long, long + ".a"):
@@ -85,7 +104,9 @@ def full_names(length):
     yield encode([File(".".join(segments), None, [Message(last)])])
     yield encode([File(".".join(segments), None, [], [Enum(last)])])
     # With an enclosing message, and where the name is missing and counts 0.
-    yield encode([File(".".join(segments[:2]), None, [Message(segments[2], nested=[Message(last)])])])
+    yield encode(
+        [File(".".join(segments[:2]), None, [Message(segments[2], nested=[Message(last)])])]
+    )
     yield encode([File(".".join(segments[:2]), None, [Message(segments[2], enums=[Enum(last)])])])
 
 
@@ -103,7 +124,9 @@ def text_of(length):
     count = (length - len(head) - 100) // len(line)
     attribute = length - len(head) - count * len(line) - 1
     found = [Field("a", 1, OPTIONAL, BOOL) for _ in range(count)]
-    return encode([File(None, "proto3", [Message("M", found)])]), options([(5, ".M", "#" * attribute)])
+    return encode([File(None, "proto3", [Message("M", found)])]), options(
+        [(5, ".M", "#" * attribute)]
+    )
 
 
 def chain(length, links):

@@ -8,8 +8,24 @@ import random
 import re
 
 from model import (
-    BYTES, ENUM, GROUP, MAP_KEYS, MESSAGE, OPTIONAL, REPEATED, REQUIRED, SCALARS, SINT32, STRING,
-    Enum, Field, File, Message, Plain, Value, encode,
+    BYTES,
+    ENUM,
+    GROUP,
+    MAP_KEYS,
+    MESSAGE,
+    OPTIONAL,
+    REPEATED,
+    REQUIRED,
+    SCALARS,
+    SINT32,
+    STRING,
+    Enum,
+    Field,
+    File,
+    Message,
+    Plain,
+    Value,
+    encode,
 )
 from names import bare, name
 from wire import key, number, options, part, varint
@@ -196,7 +212,11 @@ class Draw:
         for _ in range(5):
             found = name(self.rng, self.odd)
             if self.rng.random() < 0.6:
-                found = (enum.name.upper() + "_" + found)[:64] if self.rng.random() < 0.8 else enum.name + found
+                found = (
+                    (enum.name.upper() + "_" + found)[:64]
+                    if self.rng.random() < 0.8
+                    else enum.name + found
+                )
                 found = found[:64]
             forms = {bare(found)}
             if bare(found).startswith(bare(enum.name)):
@@ -217,7 +237,9 @@ class Draw:
     def fill(self, full_name, message, file):
         rng = self.rng
         for _ in range(rng.choice((0, 0, 0, 1, 1, 2))):
-            taken = [nested.name for nested in message.nested] + [enum.name for enum in message.enums]
+            taken = [nested.name for nested in message.nested] + [
+                enum.name for enum in message.enums
+            ]
             same = taken and rng.random() < 0.3
             message.oneofs.append(rng.choice(taken) if same else name(rng, self.odd))
         used = set()
@@ -285,7 +307,10 @@ class Draw:
         """Makes the field a map field, its entry declared in the message."""
         rng = self.rng
         outside = 0 if file.package is None else file.package.count(".") + 1
-        if self.all_messages >= MESSAGE_LIMIT - 1 or full_name.count(".") - outside >= NESTING_LIMIT:
+        if (
+            self.all_messages >= MESSAGE_LIMIT - 1
+            or full_name.count(".") - outside >= NESTING_LIMIT
+        ):
             return False
         wanted = "".join(word.capitalize() for word in field.name.split("_"))[:50] + "Entry"
         if wanted[0].isdigit():
@@ -318,13 +343,19 @@ class Draw:
         rng = self.rng
         if type_ == ENUM:
             values = [value.name for _, enum in self.enums for value in enum.values]
-            return rng.choice(values or ["X"]).encode() if rng.random() < 0.8 else name(rng, 1.0).encode()
+            return (
+                rng.choice(values or ["X"]).encode()
+                if rng.random() < 0.8
+                else name(rng, 1.0).encode()
+            )
         if type_ == BYTES:
             return self.bytes_default()
         if rng.random() < 0.5:
             usual = ("0", "1", "-1", "true", "false", "inf", "-inf", "nan", "1e-7", "0x1F", "")
             return rng.choice(usual).encode()
-        letters = list("ab \t\r\n'\"\\{}\x00\x1f~\x7f\x80\u00e9\u0301\u07ff\u0800\ud7ff\ue000\uffff\U00010000\U0010ffff")
+        letters = list(
+            "ab \t\r\n'\"\\{}\x00\x1f~\x7f\x80\u00e9\u0301\u07ff\u0800\ud7ff\ue000\uffff\U00010000\U0010ffff"
+        )
         found = "".join(rng.choice(letters) for _ in range(rng.choice((1, 3, 8, 60))))
         return found.encode()[:252].decode("utf-8", "ignore").encode()
 
@@ -342,9 +373,11 @@ class Draw:
                 found += b"\\" + octal.zfill(rng.randrange(1, 4)).encode()
             elif pick == 2:
                 digits = "%02x" % rng.randrange(256)
-                found += rng.choice((b"\\x", b"\\X")) + rng.choice((digits, digits.upper())).encode()
+                found += (
+                    rng.choice((b"\\x", b"\\X")) + rng.choice((digits, digits.upper())).encode()
+                )
             elif pick == 3:
-                found += rng.choice(("\u00e9", "\u20ac", "\U0001f680", "8", "\x7f", "\"")).encode()
+                found += rng.choice(("\u00e9", "\u20ac", "\U0001f680", "8", "\x7f", '"')).encode()
             else:
                 # No digit that would make a shorter octal escape longer, and above 255.
                 octal_before = re.search(rb"\\[0-7]{1,2}\Z", found)
@@ -359,7 +392,9 @@ class Draw:
     def cut_doubled_links(self, most=2000):
         found = {full_name: message for full_name, message, _ in self.messages}
         links = {
-            full_name: [f.type_name for f in message.fields if f.type == MESSAGE and f.label != REPEATED]
+            full_name: [
+                f.type_name for f in message.fields if f.type == MESSAGE and f.label != REPEATED
+            ]
             for full_name, message in found.items()
         }
         for full_name, message in found.items():  # map entries aren't among the links
@@ -442,7 +477,9 @@ class Draw:
         rng = self.rng
         pool = [full_name for full_name, _, _ in self.messages] + [each for each, _ in self.enums]
         if not pool or rng.random() < 0.1:
-            return rng.choice((".x", ".a", ".chair", ".a.b", ".a.b.c.d", ".google.protobuf.Timestamp"))
+            return rng.choice(
+                (".x", ".a", ".chair", ".a.b", ".a.b.c.d", ".google.protobuf.Timestamp")
+            )
         path = rng.choice(pool)
         segments = path[1:].split(".")
         if rng.random() < 0.5:
@@ -466,15 +503,37 @@ class Draw:
     def value(self, kind):
         rng = self.rng
         if kind == 1:
-            usual = ("crate::MyMod", "::ext", "::ext::Type", "super::self", "a::crate::B", "crate",
-                     "Box<u8>", "my-crate::x y", "HTTPServer::V1", "::", "::a::::b", "()", "_")
+            usual = (
+                "crate::MyMod",
+                "::ext",
+                "::ext::Type",
+                "super::self",
+                "a::crate::B",
+                "crate",
+                "Box<u8>",
+                "my-crate::x y",
+                "HTTPServer::V1",
+                "::",
+                "::a::::b",
+                "()",
+                "_",
+            )
             return rng.choice(usual)
         if kind == 10:
-            return rng.choice(("::prost", "crate::prost", "::my::Prost", "p", "\"quoted\\\""))
+            return rng.choice(("::prost", "crate::prost", "::my::Prost", "p", '"quoted\\"'))
         if kind == 12:
             return rng.choice(("::prost_types", "crate::WellKnown", "::prost::types", "T"))
-        usual = ("#[derive(Eq)]", "#[serde(rename = \"x\\y\")]", "#[cfg(feature = \"a\")]", "//@ -",
-                 "pub struct Fake;", " ", "}", "#[allow(dead_code)] /* { */", "~")
+        usual = (
+            "#[derive(Eq)]",
+            '#[serde(rename = "x\\y")]',
+            '#[cfg(feature = "a")]',
+            "//@ -",
+            "pub struct Fake;",
+            " ",
+            "}",
+            "#[allow(dead_code)] /* { */",
+            "~",
+        )
         return rng.choice(usual)
 
 

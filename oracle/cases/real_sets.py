@@ -27,7 +27,8 @@ SETTINGS = [
         (4, "Stage.top", ""),
         (9, ".chair", ""),
     ],
-    TYPES + [(4, ".", ""), (9, ".", ""), (3, "stop_at", ""), (2, "raw_report", ""), (2, ".value", "")],
+    TYPES
+    + [(4, ".", ""), (9, ".", ""), (3, "stop_at", ""), (2, "raw_report", ""), (2, ".value", "")],
 ]
 
 

@@ -12,8 +12,19 @@ from convert import camel, strip, unescapes
 NAME = re.compile(rb"[A-Za-z_][A-Za-z0-9_]*\Z")
 GROUP, MESSAGE, BYTES, ENUM = 10, 11, 12, 14
 KEY_TYPES = {3, 4, 5, 6, 7, 8, 9, 13, 15, 16, 17, 18}
-WRAPPERS = ["", ".BoolValue", ".BytesValue", ".DoubleValue", ".Empty", ".FloatValue", ".Int32Value",
-            ".Int64Value", ".StringValue", ".UInt32Value", ".UInt64Value"]
+WRAPPERS = [
+    "",
+    ".BoolValue",
+    ".BytesValue",
+    ".DoubleValue",
+    ".Empty",
+    ".FloatValue",
+    ".Int32Value",
+    ".Int64Value",
+    ".StringValue",
+    ".UInt32Value",
+    ".UInt64Value",
+]
 
 
 class Refused(Exception):
@@ -38,7 +49,9 @@ def read_options(data):
         head = whole[2 + 8 * row : 10 + 8 * row]
         if len(head) < 8:
             raise Refused(1, count)
-        kind, path_length, value_length, zero = (int.from_bytes(head[i : i + 2], "little") for i in (0, 2, 4, 6))
+        kind, path_length, value_length, zero = (
+            int.from_bytes(head[i : i + 2], "little") for i in (0, 2, 4, 6)
+        )
         has_path = kind in PATH_AND_VALUE | PATH_ONLY
         has_value = kind in PATH_AND_VALUE | VALUE_ONLY
         known = has_path or has_value or kind in NEITHER
@@ -50,7 +63,9 @@ def read_options(data):
         end = body + path_length + value_length
         if end <= len(whole):
             path, value = whole[body : body + path_length], whole[body + path_length : end]
-            if not all(0x21 <= c <= 0x7E for c in path) or not all(0x20 <= c <= 0x7E for c in value):
+            if not all(0x21 <= c <= 0x7E for c in path) or not all(
+                0x20 <= c <= 0x7E for c in value
+            ):
                 raise Refused(1, row)
             rows.append((kind, path.decode(), value.decode()))
         body = end
@@ -63,7 +78,13 @@ def extern_paths(rows):
     """All extern paths, those of prost types among them."""
     taken, faults = {}, []
     for row, (kind, path, _) in enumerate(rows):
-        listed = [path] if kind == 1 else [".google.protobuf" + each for each in WRAPPERS] if kind == 12 else []
+        listed = (
+            [path]
+            if kind == 1
+            else [".google.protobuf" + each for each in WRAPPERS]
+            if kind == 12
+            else []
+        )
         for each in listed:
             if each in taken or not each.startswith(".") or "" in each.split(".")[1:]:
                 faults.append(row)
@@ -83,15 +104,38 @@ def is_taken(paths, full_name):
 # Message to its known fields: number to (attribute, inner message or kind of value, repeated).
 KNOWN = {
     "set": {1: ("files", "file", True)},
-    "file": {2: ("package", "bytes", False), 4: ("messages", "message", True), 5: ("enums", "enum", True), 12: ("syntax", "bytes", False)},
-    "message": {1: ("name", "bytes", False), 2: ("fields", "field", True), 3: ("nested", "message", True),
-                4: ("enums", "enum", True), 7: ("options", "message options", False), 8: ("oneofs", "oneof", True)},
-    "field": {1: ("name", "bytes", False), 3: ("number", "int", False), 4: ("label", "int", False), 5: ("type", "int", False),
-              6: ("type_name", "bytes", False), 7: ("default", "bytes", False), 8: ("options", "field options", False),
-              9: ("oneof_index", "int", False), 17: ("proto3_optional", "bool", False)},
+    "file": {
+        2: ("package", "bytes", False),
+        4: ("messages", "message", True),
+        5: ("enums", "enum", True),
+        12: ("syntax", "bytes", False),
+    },
+    "message": {
+        1: ("name", "bytes", False),
+        2: ("fields", "field", True),
+        3: ("nested", "message", True),
+        4: ("enums", "enum", True),
+        7: ("options", "message options", False),
+        8: ("oneofs", "oneof", True),
+    },
+    "field": {
+        1: ("name", "bytes", False),
+        3: ("number", "int", False),
+        4: ("label", "int", False),
+        5: ("type", "int", False),
+        6: ("type_name", "bytes", False),
+        7: ("default", "bytes", False),
+        8: ("options", "field options", False),
+        9: ("oneof_index", "int", False),
+        17: ("proto3_optional", "bool", False),
+    },
     "oneof": {1: ("name", "bytes", False)},
     "enum": {1: ("name", "bytes", False), 2: ("values", "value", True)},
-    "value": {1: ("name", "bytes", False), 2: ("number", "int", False), 3: ("options", "value options", False)},
+    "value": {
+        1: ("name", "bytes", False),
+        2: ("number", "int", False),
+        3: ("options", "value options", False),
+    },
     "message options": {7: ("map_entry", "bool", False)},
     "field options": {2: ("packed", "bool", False), 3: ("deprecated", "bool", False)},
     "value options": {1: ("deprecated", "bool", False)},
@@ -137,7 +181,11 @@ def read(data, at, end, kind, level=0):
             value, at = read_varint(data, at, end, key_at)
             start = at
         else:
-            length, at = (read_varint(data, at, end, key_at) if wire_type == 2 else (8 if wire_type == 1 else 4, at))
+            length, at = (
+                read_varint(data, at, end, key_at)
+                if wire_type == 2
+                else (8 if wire_type == 1 else 4, at)
+            )
             start, at = at, at + length
             if at > end:
                 raise Refused(3, key_at)
@@ -199,7 +247,9 @@ def declare(found, at, scope, message, parent):
 def limits(files, found):
     """Refusal 4, but for limit 1."""
     fields = [field for _, _, message, _ in found.messages for field in message.fields]
-    names = [part.name for _, _, part, _ in found.messages + found.enums] + [field.name for field in fields]
+    names = [part.name for _, _, part, _ in found.messages + found.enums] + [
+        field.name for field in fields
+    ]
     names += [oneof.name for _, _, message, _ in found.messages for oneof in message.oneofs]
     names += [value.name for _, _, enum, _ in found.enums for value in enum.values]
     names += [segment for file in files for segment in (file.package or b"").split(b".")]
@@ -261,7 +311,11 @@ def entry_fault(entry, full_name, parent, all_fields):
     if (value.name, value.number, value.label) != (b"value", 2, 1) or value.type == GROUP:
         return True
     naming = [field for field in all_fields if field.type_name == full_name]
-    fitting = [field for field in parent.fields if field.type_name == full_name and field.type == MESSAGE and field.label == 3]
+    fitting = [
+        field
+        for field in parent.fields
+        if field.type_name == full_name and field.type == MESSAGE and field.label == 3
+    ]
     return not fitting or len(naming) != len(fitting)
 
 
@@ -283,7 +337,9 @@ def names(files, found):
         if is_entry(message) and entry_fault(message, full_name, parent, all_fields):
             faults.add(at)
     for at, _, enum, _ in found.enums:
-        if not is_name(enum.name) or not all(is_name(v.name) and v.number is not None for v in enum.values):
+        if not is_name(enum.name) or not all(
+            is_name(v.name) and v.number is not None for v in enum.values
+        ):
             faults.add(at)
     if faults:
         raise Refused(6, min(faults))
@@ -335,7 +391,12 @@ def unescapable(found, at, paths):
             continue
         for field in message.fields:
             plain = field.oneof_index is None or field.proto3_optional
-            if plain and field.type == BYTES and field.default is not None and not unescapes(field.default):
+            if (
+                plain
+                and field.type == BYTES
+                and field.default is not None
+                and not unescapes(field.default)
+            ):
                 return True
     return False
 
@@ -363,6 +424,12 @@ def refusals(set_bytes, options):
     strips = all(kind != 11 for kind, _, _ in rows)
     each = []
     for at in range(len(files)):
-        own = (8, 0) if overlap(found, at, paths, strips) else (9, 0) if unescapable(found, at, paths) else None
+        own = (
+            (8, 0)
+            if overlap(found, at, paths, strips)
+            else (9, 0)
+            if unescapable(found, at, paths)
+            else None
+        )
         each.append(own)
     return each

@@ -63,7 +63,11 @@ impl Config {
 
     /// Reads an options file. Its layout is judged only as far as reading needs it.
     pub fn read(options: &[u8]) -> Option<Config> {
-        let number = |at: usize| Some(u16::from_le_bytes(options.get(at..at + 2)?.try_into().ok()?));
+        let number = |at: usize| {
+            Some(u16::from_le_bytes(
+                options.get(at..at + 2)?.try_into().ok()?,
+            ))
+        };
         let rows = usize::from(number(0)?);
         if rows > 64 {
             return None;

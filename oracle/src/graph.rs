@@ -17,10 +17,17 @@ pub fn graph(set: &[u8], options: &[u8]) -> Option<String> {
     let mut config = Config::read(options)?;
     let extern_paths = config.extern_paths().ok()?;
     let links = MessageGraph::new(set.file.iter());
-    let context = Context::new(&mut config, MessageGraph::new(set.file.iter()), extern_paths);
+    let context = Context::new(
+        &mut config,
+        MessageGraph::new(set.file.iter()),
+        extern_paths,
+    );
     let mut output = String::new();
     for file in &set.file {
-        let scope = file.package.as_ref().map_or(String::new(), |package| format!(".{package}"));
+        let scope = file
+            .package
+            .as_ref()
+            .map_or(String::new(), |package| format!(".{package}"));
         for message in &file.message_type {
             describe(&links, &context, &scope, message, &mut output);
         }

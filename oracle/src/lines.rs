@@ -17,7 +17,10 @@ fn unhex(line: &str) -> Option<Vec<u8>> {
     if !line.is_ascii() || line.len() % 2 != 0 {
         return None;
     }
-    (0..line.len()).step_by(2).map(|at| u8::from_str_radix(&line[at..at + 2], 16).ok()).collect()
+    (0..line.len())
+        .step_by(2)
+        .map(|at| u8::from_str_radix(&line[at..at + 2], 16).ok())
+        .collect()
 }
 
 /// A name: its snake and camel names. `prefix<TAB>name`: what `strip_enum_prefix` leaves of it.
@@ -42,7 +45,11 @@ pub fn unescape(line: &str) -> String {
 /// Hex of a UTF-8 text: its `str::escape_default`.
 /// `b` and hex of bytes: these as code_generator.rs writes the bytes of a default.
 pub fn escape(line: &str) -> String {
-    if let Some(bytes) = line.strip_prefix('b').filter(|rest| rest.len() % 2 == 0).and_then(unhex) {
+    if let Some(bytes) = line
+        .strip_prefix('b')
+        .filter(|rest| rest.len() % 2 == 0)
+        .and_then(unhex)
+    {
         return bytes
             .into_iter()
             .flat_map(std::ascii::escape_default)
@@ -63,9 +70,18 @@ pub fn paths(line: &str) -> String {
     for (index, row) in words.enumerate() {
         map.insert(row.to_string(), index);
     }
-    let best = map.get_first(path).map_or("-".to_string(), |index| index.to_string());
+    let best = map
+        .get_first(path)
+        .map_or("-".to_string(), |index| index.to_string());
     let all: Vec<String> = map.get(path).map(|index| index.to_string()).collect();
-    format!("{best} {}", if all.is_empty() { "-".to_string() } else { all.join(",") })
+    format!(
+        "{best} {}",
+        if all.is_empty() {
+            "-".to_string()
+        } else {
+            all.join(",")
+        }
+    )
 }
 
 /// `identifier<TAB>prost path<TAB>prost types' path (or `-`)<TAB>path=value<TAB>..`: what the

@@ -35,7 +35,11 @@ pub fn read_case(from: &mut impl Read) -> io::Result<Option<Case>> {
         from.read_exact(&mut bytes)?;
         io::Result::Ok(bytes)
     };
-    Ok(Some(Case { set: part(0)?, options: part(4)?, output: part(8)? }))
+    Ok(Some(Case {
+        set: part(0)?,
+        options: part(4)?,
+        output: part(8)?,
+    }))
 }
 
 pub fn write_case(to: &mut impl Write, case: &Case) -> io::Result<()> {
