@@ -1,6 +1,6 @@
 """Damaged copies of a case: cut, changed in single bytes, with records changed one at a time."""
 
-from wire import key, varint
+from wire import key, read_varint, varint
 
 # Embedded messages: field number to the name of the inner message.
 INNER = {
@@ -11,16 +11,6 @@ INNER = {
     "enum": {2: "value"},
     "value": {3: "options"},
 }
-
-
-def read_varint(data, at):
-    value = shift = 0
-    while True:
-        value |= (data[at] & 0x7F) << shift
-        shift += 7
-        at += 1
-        if data[at - 1] < 0x80:
-            return value, at
 
 
 def tree(data, kind="set"):

@@ -28,9 +28,9 @@ from model import (
     encode,
 )
 from names import bare, name
-from wire import key, number, options, part, varint
+from wire import key, number, options, part, read_varint, varint
 
-# Files, messages at top level, most nesting, fields of a message, and how often each is drawn.
+# How often a size is drawn, its files, messages at top level, most nesting, fields of a message.
 SIZES = [
     (40, (1, 1), (0, 3), 2, (0, 4)),
     (35, (1, 4), (0, 4), 4, (0, 8)),
@@ -105,7 +105,18 @@ class Order(Plain):
             records = [record for _, record in found]
         for record in self.skipped(where):
             records.insert(self.rng.randrange(len(records) + 1), record)
-        return b"".join(records)
+        return b"".join(map(self.padded, records))
+
+    def padded(self, record):
+        """The record, sometimes with a longer key and length."""
+        if self.rng.random() >= self.padding / 2:
+            return record
+        tag, at = read_varint(record, 0)
+        longer = varint(tag, self.rng.randrange(3))
+        if tag & 7 == 2:
+            length, at = read_varint(record, at)
+            longer += varint(length, self.rng.randrange(3))
+        return longer + record[at:]
 
 
 class Draw:

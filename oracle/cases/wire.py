@@ -17,6 +17,17 @@ def varint(value, pad=0):
     return bytes([group | 0x80 for group in groups[:-1]] + [groups[-1]])
 
 
+def read_varint(data, at):
+    """The varint at a place of readable bytes, and where it ends."""
+    value = shift = 0
+    while True:
+        value |= (data[at] & 0x7F) << shift
+        shift += 7
+        at += 1
+        if data[at - 1] < 0x80:
+            return value, at
+
+
 def key(field, wire_type):
     return varint(field << 3 | wire_type)
 
