@@ -1,0 +1,6 @@
+pub mod Ident
+pub mod Spaced
+pub mod Prefix
+pub mod Name
+pub mod Convert
+pub mod Reference
