@@ -1,2 +1,3 @@
 pub mod Choose
 pub mod Bytes
+pub mod Steps
