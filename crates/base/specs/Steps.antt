@@ -4,6 +4,7 @@ use mathlib.Core.Bool.{Bool, true, false}
 use mathlib.Core.List.{List, [], _∷_}
 use Prim.Native.Nat.{ℕ, zero, suc, _-_, _≤_, _<_}
 use native.Mathlib.Omega.{arith}
+use native.Mathlib.Decide.{decLt}
 use lib.Dec.{ltb}
 use borrow.Author.Tests.{lt-ltb, le-ltb}
 use Rattle.base.specs.Choose.{choose, then-lt, else-lt}
@@ -81,3 +82,24 @@ module _ (f : ℕ → Step) (n : ℕ) where
         let s : n - at ≡ suc (n - suc at) = omega arith in
         let g : at < next = forward at x next e in
         rw (s, opened (n - suc at) at h, e) (ap (λ (r : Run). x then r) (enough (n - suc at) (n - next) next (omega arith) (omega arith)))
+
+    -- what holds at the end and at a fault, and is led back over each step, holds of the whole
+    pub run-ind : (P : ℕ → Run → Type 0) → ((at : ℕ) → n ≤ at → P at ended) → ((at : ℕ) → at < n → f at ≡ fault → P at broken) → ((at x next : ℕ) (r : Run) → at < n → f at ≡ item x next → P next r → P at (x then r)) → (at : ℕ) → P at (run f n at)
+    run-ind P end break more at = go (n - at) at (omega arith)
+      where
+        at-step : (k at : ℕ) → n - at ≤ suc k → at < n → ((next : ℕ) → n - next ≤ k → P next (run f n next)) → (w : Step) → f at ≡ w → P at (run f n at)
+        at-step k at p h rest fault e = rw (run-fault at h e) (break at h e)
+        at-step k at p h rest (item x next) e =
+            let g : at < next = forward at x next e in
+            rw (run-item at x next h e) (more at x next (run f n next) h e (rest next (omega arith)))
+
+        at-end : (at : ℕ) → n ≤ at → P at (run f n at)
+        at-end at h = rw (run-end at h) (end at h)
+
+        at-place : (k at : ℕ) → n - at ≤ suc k → ((next : ℕ) → n - next ≤ k → P next (run f n next)) → Dec (at < n) → P at (run f n at)
+        at-place k at p rest (yes h) = at-step k at p h rest (f at) refl
+        at-place k at p rest (no h) = at-end at (omega arith)
+
+        go : (k at : ℕ) → n - at ≤ k → P at (run f n at)
+        go zero at p = at-end at (omega arith)
+        go (suc k) at p = at-place k at p (go k) (decLt at n)

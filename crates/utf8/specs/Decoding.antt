@@ -10,7 +10,7 @@ use lib.Dec.{leb, ltb, eqb}
 use lib.ListN.{length, getD, drop, length-drop, List·getD-eq-default}
 use lib.Seq.{drop-cons, getD-drop}
 use borrow.Author.Tests.{ltb-true, ltb-false, leb-true, leb-false, eqb-true, eqb-false, lt-ltb, le-ltb, le-leb, lt-leb, eq-eqb, ne-eqb}
-use Rattle.base.specs.Choose.{choose, choose-case, choices}
+use Rattle.base.specs.Choose.{choose, choose-case, choices, flags}
 use Rattle.base.specs.Steps.{Step, item, fault}
 use Rattle.utf8.specs.Utf8.{between, second-low, second-high, second, later, two, three, four, charAt, step-of}
 use Rattle.utf8.specs.Encode.{scalar, encode}
@@ -30,12 +30,12 @@ record Between (low high x : ℕ) : Type 0 where
   above : low ≤ x
   below : x ≤ high
 
+no-flag : _≡_ {A = Bool} false true → ⊥
+no-flag h = let z : _≡_ {A = ℕ} 0 1 = cc in omega arith
+
 in-range : (low high x : ℕ) → between low high x ≡ true → Between low high x
 unfolding between
-in-range low high x = choose-case (λ (t : Bool). t ≡ true → Between low high x) (ltb x low) (λ e h. absurd (never h)) (λ e h. record { above = ltb-false x low e; below = leb-true x high h })
-  where
-    never : _≡_ {A = Bool} false true → ⊥
-    never h = let z : _≡_ {A = ℕ} 0 1 = cc in omega arith
+in-range low high x = choose-case (λ (t : Bool). t ≡ true → Between low high x) (ltb x low) (λ e h. absurd (no-flag h)) (λ e h. record { above = ltb-false x low e; below = leb-true x high h })
 
 range : (low high x : ℕ) → low ≤ x → x ≤ high → between low high x ≡ true
 unfolding between
@@ -250,3 +250,131 @@ fine s i =
 -- what a step accepts is the encoding of the character that it gives
 pub only-encodings : (s : List ℕ) (i c next : ℕ) → charAt s i ≡ Character c next → Decodes s i c next
 only-encodings s i c next e = rw e at (fine s i)
+
+-- ---- a step at an encoding gives its character
+module _ (s : List ℕ) (i : ℕ) (p : List ℕ) (here : drop i s ≡ p) where
+  byte-at : (k : ℕ) → getD s (i + k) 0 ≡ getD p k 0
+  byte-at k = sym (getD-drop i s k 0) ∙ ap (λ (l : List ℕ). getD l k 0) here
+
+  first-at : getD s i 0 ≡ getD p 0 0
+  first-at = ap (λ (k : ℕ). getD s k 0) (sym (add-zero i)) ∙ byte-at 0
+
+  starts : 0 < length p → i < length s
+  starts h = let e : length s - i ≡ length p = sym (length-drop i s) ∙ ap length here in omega arith
+
+module _ (s : List ℕ) (i a : ℕ) (q : List ℕ) where
+  at-one : drop i s ≡ a ∷ q → a ≤ 0x7F → Character a (i + 1) ≡ charAt s i
+  unfolding charAt
+  at-one e h =
+      let w : i < length s = starts s i (a ∷ q) e (omega arith) in
+      rw (first-at s i (a ∷ q) e) (search choices depth 9)
+
+  at-two : (x : ℕ) → drop i s ≡ a ∷ (x ∷ q) → 0xC2 ≤ a → a ≤ 0xDF → Second a x → Character (a % 32 * 64 + x % 64) (i + 2) ≡ charAt s i
+  unfolding charAt two
+  at-two x e h k r =
+      let w : i < length s = starts s i (a ∷ (x ∷ q)) e (omega arith) in
+      let g : 0x7F < a = omega arith in
+      rw (first-at s i (a ∷ (x ∷ q)) e, byte-at s i (a ∷ (x ∷ q)) e 1)
+      (search (choices, flags, is-second a x r) depth 12)
+
+  at-three : (x y : ℕ) → drop i s ≡ a ∷ (x ∷ (y ∷ q)) → 0xDF < a → a ≤ 0xEF → Second a x → Between 0x80 0xBF y → Character (a % 16 * 4096 + x % 64 * 64 + y % 64) (i + 3) ≡ charAt s i
+  unfolding charAt three
+  at-three x y e h k r t =
+      let w : i < length s = starts s i (a ∷ (x ∷ (y ∷ q))) e (omega arith) in
+      let g : 0x7F < a = omega arith in
+      let f : 0xC2 ≤ a = omega arith in
+      rw (first-at s i (a ∷ (x ∷ (y ∷ q))) e, byte-at s i (a ∷ (x ∷ (y ∷ q))) e 1, byte-at s i (a ∷ (x ∷ (y ∷ q))) e 2)
+      (search (choices, flags, is-second a x r, is-later y (t .above) (t .below)) depth 12)
+
+  at-four : (x y z : ℕ) → drop i s ≡ a ∷ (x ∷ (y ∷ (z ∷ q))) → 0xEF < a → a ≤ 0xF4 → Second a x → Between 0x80 0xBF y → Between 0x80 0xBF z → Character (a % 8 * 262144 + x % 64 * 4096 + y % 64 * 64 + z % 64) (i + 4) ≡ charAt s i
+  unfolding charAt four
+  at-four x y z e h k r t u =
+      let w : i < length s = starts s i (a ∷ (x ∷ (y ∷ (z ∷ q)))) e (omega arith) in
+      let g : 0x7F < a = omega arith in
+      let f : 0xC2 ≤ a = omega arith in
+      let d : 0xDF < a = omega arith in
+      rw (first-at s i (a ∷ (x ∷ (y ∷ (z ∷ q)))) e, byte-at s i (a ∷ (x ∷ (y ∷ (z ∷ q)))) e 1, byte-at s i (a ∷ (x ∷ (y ∷ (z ∷ q)))) e 2, byte-at s i (a ∷ (x ∷ (y ∷ (z ∷ q)))) e 3)
+      (search (choices, flags, is-second a x r, is-later y (t .above) (t .below), is-later z (u .above) (u .below)) depth 14)
+
+-- ---- what a scalar value is not
+pub scalar-limit : (c : ℕ) → scalar c ≡ true → c ≤ 0x10FFFF
+unfolding scalar
+scalar-limit c =
+    let P : Bool → Type 0 = λ t. t ≡ true → c ≤ 0x10FFFF in
+    choose-case P (ltb c 0xD800) (λ e _. let h : c < 0xD800 = ltb-true c 0xD800 e in omega arith)
+    (λ _. choose-case P (ltb c 0xE000) (λ _ h. absurd (no-flag h)) (λ _ h. leb-true c 0x10FFFF h))
+
+no-surrogate : (c : ℕ) → scalar c ≡ true → 0xD800 ≤ c → 0xE000 ≤ c
+unfolding scalar
+no-surrogate c =
+    let P : Bool → Type 0 = λ t. t ≡ true → 0xD800 ≤ c → 0xE000 ≤ c in
+    choose-case P (ltb c 0xD800) (λ e _ l. let h : c < 0xD800 = ltb-true c 0xD800 e in omega arith)
+    (λ _. choose-case P (ltb c 0xE000) (λ _ h. absurd (no-flag h)) (λ e _ _. ltb-false c 0xE000 e))
+
+surrogate-byte : (c : ℕ) → scalar c ≡ true → 224 + c / 4096 ≡ 0xED → Dec (c < 0xD800) → 128 + c / 64 % 64 ≤ 0x9F
+surrogate-byte c h e (yes l) = omega arith
+surrogate-byte c h e (no n) = let g : 0xE000 ≤ c = no-surrogate c h (omega arith) in omega arith
+
+-- the bits of c, 6 at a time
+low-bits : (x : ℕ) → (128 + x % 64) % 64 ≡ x % 64
+low-bits x = omega arith
+
+top-bits : (x : ℕ) → x ≤ 4 → (240 + x) % 8 ≡ x
+top-bits x h = omega arith
+
+joined : (c : ℕ) → c / 262144 * 262144 + c / 4096 % 64 * 4096 + c / 64 % 64 * 64 + c % 64 ≡ c
+joined c =
+    let t : c / 64 ≡ c / 4096 * 64 + c / 64 % 64 = omega arith in
+    let w : c / 4096 ≡ c / 262144 * 64 + c / 4096 % 64 = omega arith in
+    let d : c ≡ c / 64 * 64 + c % 64 = omega arith in
+    sums (c / 262144) (c / 4096) (c / 4096 % 64) (c / 64) (c / 64 % 64) (c % 64) c t w d
+  where
+    sums : (u w v t r b c : ℕ) → t ≡ w * 64 + r → w ≡ u * 64 + v → c ≡ t * 64 + b → u * 262144 + v * 4096 + r * 64 + b ≡ c
+    sums u w v t r b c p q d = omega arith
+
+module _ (s : List ℕ) (i c : ℕ) (q : List ℕ) (is : scalar c ≡ true) (here : drop i s ≡ encode c ++ q) where
+  decodes-one : c < 0x80 → charAt s i ≡ Character c (i + length (encode c))
+  decodes-one h =
+      let e : encode c ≡ c ∷ [] = encode-one c h in
+      rw e (sym (at-one s i c q (rw e at here) (omega arith)))
+
+  decodes-two : 0x80 ≤ c → c < 0x800 → charAt s i ≡ Character c (i + length (encode c))
+  decodes-two l h =
+      let a : ℕ = 192 + c / 64 in
+      let x : ℕ = 128 + c % 64 in
+      let e : encode c ≡ a ∷ (x ∷ []) = encode-two c a x l h refl refl in
+      let r : Second a x = record { low = omega arith; high = omega arith; e0 = omega arith; ed = omega arith; f0 = omega arith; f4 = omega arith } in
+      let v : a % 32 * 64 + x % 64 ≡ c = omega arith in
+      rw e (sym (at-two s i a q x (rw e at here) (omega arith) (omega arith) r) ∙ ap (λ (k : ℕ). Character k (i + 2)) v)
+
+  decodes-three : 0x800 ≤ c → c < 0x10000 → charAt s i ≡ Character c (i + length (encode c))
+  decodes-three l h =
+      let a : ℕ = 224 + c / 4096 in
+      let x : ℕ = 128 + c / 64 % 64 in
+      let y : ℕ = 128 + c % 64 in
+      let e : encode c ≡ a ∷ (x ∷ (y ∷ [])) = encode-three c a x y l h refl refl refl in
+      let r : Second a x = record { low = omega arith; high = omega arith; e0 = omega arith; ed = λ f. surrogate-byte c is f (decLt c 0xD800); f0 = omega arith; f4 = omega arith } in
+      let v : a % 16 * 4096 + x % 64 * 64 + y % 64 ≡ c = omega arith in
+      rw e (sym (at-three s i a q x y (rw e at here) (omega arith) (omega arith) r (record { above = omega arith; below = omega arith })) ∙ ap (λ (k : ℕ). Character k (i + 3)) v)
+
+  decodes-four : 0x10000 ≤ c → charAt s i ≡ Character c (i + length (encode c))
+  decodes-four l =
+      let m : c ≤ 0x10FFFF = scalar-limit c is in
+      let a : ℕ = 240 + c / 262144 in
+      let x : ℕ = 128 + c / 4096 % 64 in
+      let y : ℕ = 128 + c / 64 % 64 in
+      let z : ℕ = 128 + c % 64 in
+      let e : encode c ≡ a ∷ (x ∷ (y ∷ (z ∷ []))) = encode-four c a x y z l refl refl refl refl in
+      let r : Second a x = record { low = omega arith; high = omega arith; e0 = omega arith; ed = omega arith; f0 = omega arith; f4 = omega arith } in
+      let v : a % 8 * 262144 + x % 64 * 4096 + y % 64 * 64 + z % 64 ≡ c = rw (top-bits (c / 262144) (omega arith), low-bits (c / 4096), low-bits (c / 64), low-bits c) (joined c) in
+      rw e (sym (at-four s i a q x y z (rw e at here) (omega arith) (omega arith) r (record { above = omega arith; below = omega arith }) (record { above = omega arith; below = omega arith })) ∙ ap (λ (k : ℕ). Character k (i + 4)) v)
+
+  by-size : Dec (c < 0x80) → Dec (c < 0x800) → Dec (c < 0x10000) → charAt s i ≡ Character c (i + length (encode c))
+  by-size (yes h) d f = decodes-one h
+  by-size (no n) (yes h) f = decodes-two (omega arith) h
+  by-size (no n) (no m) (yes h) = decodes-three (omega arith) h
+  by-size (no n) (no m) (no l) = decodes-four (omega arith)
+
+  -- a step at the encoding of a character gives that character and the place behind it
+  pub decodes : charAt s i ≡ Character c (i + length (encode c))
+  decodes = by-size (decLt c 0x80) (decLt c 0x800) (decLt c 0x10000)

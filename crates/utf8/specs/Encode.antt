@@ -1,6 +1,6 @@
 -- Characters and their encoding in UTF-8, by the Unicode Standard's definition D92 and table 3-6. Assumes nothing.
 use mathlib.Core.Bool.{Bool, true, false}
-use mathlib.Core.List.{List, [], _∷_, _++_}
+use mathlib.Core.List.{List, [], _∷_}
 use Prim.Native.Nat.{ℕ, _+_, _/_, _%_}
 use lib.Dec.{leb, ltb}
 use Rattle.base.specs.Choose.{choose}
@@ -16,8 +16,3 @@ encode c =
     (choose (ltb c 0x800) ((192 + c / 64) ∷ ((128 + c % 64) ∷ []))
     (choose (ltb c 0x10000) ((224 + c / 4096) ∷ ((128 + c / 64 % 64) ∷ ((128 + c % 64) ∷ [])))
     ((240 + c / 262144) ∷ ((128 + c / 4096 % 64) ∷ ((128 + c / 64 % 64) ∷ ((128 + c % 64) ∷ []))))))
-
--- the characters one after the other
-abbrev pub encode-all : List ℕ → List ℕ
-encode-all [] = []
-encode-all (c ∷ cs) = encode c ++ encode-all cs
