@@ -1,0 +1,3 @@
+pub mod Escape
+pub mod Reference
+pub mod Passes
