@@ -1,3 +1,4 @@
 pub mod Escape
+pub mod HexLaws
 pub mod Reference
 pub mod Passes
