@@ -1,4 +1,6 @@
 pub mod Escape
 pub mod HexLaws
+pub mod EscapeCases
+pub mod Quotes
 pub mod Reference
 pub mod Passes
