@@ -78,7 +78,7 @@ pub printable-byte : (x : ℕ) → All Printable (escape-byte x)
 unfolding escape-byte byte-escape
 printable-byte x = printable-escape x (byte-escape x) (omega arith, (omega arith, (printable-digit (x / 16), (printable-digit x, tt))))
 
-everything : (cs : List ℕ) → All (λ _. Unit) cs
+pub everything : (cs : List ℕ) → All (λ _. Unit) cs
 everything [] = tt
 everything (c ∷ cs) = (tt, everything cs)
 

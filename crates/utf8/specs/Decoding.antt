@@ -83,7 +83,7 @@ unfolding later
 is-later x = range 0x80 0xBF x
 
 -- ---- what the bits of a character are
-scalar-low : (c : ℕ) → c < 0xD800 → scalar c ≡ true
+pub scalar-low : (c : ℕ) → c < 0xD800 → scalar c ≡ true
 unfolding scalar
 scalar-low c h = sym (search choices depth 5)
 
