@@ -11,7 +11,8 @@ use borrow.Author.Tests.{ne-eqb, lt-ltb, le-leb}
 use Rattle.base.specs.Choose.{choose, choose-case, choices, flags}
 use Rattle.base.specs.Bytes.{b}
 use Rattle.base.specs.Each.{each, All, all-each}
-use Rattle.utf8.specs.Utf8.{chars, is-utf8}
+use Rattle.base.specs.Steps.{run, steps, on-step}
+use Rattle.utf8.specs.Utf8.{chars, is-utf8, charAt, two, second, second-low, second-high, between}
 use Rattle.utf8.specs.Encode.{scalar, encode}
 use Rattle.utf8.specs.Decoding.{scalar-limit, scalar-low}
 use Rattle.utf8.specs.Chars.{chars-scalar, encoded-again}
@@ -185,3 +186,8 @@ byte-string-inside bs =
 -- and its value is the bytes
 pub bytes-again : (bs : List ℕ) → All Byte bs → read byte-string (each escape-byte bs) ≡ some bs
 bytes-again bs h = each-again byte-string escape-byte Byte escaped-byte-reads bs h
+
+-- ---- document 01's table: the default U+00E9
+pub table-accent : escape-text (0xC3 ∷ (0xA9 ∷ [])) ≡ b "\\u{e9}"
+unfolding escape-text escape-char escape unicode-escape hex-digits hex-digit choose run steps on-step charAt two second second-low second-high between
+table-accent = refl
