@@ -27,3 +27,8 @@ all-append P (x ∷ xs) ys p q = (p .0, all-append P xs ys (p .1) q)
 pub all-each : (P Q : ℕ → Type 0) (f : ℕ → List ℕ) → ((x : ℕ) → Q x → All P (f x)) → (xs : List ℕ) → All Q xs → All P (each f xs)
 all-each P Q f h [] q = tt
 all-each P Q f h (x ∷ xs) q = all-append P (f x) (each f xs) (h x (q .0)) (all-each P Q f h xs (q .1))
+
+-- a text for each, and a text for each element of that
+pub each-each : (f g : ℕ → List ℕ) (xs : List ℕ) → each f (each g xs) ≡ each (λ x. each f (g x)) xs
+each-each f g [] = refl
+each-each f g (x ∷ xs) = each-append f (g x) (each g xs) ∙ ap (λ (l : List ℕ). each f (g x) ++ l) (each-each f g xs)

@@ -22,7 +22,8 @@ fn byte(s: &[u8], i: usize) -> u32
     wide(base::byte_at(s, i))
 }
 
-fn between(low: u32, high: u32, x: u32) -> bool
+// Does x lie from low to high?
+pub fn between(low: u32, high: u32, x: u32) -> bool
     ensures { λ r. ⌜ r ≡ between low high x ⌝ }
 {
     if x < low {

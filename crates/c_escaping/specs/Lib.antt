@@ -1,0 +1,2 @@
+pub mod Unescape
+pub mod Unescaping
