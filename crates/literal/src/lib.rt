@@ -4,7 +4,6 @@ ghost use mathlib.Core.List.{[], _∷_};
 ghost use Rattle.base.specs.Each.{each};
 ghost use Rattle.writer.specs.Wrote.{Wrote};
 ghost use Rattle.literal.specs.Escape.{hex-digit, hex-digits, unicode-escape, byte-escape, escape-char, escape-byte, escape-text};
-
 use utf8::Decoded;
 
 // The last hexadecimal digit of n.
