@@ -2,8 +2,8 @@
 // hex, or `-` where it doesn't unescape; data/escape.txt has a text in hex, or `b` and bytes in hex, and what is written for it.
 // A line that differs is printed.
 use c_escaping::Unescaped;
-
-ghost use Prim.Native.Nat.{_≤_, _<_};
+ghost use mathlib.Core.Path.{_≡_};
+ghost use Prim.Native.Nat.{_+_, _≤_, _<_, min};
 ghost use lib.ListN.{length};
 ghost use Rattle.io.specs.Counts.{Counts};
 
@@ -21,7 +21,10 @@ fn up(n: u64) -> u64 {
 
 fn counted(t: Tally, ok: bool) -> Tally {
     if ok {
-        return Tally { n: up(t.n), bad: t.bad };
+        return Tally {
+            n: up(t.n),
+            bad: t.bad,
+        };
     }
     Tally {
         n: up(t.n),
@@ -31,7 +34,7 @@ fn counted(t: Tally, ok: bool) -> Tally {
 
 // The place behind i, and no place behind the end n.
 fn after(i: usize, n: usize) -> usize
-    ensures { λ r. ⌜ (r ≤ n) × (i < n → i < r) ⌝ }
+    ensures { λ r. ⌜ r ≡ min (i + 1) n ⌝ }
 {
     if i < n {
         return i + 1;
@@ -155,16 +158,15 @@ fn bytes_case(given: &[u8], want: &[u8]) -> bool {
 fn holds(line: &[u8], unescaping: bool) -> bool {
     let m = find(line, 0, b' ');
     let o = after(m, line.len());
-    let given = &line[..m];
     let want = &line[o..];
     if unescaping {
-        return unescape_case(given, want);
+        return unescape_case(&line[0..m], want);
     }
     if base::byte_at(line, 0) == b'b' {
         let from = after(0, m);
-        return bytes_case(&given[from..], want);
+        return bytes_case(&line[from..m], want);
     }
-    text_case(given, want)
+    text_case(&line[0..m], want)
 }
 
 fn judge(line: &[u8], unescaping: bool, t: Tally) -> Tally {
