@@ -2,3 +2,5 @@ pub mod Choose
 pub mod Tests
 pub mod Bytes
 pub mod Given
+pub mod Each
+pub mod Steps
