@@ -27,7 +27,8 @@ latest-of s = latest s 0 no-records
 
 -- those inside the embedded messages with the number outer, from position at on
 abbrev pub merged-record : List ℕ → ℕ → Record → Latest → (Latest → Latest) → Latest
-merged-record s outer f x go-on = choose (eqb (f .number) outer) (go-on (latest (part s (f .start) (f .next - f .start)) 0 x)) (go-on x)
+merged-record s outer f x go-on =
+    choose (eqb (f .number) outer) (choose (eqb (f .wiretype) 2) (go-on (latest (part s (f .start) (f .next - f .start)) 0 x)) (go-on x)) (go-on x)
 
 abbrev pub merged : ℕ → List ℕ → ℕ → Latest → Latest
 merged outer s = over (merged-record s outer) (λ key x. x) (λ x. x) s
