@@ -1,19 +1,16 @@
 -- The last records of a message lie in it. Assumes nothing.
-use mathlib.Core.Path.{_≡_, refl, sym, ap, _∙_}
-use mathlib.Core.Bool.{Bool, true, false}
+use mathlib.Core.Path.{_≡_}
 use mathlib.Core.List.{List, [], _∷_}
 use Prim.Native.Nat.{ℕ, zero, suc, _+_, _-_, _<_, _≤_, _^_}
-use native.Mathlib.Nat.{min-le-left, min-le-right}
+use native.Mathlib.Nat.{min-le-right}
 use native.Mathlib.Omega.{arith}
-use lib.ListN.{length, getD, set, replicate, take, drop, length-set, length-take, length-drop, List·getD-eq-default}
-use lib.Seq.{getD-set-same, getD-set-other, set-out}
-use lib.Dec.{ltb, eqb}
-use borrow.Author.Tests.{ltb-true, eqb-true, eqb-false}
-use Rattle.base.specs.Choose.{choose, choose-case}
-use Rattle.wire.specs.Records.{over, part}
+use lib.ListN.{length, getD, set, replicate, drop, length-take, length-drop}
+use lib.Dec.{ltb}
+use Rattle.base.specs.Choose.{choose-case}
+use Rattle.wire.specs.Records.{part}
 use Rattle.wire.proofs.RecordsLaws.{In, over-keeps}
 use Rattle.wire.specs.declared.Record.{Record}
-use Rattle.descriptor.specs.Latest.{note, latest, latest-of, absent, no-records}
+use Rattle.descriptor.specs.Latest.{note, latest-of, absent, no-records}
 use Rattle.descriptor.specs.Views.{record-at}
 use Rattle.descriptor.specs.declared.Latest.{Latest}
 

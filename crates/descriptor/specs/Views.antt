@@ -8,7 +8,7 @@ use lib.Dec.{eqb}
 use Rattle.base.specs.Choose.{choose}
 use Rattle.wire.specs.Records.{part}
 use Rattle.wire.specs.declared.Record.{Record}
-use Rattle.descriptor.specs.Descriptor.{Bytes, FieldOptions, FieldDescriptor, ValueDescriptor}
+use Rattle.descriptor.specs.Descriptor.{Bytes, FieldDescriptor, ValueDescriptor}
 use Rattle.descriptor.specs.Latest.{absent, no-records, latest-of, merged}
 use Rattle.descriptor.specs.declared.Latest.{Latest}
 use Rattle.descriptor.specs.declared.Text.{Text}

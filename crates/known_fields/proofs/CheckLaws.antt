@@ -1,11 +1,11 @@
 -- What `check_message`'s proof cites: a record's verdict and an embedded message's answer, case by case. Assumes nothing.
-use mathlib.Core.Path.{_≡_, refl, sym, ap, _∙_}
+use mathlib.Core.Path.{_≡_, refl}
 use mathlib.Core.Bool.{Bool}
 use mathlib.Core.List.{List}
 use Prim.Native.Nat.{ℕ, zero, suc, _-_, _%_, _≤_}
 use native.Mathlib.Numerals.{sub-one}
 use native.Mathlib.Omega.{arith}
-use lib.Dec.{ltb, leb, eqb}
+use lib.Dec.{ltb, eqb}
 use borrow.Author.Tests.{ltb-false}
 use Rattle.base.specs.Choose.{choose, choose-case}
 use Rattle.known_fields.specs.Check.{levels-for, enter, judge, onVerdict, onChecked, Inner, check, check-from, none-met}
