@@ -35,20 +35,20 @@ indexed-length F file up t i u next h = ap length (h .table) ∙ fill-length (ro
 module _ (left number : ℕ) (s : List ℕ) (base file up : ℕ) (t₀ : List ℕ) (i : ℕ) where
   -- with the rows that are left from position at on, table and count are those of the whole
   pub record Going (t : List ℕ) (at k : ℕ) : Type 0 where
-    pub room : k + (length s - at) < 65536
+    pub room : k + (length s - at) ≤ i + length s
     pub in-part : at ≤ length s
     pub long : length t ≡ length t₀
     pub table : fill t k (rows file up k (forest-from (forest-in (left - 1) 3) number s base at)) ≡ fill t₀ i (rows file up i (forest-in left number s base))
     pub counted : k + size (forest-from (forest-in (left - 1) 3) number s base at) ≡ i + size (forest-in left number s base)
 
-  pub going-start : (left ≡ 0 → ⊥) → i + length s < 65536 → Going t₀ 0 i
-  going-start ne h =
+  pub going-start : (left ≡ 0 → ⊥) → Going t₀ 0 i
+  going-start ne =
       record {
         room = omega arith;
         in-part = omega arith;
         long = refl;
         table = ap (λ (F : Forest Place). fill t₀ i (rows file up i F)) (forest-is left number s base ne);
-        counted = ap (λ (F : Forest Place). i + size F) (forest-is left number s base ne)
+        counted = ap (λ (F : Forest Place). i + size F) (forest-is left number s base ne);
       }
 
   module _ (t : List ℕ) (at k : ℕ) (going : Going t at k) where
@@ -57,7 +57,7 @@ module _ (left number : ℕ) (s : List ℕ) (base file up : ℕ) (t₀ : List �
     going-end e =
         record {
           table = ap (λ (F : Forest Place). fill t k (rows file up k F)) e ∙ going .table;
-          counted = let c = ap (λ (F : Forest Place). k + size F) e ∙ going .counted in (let z : k ≡ k + 0 = omega arith in z) ∙ c
+          counted = let c = ap (λ (F : Forest Place). k + size F) e ∙ going .counted in (let z : k ≡ k + 0 = omega arith in z) ∙ c;
         }
 
     module _ (r : Step) (e : r ≡ stepAt s at) (f : Record) (is : r ≡ Found f) where
@@ -71,7 +71,7 @@ module _ (left number : ℕ) (s : List ℕ) (base file up : ℕ) (t₀ : List �
             in-part = l .to;
             long = going .long;
             table = ap (λ (F : Forest Place). fill t k (rows file up k F)) same ∙ going .table;
-            counted = ap (λ (F : Forest Place). k + size F) same ∙ going .counted
+            counted = ap (λ (F : Forest Place). k + size F) same ∙ going .counted;
           }
 
       pub going-node : f .number ≡ number → (end count : ℕ) → end ≡ end-in f → f .start ≤ end → end ≤ f .next
@@ -87,11 +87,11 @@ module _ (left number : ℕ) (s : List ℕ) (base file up : ℕ) (t₀ : List �
           let following : Forest Place = forest-from (forest-in (left - 1) 3) number s base (f .next) in
           let p : Place = record { start = base + f .start; end = base + end } in
           let same : node p nested following ≡ forest-from (forest-in (left - 1) 3) number s base at =
-            ap (λ (x : ℕ). node (record { start = base + f .start; end = base + x }) (forest-in (left - 1) 3 (part s (f .start) (x - f .start)) (base + f .start)) following) end-is
-            ∙ forest-node (forest-in (left - 1) 3) number s base at r e f is q in
+          ap (λ (x : ℕ). node (record { start = base + f .start; end = base + x }) (forest-in (left - 1) 3 (part s (f .start) (x - f .start)) (base + f .start)) following) end-is
+          ∙ forest-node (forest-in (left - 1) 3) number s base at r e f is q in
           let count-as : count ≡ size nested = count-is ∙ size-forest (left - 1) 3 (part s (f .start) (end - f .start)) (base + f .start) in
           let row-as : row ≡ record { start = p .start; end = p .end; file = file; up = up; after = k + 1 + size nested } =
-            row-is ∙ ap (λ (x : ℕ). record { start = base + f .start; end = base + end; file = file; up = up; after = k + 1 + x }) count-as in
+          row-is ∙ ap (λ (x : ℕ). record { start = base + f .start; end = base + end; file = file; up = up; after = k + 1 + x }) count-as in
           let inner-as : Indexed nested file (k + 1) u (k + 1) w next = subst (λ (x : ℕ). Indexed nested file x u (k + 1) w next) up-is inner in
           let n : next ≡ k + 1 + size nested = inner .counted in
           record {
@@ -99,5 +99,5 @@ module _ (left number : ℕ) (s : List ℕ) (base file up : ℕ) (t₀ : List �
             in-part = l .to;
             long = indexed-length nested file (k + 1) u (k + 1) w next inner-as ∙ ap length put-is ∙ put-length t k row ∙ going .long;
             table = node-filled p nested following file up t k row u w next row-as put-is inner-as ∙ ap (λ (F : Forest Place). fill t k (rows file up k F)) same ∙ going .table;
-            counted = node-counted p nested following file up t k row u w next row-as put-is inner-as ∙ ap (λ (F : Forest Place). k + size F) same ∙ going .counted
+            counted = node-counted p nested following file up t k row u w next row-as put-is inner-as ∙ ap (λ (F : Forest Place). k + size F) same ∙ going .counted;
           }

@@ -73,7 +73,7 @@ rows-length (node p nested following) file up i =
     let l = length-append (rows file (i + 1) (i + 1) nested) (rows file up (i + 1 + size nested) following) in
     omega arith
 
-fill-append : (t : List ℕ) (i : ℕ) (a b : List Row) → fill t i (a ++ b) ≡ fill (fill t i a) (i + length a) b
+pub fill-append : (t : List ℕ) (i : ℕ) (a b : List Row) → fill t i (a ++ b) ≡ fill (fill t i a) (i + length a) b
 unfolding fill
 fill-append t i [] b = ap (λ (n : ℕ). fill t n b) (let e : i ≡ i + 0 = omega arith in e)
 fill-append t i (r ∷ a) b = fill-append (put t i r) (i + 1) a b ∙ ap (λ (n : ℕ). fill (fill (put t i r) (i + 1) a) n b) (let e : i + 1 + length a ≡ i + suc (length a) = omega arith in e)
@@ -93,4 +93,4 @@ module _ (p : Place) (nested following : Forest Place) (file up : ℕ) (t : List
       let l : k + 1 + length (rows file (k + 1) (k + 1) nested) ≡ k + 1 + size nested = ap (λ (m : ℕ). k + 1 + m) (rows-length nested file (k + 1) (k + 1)) in
       rw (n, nested-is .table, put-is, row-is)
       (sym (fill-append (put t k (record { start = p .start; end = p .end; file = file; up = up; after = k + 1 + size nested })) (k + 1) (rows file (k + 1) (k + 1) nested) (rows file up (k + 1 + size nested) following)
-        ∙ ap (λ (m : ℕ). fill (fill (put t k (record { start = p .start; end = p .end; file = file; up = up; after = k + 1 + size nested })) (k + 1) (rows file (k + 1) (k + 1) nested)) m (rows file up (k + 1 + size nested) following)) l))
+      ∙ ap (λ (m : ℕ). fill (fill (put t k (record { start = p .start; end = p .end; file = file; up = up; after = k + 1 + size nested })) (k + 1) (rows file (k + 1) (k + 1) nested)) m (rows file up (k + 1 + size nested) following)) l))

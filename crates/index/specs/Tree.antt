@@ -68,3 +68,27 @@ row-in t i =
 pub record Indexed (forest : Forest Place) (file up : ℕ) (t : List ℕ) (i : ℕ) (u : List ℕ) (next : ℕ) : Type 0 where
   pub table : u ≡ fill t i (rows file up i forest)
   pub counted : next ≡ i + size forest
+
+-- the forests of the files of a set: of each, the embedded messages with the field number, in so many levels
+abbrev pub file-record : ℕ → ℕ → List ℕ → Record → Unit {0} → (Unit {0} → List (Forest Place)) → List (Forest Place)
+file-record number left s f x go-on = choose (eqb (f .number) 1) (forest-in left number (inside s f) (f .start) ∷ go-on x) (go-on x)
+
+abbrev pub files-from : ℕ → ℕ → List ℕ → ℕ → List (Forest Place)
+files-from number left s at = over (file-record number left s) (λ key x. []) (λ x. []) s at tt
+
+-- a set over limit 1 is not looked at
+unfoldable pub file-forests : ℕ → ℕ → List ℕ → List (Forest Place)
+file-forests number left s = choose (ltb 32768 (length s)) [] (files-from number left s 0)
+
+unfoldable pub total : List (Forest Place) → ℕ
+total [] = 0
+total (F ∷ Fs) = size F + total Fs
+
+-- the rows of forests, numbered from i on, the first of the file with the index file
+unfoldable pub rows-of : ℕ → ℕ → List (Forest Place) → List Row
+rows-of file i [] = []
+rows-of file i (F ∷ Fs) = rows file 0 i F ++ rows-of (file + 1) (i + size F) Fs
+
+pub record IndexedFiles (Fs : List (Forest Place)) (t u : List ℕ) (next : ℕ) : Type 0 where
+  pub table : u ≡ fill t 0 (rows-of 0 0 Fs)
+  pub counted : next ≡ total Fs

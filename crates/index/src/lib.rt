@@ -4,7 +4,7 @@ ghost use Prim.Native.Nat.{ℕ, _+_, _*_, _-_, _<_, _≤_, _^_};
 ghost use lib.ListN.{length};
 ghost use Rattle.index.specs.Places.{end-in};
 ghost use Rattle.index.specs.Sizes.{size-in};
-ghost use Rattle.index.specs.Tree.{forest-in, size, rows, put, fill, Indexed};
+ghost use Rattle.index.specs.Tree.{forest-in, size, rows, put, fill, Indexed, file-forests, IndexedFiles};
 use wire::Record;
 use wire::Step;
 
@@ -92,7 +92,7 @@ fn index_in(
     i: usize,
 ) -> usize
     requires { ⌜ (base + length (now s) < 65536) × (i + length (now s) < 65536) ⌝ }
-    ensures { λ r. ⌜ Indexed (forest-in left number (now (s .entry)) base) file up (now (t .entry)) i (now (t .exit)) r ⌝ }
+    ensures { λ r. ⌜ (Indexed (forest-in left number (now (s .entry)) base) file up (now (t .entry)) i (now (t .exit)) r) × (r ≤ i + length (now (s .entry))) ⌝ }
 {
     if left == 0 {
         return i;
@@ -123,6 +123,35 @@ fn index_in(
                     };
                     put_row(t, k, row);
                     k = index_in(&s[start..end], from, 3, fewer, file, short(one), t, one);
+                }
+            }
+        }
+    }
+}
+
+// The rows of the files' embedded messages with this field number, in so many levels: of their messages (4, in 16 levels),
+// or of their own enums (5, in 1). Where the table is too short, the rows that it has no room for are counted.
+pub fn index_files(set: &[u8], number: u64, left: usize, t: &mut [u16]) -> usize
+    ensures { λ r. ⌜ IndexedFiles (file-forests number left (now (set .entry))) (now (t .entry)) (now (t .exit)) r ⌝ }
+{
+    if 32768 < set.len() {
+        return 0;
+    }
+    let mut at: usize = 0;
+    let mut n: usize = 0;
+    let mut file: usize = 0;
+    loop {
+        match wire::read_step(set, at) {
+            Step::End => return n,
+            Step::Fault(_) => return n,
+            Step::Found(f) => {
+                at = f.next;
+                if f.number == 1 {
+                    let start = f.start;
+                    let end = end_of(f);
+                    let index = short(file);
+                    n = index_in(&set[start..end], start, number, left, index, 0, t, n);
+                    file = file + 1;
                 }
             }
         }
