@@ -164,3 +164,17 @@ pub over-ind {ℓ κ ι} : {A : Type ℓ} {S : Type κ} (P : A → Type ι) (bod
     → (at : ℕ) (x : S) → P (over body fault done s at x)
 unfolding over records
 over-ind P body fault done s at-end at-fault at-found at x = pass-ind P body fault done (length s) at-end at-fault at-found (records s at) (scan-in (length s - at) s at) x
+
+-- A state that holds of something keeps it over a pass that only changes the state.
+module _ {κ ι} {S : Type κ} (Q : S → Type ι) (step : Record → S → S) (n : ℕ) (keeps : (f : Record) → In n f → (x : S) → Q x → Q (step f x)) where
+  pass-keeps : (rs : List Step) → AllIn n rs → (x : S) → Q x → Q (pass (λ f x go-on. go-on (step f x)) (λ key x. x) (λ x. x) rs x)
+  unfolding pass
+  pass-keeps [] h x q = q
+  pass-keeps (End ∷ rs) h x q = q
+  pass-keeps (Fault key ∷ rs) h x q = q
+  pass-keeps (Found f ∷ rs) h x q = pass-keeps rs (h .1) (step f x) (keeps f (h .0) x q)
+
+pub over-keeps {κ ι} : {S : Type κ} (Q : S → Type ι) (step : Record → S → S) (s : List ℕ) → ((f : Record) → In (length s) f → (x : S) → Q x → Q (step f x))
+    → (at : ℕ) (x : S) → Q x → Q (over (λ f x go-on. go-on (step f x)) (λ key x. x) (λ x. x) s at x)
+unfolding over records
+over-keeps Q step s keeps at x q = pass-keeps Q step (length s) keeps (records s at) (scan-in (length s - at) s at) x q
