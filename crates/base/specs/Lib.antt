@@ -1,2 +1,6 @@
 pub mod Choose
+pub mod Tests
 pub mod Bytes
+pub mod Given
+pub mod Each
+pub mod Steps

@@ -1,10 +1,14 @@
+// Writing text into a lent buffer. Each writer lays its text over the buffer from a place, cut off at the buffer's end, and
+// answers the place after the text, counted past the end: so the same function measures and writes.
 ghost use mathlib.Core.Path.{_≡_};
 ghost use Prim.Native.Nat.{ℕ, _+_, _<_, _≤_, min};
 ghost use lib.ListN.{length, take, drop};
 ghost use mathlib.Core.List.{[], _∷_, _++_};
 ghost use Rattle.writer.specs.Wrote.{over, after, Wrote};
-ghost use Rattle.writer.specs.Text.{pick, digits, decimal};
+ghost use Rattle.writer.specs.Text.{pick, indent};
+ghost use Rattle.writer.specs.Decimal.{digits, decimal, signed};
 
+// No slice is so long: a place that comes to it stays there.
 const CAP: usize = 9223372036854775808;
 
 // The place n bytes after at.
@@ -20,7 +24,7 @@ pub fn advance(at: usize, n: usize) -> usize
     CAP
 }
 
-// The first n bytes of s, which has room in t.
+// The first n bytes of s, for which t has room.
 fn copy(t: &mut [u8], at: usize, s: &[u8], n: usize)
     requires { ⌜ (at + n ≤ length (now t)) × (n ≤ length (now s)) ⌝ }
     ensures { λ _. ⌜ now (t .exit) ≡ over (now (t .entry)) at (take n (now (s .entry))) ⌝ }
@@ -32,6 +36,7 @@ fn copy(t: &mut [u8], at: usize, s: &[u8], n: usize)
     }
 }
 
+// The bytes of s.
 pub fn put(t: &mut [u8], at: usize, s: &[u8]) -> usize
     ensures { λ r. ⌜ Wrote (now (t .entry)) at (now (s .entry)) (now (t .exit)) r ⌝ }
 {
@@ -48,6 +53,7 @@ pub fn put(t: &mut [u8], at: usize, s: &[u8]) -> usize
     advance(at, n)
 }
 
+// One byte.
 pub fn put_byte(t: &mut [u8], at: usize, x: u8) -> usize
     ensures { λ r. ⌜ Wrote (now (t .entry)) at (x ∷ []) (now (t .exit)) r ⌝ }
 {
@@ -68,16 +74,17 @@ pub fn put_if(t: &mut [u8], at: usize, on: bool, s: &[u8]) -> usize
     at
 }
 
-// p where on holds, and else q.
-pub fn put_either(t: &mut [u8], at: usize, on: bool, p: &[u8], q: &[u8]) -> usize
-    ensures { λ r. ⌜ Wrote (now (t .entry)) at (pick on (now (p .entry)) (now (q .entry))) (now (t .exit)) r ⌝ }
+// p where first holds, and else q.
+pub fn put_either(t: &mut [u8], at: usize, first: bool, p: &[u8], q: &[u8]) -> usize
+    ensures { λ r. ⌜ Wrote (now (t .entry)) at (pick first (now (p .entry)) (now (q .entry))) (now (t .exit)) r ⌝ }
 {
-    if on {
+    if first {
         return put(t, at, p);
     }
     put(t, at, q)
 }
 
+// The last k digits of n at most.
 fn put_digits(t: &mut [u8], at: usize, n: u32, k: usize) -> usize
     ensures { λ r. ⌜ Wrote (now (t .entry)) at (digits k n) (now (t .exit)) r ⌝ }
 {
@@ -92,10 +99,37 @@ fn put_digits(t: &mut [u8], at: usize, n: u32, k: usize) -> usize
     put_byte(t, a, d)
 }
 
+// A number in decimal.
 pub fn put_number(t: &mut [u8], at: usize, n: u32) -> usize
     ensures { λ r. ⌜ Wrote (now (t .entry)) at (decimal n) (now (t .exit)) r ⌝ }
 {
     put_digits(t, at, n, 10)
+}
+
+// A signed number in decimal, given as its two's complement.
+pub fn put_signed(t: &mut [u8], at: usize, n: u32) -> usize
+    ensures { λ r. ⌜ Wrote (now (t .entry)) at (signed n) (now (t .exit)) r ⌝ }
+{
+    if n < 2147483648 {
+        return put_number(t, at, n);
+    }
+    let a = put_byte(t, at, b'-');
+    let below = 4294967295 - n;
+    let m = below + 1;
+    put_number(t, a, m)
+}
+
+// An indent of n levels.
+pub fn put_indent(t: &mut [u8], at: usize, n: usize) -> usize
+    ensures { λ r. ⌜ Wrote (now (t .entry)) at (indent n) (now (t .exit)) r ⌝ }
+{
+    let mut a = at;
+    let mut i = 0;
+    while i < n {
+        a = put(t, a, b"    ");
+        i += 1;
+    }
+    a
 }
 
 // The smaller of the two: where the part of a slice begins that a writer is lent.

@@ -8,8 +8,6 @@ use mathlib.Core.List.{List}
 use Rattle.writer.specs.Wrote.{over, over-length, over-more}
 use Rattle.writer.proofs.copy.Statement.{statement}
 use Rattle.writer.proofs.copy.Tie as tie
-use Rattle.writer.proofs.copy.Reads as reads
-use Rattle.writer.proofs.copy.Lts as lts
 
 abbrev Inv-loop : tie.InvT-loop
 Inv-loop t₀ at s n j₀ t j = (j ≤ n) × (t ≡ over t₀ at (take j s)) × (length t ≡ length t₀)

@@ -5,32 +5,23 @@ use Rattle.writer.specs.Wrote.{over, over-out}
 use borrow.Author.Needs.{needs}
 use Rattle.writer.proofs.put_byte.Statement.{statement}
 use Rattle.writer.proofs.put_byte.Tie as tie
-use Rattle.writer.proofs.put_byte.Reads as reads
-use Rattle.writer.proofs.put_byte.Lts as lts
-use Rattle.writer.proofs.advance.Reads as advance-reads
 
--- src/lib.rt:55:9
 slice-write-t : tie.Need-slice-write-t
 slice-write-t c = search needs
 
--- src/lib.rt:56:9
 advance-requires : tie.Need-advance-requires
 advance-requires c κs = search needs
 
--- src/lib.rt:56:9
 same-length : tie.Need-same-length
 same-length c = search needs
 
--- src/lib.rt:56:9
 returns : tie.Need-returns
 unfolding over
 returns c = record { room = search needs; text = refl; next = search needs }
 
--- src/lib.rt:58:5
 advance-requires-2 : tie.Need-advance-requires-2
 advance-requires-2 c κs = search needs
 
--- src/lib.rt:51:1
 returns-2 : tie.Need-returns-2
 returns-2 c = record { room = search needs; text = sym (over-out _ _ _ (omega arith)); next = search needs }
 

@@ -3,23 +3,16 @@ use Rattle.writer.specs.Wrote.{none}
 use borrow.Author.Needs.{needs}
 use Rattle.writer.proofs.put_if.Statement.{statement}
 use Rattle.writer.proofs.put_if.Tie as tie
-use Rattle.writer.proofs.put_if.Reads as reads
-use Rattle.writer.proofs.put_if.Lts as lts
-use Rattle.writer.proofs.put.Reads as put-reads
 
--- src/lib.rt:66:9
 put-requires : tie.Need-put-requires
 put-requires c κs = search needs
 
--- src/lib.rt:66:9
 same-length : tie.Need-same-length
 same-length c = search needs
 
--- src/lib.rt:66:9
 returns : tie.Need-returns
 returns c = rw (c .before .before .before .before .if1 .taken) (c .before .before .put .ensures)
 
--- src/lib.rt:62:1
 returns-2 : tie.Need-returns-2
 returns-2 c = rw (c .if1 .left) (none (search needs))
 

@@ -4,21 +4,17 @@ use borrow.Author.Needs.{needs}
 use Rattle.writer.proofs.put_two.Statement.{statement}
 use Rattle.writer.proofs.put_two.Tie as tie
 
--- src/lib.rt:131:9
 put-requires : tie.Need-put-requires
 put-requires c κs = tt
 
--- src/lib.rt:132:5
 put-requires-2 : tie.Need-put-requires-2
 put-requires-2 c κs = tt
 
--- src/lib.rt:128:1
 returns : tie.Need-returns
 returns c =
     c .before .before .before .before .before .before .put .ensures
     ► c .before .before .put2 .ensures
 
--- src/lib.rt:128:1
 same-length : tie.Need-same-length
 same-length c = kept (returns c)
 

@@ -1,0 +1,3 @@
+pub mod Unescape
+pub mod Unescaping
+pub mod Default

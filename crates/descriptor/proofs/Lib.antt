@@ -1,0 +1,3 @@
+pub mod LatestLaws
+pub mod ViewLaws
+pub mod ViewTheorems

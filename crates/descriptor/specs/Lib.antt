@@ -1,0 +1,4 @@
+pub mod Latest
+pub mod Descriptor
+pub mod Decode
+pub mod Views

@@ -1,0 +1,4 @@
+pub mod SizeLaws
+pub mod TreeLaws
+pub mod IndexLaws
+pub mod FileLaws

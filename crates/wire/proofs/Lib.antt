@@ -1,0 +1,7 @@
+pub mod VarintLaws
+pub mod StepLaws
+pub mod RecordsLaws
+pub mod EncodingSound
+pub mod EncodingComplete
+pub mod EncodingTheorems
+pub mod Examples

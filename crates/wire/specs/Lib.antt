@@ -1,0 +1,5 @@
+pub mod Varint
+pub mod Step
+pub mod Records
+pub mod Encoding
+pub mod Contents
