@@ -3,9 +3,11 @@ use mathlib.Core.Path.{_≡_, refl, sym, ap, ap₂, _∙_}
 use mathlib.Core.Bool.{Bool, true, false}
 use mathlib.Core.Option.{Option, some, none}
 use mathlib.Core.List.{List, [], _∷_}
-use Prim.Native.Nat.{ℕ}
+use Prim.Native.Nat.{ℕ, _-_}
+use native.Mathlib.Omega.{arith}
 use lib.Dec.{eqb}
-use lib.ListN.{drop}
+use lib.ListN.{length, take, drop, length-drop}
+use lib.Seq.{take-all}
 use borrow.Author.Tests.{eq-eqb, ne-eqb}
 use Rattle.base.specs.Choose.{choose}
 use Rattle.heck.specs.Case.{between, is-upper, to-upper-camel-case}
@@ -14,7 +16,7 @@ use Rattle.heck.specs.declared.State.{State}
 use Rattle.heck.specs.declared.State.the-variants.{Start}
 use Rattle.heck.proofs.Spelling.{camel-cased}
 use Rattle.ident.specs.Ident.{strip-prefix, true-prefix}
-use Rattle.ident.specs.Prefix.{Spells}
+use Rattle.ident.specs.Prefix.{Spells, Behind}
 use Rattle.ident.specs.declared.prefix.Step.{Step}
 use Rattle.ident.specs.declared.prefix.Rest.{Rest}
 
@@ -60,3 +62,8 @@ whole-name name o r e f = ap (λ (r : Rest). cased true (r .state) (drop (r .at)
 
 pub both-start : (prefix name : List ℕ) → strip-prefix (cased true Start prefix) (cased true Start name) ≡ strip-prefix (to-upper-camel-case prefix) (to-upper-camel-case name)
 both-start prefix name = ap₂ strip-prefix (camel-cased prefix) (camel-cased name)
+
+pub rest-all : {prefix name : List ℕ} {r : ℕ} → Behind prefix name r → take (length name - r) (drop r name) ≡ true-prefix (strip-prefix prefix name) name
+rest-all {prefix} {name} {r} w =
+    let l = length-drop r name in
+    take-all (length name - r) (drop r name) (omega arith) ∙ w .rest

@@ -12,9 +12,9 @@ use lib.Seq.{sets-eq}
 use borrow.Author.Tests.{leb-true, eqb-true}
 use Rattle.base.specs.Choose.{choose, choose-case}
 use Rattle.base.specs.Tests.{bool-cases, both-ways, and-left, and-right, or-cases}
-use Rattle.base.specs.Bytes.{b}
+use Rattle.base.specs.Bytes.{b, same}
 use Rattle.writer.specs.Wrote.{Wrote, over, after}
-use Rattle.heck.specs.Case.{between, is-lower, is-upper, is-digit, class, in-word, lowered, raised, lower-first, to-snake-case, to-upper-camel-case}
+use Rattle.heck.specs.Case.{between, is-lower, is-upper, is-digit, class, in-word, lowered, raised, lower-first, parts, words, to-snake-case, to-upper-camel-case}
 use Rattle.heck.specs.Pass.{next, separated, spelt, character, piece, cased}
 use Rattle.heck.specs.declared.Class.{Class}
 use Rattle.heck.specs.declared.Class.the-variants.{Other, Digit, Lower, Upper}
@@ -110,6 +110,14 @@ camel-fits (c ∷ s) n l =
     let k = camel-length Start s in
     rw (← camel-cased (c ∷ s))
     (sanitized-length (cased true Start (c ∷ s)) 64 (omega arith) (omega arith) (λ d. let e = ap length (begins-other true c s start d) in omega arith))
+
+-- the bound is reached
+unfoldable pub longest : List ℕ
+longest = b "AAaAAaAAaAAaAAaAAaAAaAAaAAaAAaAAaAAaAAaAAaAAaAAaAAaAAaAAaAAaAAaA"
+
+pub snake-longest : (length longest ≡ 64) × (length (to-snake longest) ≡ 106)
+unfolding longest choose same between class lowered parts words to-snake-case among raw-words kept-words addition with-addition sanitize-identifier to-snake
+snake-longest = (refl, refl)
 
 -- ---- what a name leaves in an array of zeros
 drop-replicate : (z k n : ℕ) → drop k (replicate n z) ≡ replicate (n - k) z

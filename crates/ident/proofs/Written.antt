@@ -18,7 +18,7 @@ use Rattle.heck.proofs.Spelling.{snake-cased, camel-cased}
 use Rattle.ident.specs.Name.{name-start, name-part, every, is-name, has-word}
 use Rattle.ident.specs.Ident.{among, raw-words, kept-words, addition, is-trailing, with-addition, sanitize-identifier, to-snake, to-upper-camel, strip-prefix, true-prefix, strip-enum-prefix}
 use Rattle.ident.specs.Reference.{strict-keywords, reserved-keywords, keywords, never-raw, non-keyword-identifier, raw-identifier, identifier, primitive-types}
-use Rattle.ident.proofs.EveryLaws.{every-head, every-tail, every-also, all, all-among, none-among}
+use Rattle.ident.proofs.EveryLaws.{every-append, every-head, every-tail, every-also, all, all-among, none-among}
 use Rattle.ident.proofs.Spelled.{alphanumeric, in-snake, alphanumeric-cases, upper-alphanumeric, cased-alphanumeric, cased-in-snake, cased-first}
 use Rattle.ident.proofs.Stripped.{no-raw, camel, strip-cased}
 
@@ -115,11 +115,13 @@ identifier-as (c ∷ s) x (nothing r k d) h f =
 pub sanitized-identifier : (y : List ℕ) → every name-part y ≡ true → alphanumeric (getD y 0 0) ≡ true → identifier (sanitize-identifier y) ≡ true
 sanitized-identifier y h f = identifier-as y (sanitize-identifier y) (sanitized y) h f
 
+snake-parts : (s : List ℕ) → every name-part (to-snake-case s) ≡ true
+snake-parts s =
+    rw (← snake-cased s) (every-also in-snake name-part in-snake-part (cased false Start s) (cased-in-snake Start s))
+
 pub snake-identifier : (s : List ℕ) → has-word s ≡ true → identifier (to-snake s) ≡ true
 unfolding to-snake
-snake-identifier s h =
-    rw (← snake-cased s)
-    (sanitized-identifier (cased false Start s) (every-also in-snake name-part in-snake-part (cased false Start s) (cased-in-snake Start s)) (cased-first false s h))
+snake-identifier s h = sanitized-identifier (to-snake-case s) (snake-parts s) (rw (← snake-cased s) (cased-first false s h))
 
 camel-parts : (s : List ℕ) → every name-part (to-upper-camel-case s) ≡ true
 camel-parts s = every-also alphanumeric name-part alphanumeric-part (to-upper-camel-case s) (camel s .plain)
@@ -145,15 +147,51 @@ rest-begins none N h = h
 rest-begins (some r) N h =
     choose-case (λ (l : List ℕ). alphanumeric (getD l 0 0) ≡ true) (is-upper (getD r 0 0)) (λ e. upper-alphanumeric (getD r 0 0) e) (λ _. h)
 
+-- what stands behind the prefix, or the whole name
+abbrev behind-prefix : List ℕ → List ℕ → List ℕ
+behind-prefix prefix name = true-prefix (strip-prefix (to-upper-camel-case prefix) (to-upper-camel-case name)) (to-upper-camel-case name)
+
+behind-parts : (prefix name : List ℕ) → every name-part (behind-prefix prefix name) ≡ true
+behind-parts prefix name =
+    every-also alphanumeric name-part alphanumeric-part (behind-prefix prefix name)
+    (rest-parts (to-upper-camel-case prefix) (to-upper-camel-case name) (to-upper-camel-case name) (camel name .plain) (camel name .plain))
+
 pub variant-identifier : (prefix name : List ℕ) → has-word name ≡ true → identifier (strip-enum-prefix (to-upper-camel prefix) (to-upper-camel name)) ≡ true
 variant-identifier prefix name h =
     rw (strip-cased prefix name)
     (choose-case (λ (l : List ℕ). identifier (sanitize-identifier l) ≡ true) (is-trailing (addition (to-upper-camel-case prefix)))
     (λ _. sanitized-identifier (to-upper-camel-case name) (camel-parts name) (camel-begins name h))
-    (λ _. let x = true-prefix (strip-prefix (to-upper-camel-case prefix) (to-upper-camel-case name)) (to-upper-camel-case name) in
-      sanitized-identifier x
-      (every-also alphanumeric name-part alphanumeric-part x (rest-parts (to-upper-camel-case prefix) (to-upper-camel-case name) (to-upper-camel-case name) (camel name .plain) (camel name .plain)))
-      (rest-begins (strip-prefix (to-upper-camel-case prefix) (to-upper-camel-case name)) (to-upper-camel-case name) (camel-begins name h))))
+    (λ _. sanitized-identifier (behind-prefix prefix name) (behind-parts prefix name)
+    (rest-begins (strip-prefix (to-upper-camel-case prefix) (to-upper-camel-case name)) (to-upper-camel-case name) (camel-begins name h))))
+
+-- ---- of letters, digits, `_` and `#` alone, also where a name has no letter or digit
+abbrev pub written : ℕ → Bool
+written c = name-part c || eqb c 35
+
+written-as : (y x : List ℕ) → Sanitized y x → every written y ≡ true → every written x ≡ true
+unfolding every choose name-part name-start between
+written-as y x (raw r) h = h
+written-as y x (trailing k) h = every-append written y (b "_") h refl
+written-as y x (leading d) h = h
+written-as y x (nothing r k d) h = h
+
+sanitized-written : (y : List ℕ) → every name-part y ≡ true → every written (sanitize-identifier y) ≡ true
+sanitized-written y h =
+    written-as y (sanitize-identifier y) (sanitized y) (every-also name-part written (λ c e. or-left (eqb c 35) e) y h)
+
+pub snake-written : (s : List ℕ) → every written (to-snake s) ≡ true
+unfolding to-snake
+snake-written s = sanitized-written (to-snake-case s) (snake-parts s)
+
+pub camel-written : (s : List ℕ) → every written (to-upper-camel s) ≡ true
+unfolding to-upper-camel
+camel-written s = sanitized-written (to-upper-camel-case s) (camel-parts s)
+
+pub variant-written : (prefix name : List ℕ) → every written (strip-enum-prefix (to-upper-camel prefix) (to-upper-camel name)) ≡ true
+variant-written prefix name =
+    rw (strip-cased prefix name)
+    (choose-case (λ (l : List ℕ). every written (sanitize-identifier l) ≡ true) (is-trailing (addition (to-upper-camel-case prefix)))
+    (λ _. sanitized-written (to-upper-camel-case name) (camel-parts name)) (λ _. sanitized-written (behind-prefix prefix name) (behind-parts prefix name)))
 
 -- ---- never `_`, `super`, `self`, `Self`, `extern` or `crate`
 free-as : (y x : List ℕ) → Sanitized y x → among x kept-words ≡ false

@@ -1,4 +1,5 @@
 pub mod Ident
+pub mod Added
 pub mod Spaced
 pub mod Prefix
 pub mod Name

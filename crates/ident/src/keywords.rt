@@ -1,6 +1,8 @@
 // What sanitising adds to a name that is a keyword or begins with a digit.
 ghost use mathlib.Core.Path.{_≡_};
+ghost use Rattle.writer.specs.Wrote.{Wrote};
 ghost use Rattle.ident.specs.Ident.{addition, among, is-trailing};
+ghost use Rattle.ident.specs.Added.{before, behind};
 ghost use Rattle.ident.specs.Spaced.{spaced};
 
 // What is added to a name: nothing, `r#` in front, `_` behind, `_` in front.
@@ -62,5 +64,29 @@ pub fn is_trailing(added: Addition) -> bool
         Addition::Raw => false,
         Addition::Trailing => true,
         Addition::Leading => false,
+    }
+}
+
+// What is added in front of a name.
+pub fn put_before(t: &mut [u8], at: usize, added: Addition) -> usize
+    ensures { λ r. ⌜ Wrote (now (t .entry)) at (before added) (now (t .exit)) r ⌝ }
+{
+    match added {
+        Addition::Nothing => at,
+        Addition::Raw => writer::put(t, at, b"r#"),
+        Addition::Trailing => at,
+        Addition::Leading => writer::put(t, at, b"_"),
+    }
+}
+
+// What is added behind it.
+pub fn put_behind(t: &mut [u8], at: usize, added: Addition) -> usize
+    ensures { λ r. ⌜ Wrote (now (t .entry)) at (behind added) (now (t .exit)) r ⌝ }
+{
+    match added {
+        Addition::Nothing => at,
+        Addition::Raw => at,
+        Addition::Trailing => writer::put(t, at, b"_"),
+        Addition::Leading => at,
     }
 }

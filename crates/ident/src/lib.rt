@@ -6,7 +6,6 @@ mod prefix;
 
 use heck::State;
 use keywords::Addition;
-
 ghost use mathlib.Core.Path.{_≡_};
 ghost use lib.ListN.{drop};
 ghost use Rattle.writer.specs.Wrote.{Wrote};
@@ -33,27 +32,30 @@ fn addition_to(s: &[u8], from: usize, state: State, camel: bool) -> Addition
 fn put_name(t: &mut [u8], at: usize, s: &[u8], from: usize, state: State, camel: bool) -> Named
     ensures { λ r. ⌜ Wrote (now (t .entry)) at (sanitize-identifier (cased camel state (drop from (now (s .entry))))) (now (t .exit)) (r .next) ⌝ }
 {
-    match addition_to(s, from, state, camel) {
-        Addition::Nothing => {
-            let a = heck::put_case(t, at, s, from, state, camel);
-            Named { next: a }
-        }
-        Addition::Raw => {
-            let a = writer::put(t, at, b"r#");
-            let a = heck::put_case(t, a, s, from, state, camel);
-            Named { next: a }
-        }
-        Addition::Trailing => {
-            let a = heck::put_case(t, at, s, from, state, camel);
-            let a = writer::put(t, a, b"_");
-            Named { next: a }
-        }
-        Addition::Leading => {
-            let a = writer::put(t, at, b"_");
-            let a = heck::put_case(t, a, s, from, state, camel);
-            Named { next: a }
-        }
-    }
+    let added = addition_to(s, from, state, camel);
+    let a = keywords::put_before(t, at, added);
+    let a = heck::put_case(t, a, s, from, state, camel);
+    let a = keywords::put_behind(t, a, added);
+    Named { next: a }
+}
+
+// s, sanitised.
+pub fn put_sanitized(t: &mut [u8], at: usize, s: &[u8]) -> Named
+    ensures { λ r. ⌜ Wrote (now (t .entry)) at (sanitize-identifier (now (s .entry))) (now (t .exit)) (r .next) ⌝ }
+{
+    let added = keywords::addition_of(s);
+    let a = keywords::put_before(t, at, added);
+    let a = writer::put(t, a, s);
+    let a = keywords::put_behind(t, a, added);
+    Named { next: a }
+}
+
+// A name without a prefix that an uppercase letter follows, sanitised.
+pub fn put_stripped(t: &mut [u8], at: usize, prefix: &[u8], name: &[u8]) -> Named
+    ensures { λ r. ⌜ Wrote (now (t .entry)) at (strip-enum-prefix (now (prefix .entry)) (now (name .entry))) (now (t .exit)) (r .next) ⌝ }
+{
+    let from = prefix::behind_bytes(prefix, name);
+    put_sanitized(t, at, &name[from..])
 }
 
 // The snake name of s: of a field, a module.

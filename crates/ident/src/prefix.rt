@@ -6,7 +6,7 @@ ghost use lib.ListN.{drop};
 ghost use Rattle.heck.specs.Case.{to-upper-camel-case};
 ghost use Rattle.heck.specs.Pass.{cased};
 ghost use Rattle.ident.specs.Ident.{strip-prefix, true-prefix};
-ghost use Rattle.ident.specs.Prefix.{Spells};
+ghost use Rattle.ident.specs.Prefix.{Spells, Behind};
 
 // The next byte of a camel name, if there is one, and where its name goes on.
 pub struct Step {
@@ -98,4 +98,28 @@ pub fn behind(prefix: &[u8], name: &[u8]) -> Rest
             return whole();
         }
     }
+}
+
+// Where the rest of a name starts behind a prefix, both as they are.
+pub fn behind_bytes(prefix: &[u8], name: &[u8]) -> usize
+    ensures { λ r. ⌜ Behind (now (prefix .entry)) (now (name .entry)) r ⌝ }
+{
+    let mut i = 0;
+    while i < prefix.len() {
+        if name.len() <= i {
+            return 0;
+        }
+        if prefix[i] != name[i] {
+            return 0;
+        }
+        i += 1;
+    }
+    if name.len() <= i {
+        return 0;
+    }
+    let upper = heck::is_upper(name[i]);
+    if upper {
+        return i;
+    }
+    0
 }
