@@ -7,69 +7,49 @@ use Rattle.writer.specs.Wrote.{named, kept}
 use borrow.Author.Needs.{needs}
 use Rattle.literal.proofs.put_byte.Statement.{statement}
 use Rattle.literal.proofs.put_byte.Tie as tie
-use Rattle.literal.proofs.put_byte.Reads as reads
-use Rattle.literal.proofs.put_byte.Lts as lts
-use Rattle.literal.proofs.letter.Reads as letter-reads
-use Rattle.literal.proofs.put_byte_escape.Reads as put-byte-escape-reads
-use Rattle.literal.proofs.put_char.Reads as put-char-reads
-use Rattle.literal.proofs.put_pair.Reads as put-pair-reads
 
--- src/lib.rt:112:9
 letter-requires : tie.Need-letter-requires
 letter-requires c κs = search needs
 
--- src/lib.rt:114:32
 cast-put-pair : tie.Need-cast-put-pair
 cast-put-pair c = search needs
 
--- src/lib.rt:114:9
 put-pair-requires : tie.Need-put-pair-requires
 put-pair-requires c κs = search needs
 
--- src/lib.rt:114:9
 same-length : tie.Need-same-length
 same-length c = kept (c .before .before .put-pair .ensures)
 
--- src/lib.rt:114:9
 returns : tie.Need-returns
 unfolding escape escape-byte
 returns c = named (ap (each escape-char) {x = 92 ∷ (c .before .before .before .before .before .letter .result ∷ [])} {y = escape-byte (c .before .before .before .before .before .before .before .args .x)} (rw (← c .before .before .before .before .before .letter .ensures) (search (choices, c .before .before .before .before .if1 .taken) depth 9))) (c .before .before .put-pair .ensures)
 
--- src/lib.rt:117:9
 put-byte-escape-requires : tie.Need-put-byte-escape-requires
 put-byte-escape-requires c κs = search needs
 
--- src/lib.rt:117:9
 same-length-2 : tie.Need-same-length-2
 same-length-2 c = kept (c .before .before .put-byte-escape .ensures)
 
--- src/lib.rt:117:9
 returns-2 : tie.Need-returns-2
 unfolding escape escape-byte
 returns-2 c = named (ap (each escape-char) {x = byte-escape (c .before .before .before .before .before .before .before .before .args .x)} {y = escape-byte (c .before .before .before .before .before .before .before .before .args .x)} (rw (← c .before .before .before .before .before .before .letter .ensures) (search (choices, c .before .before .before .before .if2 .taken, c .before .before .before .before .before .if1 .left) depth 9))) (c .before .before .put-byte-escape .ensures)
 
--- src/lib.rt:120:9
 put-char-requires : tie.Need-put-char-requires
 put-char-requires c κs = search needs
 
--- src/lib.rt:120:9
 same-length-3 : tie.Need-same-length-3
 same-length-3 c = kept (c .before .before .put-char .ensures)
 
--- src/lib.rt:120:9
 returns-3 : tie.Need-returns-3
 unfolding escape escape-byte
 returns-3 c = named (sym (append-nil _) ∙ ap (each escape-char) {x = c .before .before .before .before .before .before .before .before .before .args .x ∷ []} {y = escape-byte (c .before .before .before .before .before .before .before .before .before .args .x)} (rw (← c .before .before .before .before .before .before .before .letter .ensures) (search (choices, c .before .before .before .before .if3 .taken, c .before .before .before .before .before .if2 .left, c .before .before .before .before .before .before .if1 .left) depth 9))) (c .before .before .put-char .ensures)
 
--- src/lib.rt:122:5
 put-byte-escape-requires-2 : tie.Need-put-byte-escape-requires-2
 put-byte-escape-requires-2 c κs = search needs
 
--- src/lib.rt:108:1
 same-length-4 : tie.Need-same-length-4
 same-length-4 c = kept (c .before .before .put-byte-escape2 .ensures)
 
--- src/lib.rt:108:1
 returns-4 : tie.Need-returns-4
 unfolding escape escape-byte
 returns-4 c = named (ap (each escape-char) {x = byte-escape (c .before .before .before .before .before .before .before .before .before .args .x)} {y = escape-byte (c .before .before .before .before .before .before .before .before .before .args .x)} (rw (← c .before .before .before .before .before .before .before .letter .ensures) (search (choices, c .before .before .before .before .if3 .left, c .before .before .before .before .before .if2 .left, c .before .before .before .before .before .before .if1 .left) depth 9))) (c .before .before .put-byte-escape2 .ensures)

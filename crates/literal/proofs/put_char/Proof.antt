@@ -4,72 +4,52 @@ use Rattle.writer.specs.Wrote.{named, kept, _►_}
 use borrow.Author.Needs.{needs}
 use Rattle.literal.proofs.put_char.Statement.{statement}
 use Rattle.literal.proofs.put_char.Tie as tie
-use Rattle.literal.proofs.put_char.Reads as reads
-use Rattle.literal.proofs.put_char.Lts as lts
-use Rattle.literal.proofs.letter.Reads as letter-reads
-use Rattle.literal.proofs.put_unicode.Reads as put-unicode-reads
-use Rattle.writer.proofs.put_byte.Reads as put-byte-reads
 
--- src/lib.rt:72:9
 letter-requires : tie.Need-letter-requires
 letter-requires c κs = search needs
 
--- src/lib.rt:74:13
 put-byte-requires : tie.Need-put-byte-requires
 put-byte-requires c κs = search needs
 
--- src/lib.rt:75:9
 put-byte-requires-2 : tie.Need-put-byte-requires-2
 put-byte-requires-2 c κs = search needs
 
--- src/lib.rt:75:9
 same-length : tie.Need-same-length
 same-length c = kept (c .before .before .before .before .before .before .put-byte .ensures ► c .before .before .put-byte2 .ensures)
 
--- src/lib.rt:75:9
 returns : tie.Need-returns
 unfolding escape escape-char
 returns c = rw (← c .before .before .before .before .before .before .before .before .before .letter .ensures) (named (search (choices, c .before .before .before .before .before .before .before .before .if1 .taken) depth 9) (c .before .before .before .before .before .before .put-byte .ensures ► c .before .before .put-byte2 .ensures))
 
--- src/lib.rt:78:9
 put-unicode-requires : tie.Need-put-unicode-requires
 put-unicode-requires c κs = search needs
 
--- src/lib.rt:78:9
 same-length-2 : tie.Need-same-length-2
 same-length-2 c = kept (c .before .before .put-unicode .ensures)
 
--- src/lib.rt:78:9
 returns-2 : tie.Need-returns-2
 unfolding escape escape-char
 returns-2 c = rw (← c .before .before .before .before .before .before .letter .ensures) (named (search (choices, c .before .before .before .before .if2 .taken, c .before .before .before .before .before .if1 .left) depth 9) (c .before .before .put-unicode .ensures))
 
--- src/lib.rt:81:17
 cast-x : tie.Need-cast-x
 cast-x c = search needs
 
--- src/lib.rt:82:9
 put-byte-requires-3 : tie.Need-put-byte-requires-3
 put-byte-requires-3 c κs = search needs
 
--- src/lib.rt:82:9
 same-length-3 : tie.Need-same-length-3
 same-length-3 c = kept (c .before .before .put-byte3 .ensures)
 
--- src/lib.rt:82:9
 returns-3 : tie.Need-returns-3
 unfolding escape escape-char
 returns-3 c = rw (← c .before .before .before .before .before .before .before .letter .ensures) (named (search (choices, c .before .before .before .before .if3 .taken, c .before .before .before .before .before .if2 .left, c .before .before .before .before .before .before .if1 .left) depth 9) (c .before .before .put-byte3 .ensures))
 
--- src/lib.rt:84:5
 put-unicode-requires-2 : tie.Need-put-unicode-requires-2
 put-unicode-requires-2 c κs = search needs
 
--- src/lib.rt:69:1
 same-length-4 : tie.Need-same-length-4
 same-length-4 c = kept (c .before .before .put-unicode2 .ensures)
 
--- src/lib.rt:69:1
 returns-4 : tie.Need-returns-4
 unfolding escape escape-char
 returns-4 c = rw (← c .before .before .before .before .before .before .before .letter .ensures) (named (search (choices, c .before .before .before .before .if3 .left, c .before .before .before .before .before .if2 .left, c .before .before .before .before .before .before .if1 .left) depth 9) (c .before .before .put-unicode2 .ensures))
