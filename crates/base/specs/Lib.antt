@@ -4,3 +4,4 @@ pub mod Bytes
 pub mod Given
 pub mod Each
 pub mod Steps
+pub mod Encoded

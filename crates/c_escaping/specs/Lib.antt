@@ -1,3 +1,4 @@
 pub mod Unescape
 pub mod Unescaping
 pub mod Default
+pub mod CEscape

@@ -89,7 +89,7 @@ step-byte s p x next = go (unescape-at s p) (fine s p)
     go (Byte y n) f e = let a : y ≡ x = cc in let b : n ≡ next = cc in rw (a, b) at f
 
 -- ---- laws of the pass
-forward : (s : List ℕ) → Forward (λ k. step-of (unescape-at s k))
+pub forward : (s : List ℕ) → Forward (λ k. step-of (unescape-at s k))
 forward s p x next e = step-byte s p x next e .forward
 
 module _ (s : List ℕ) (p : ℕ) where

@@ -20,16 +20,17 @@ hex-digits (suc k) n = choose (ltb n 16) [] (hex-digits k (n / 16)) ++ (hex-digi
 abbrev pub hexadecimal : ℕ → List ℕ
 hexadecimal n = hex-digits 8 n
 
+-- an escape of one letter, as `\t`: its letter, and 0 for a character that has none
+unfoldable pub letter : ℕ → ℕ
+letter c =
+    choose (eqb c 9) 116
+    (choose (eqb c 13) 114
+    (choose (eqb c 10) 110 (choose (eqb c 39) 39 (choose (eqb c 34) 34 (choose (eqb c 92) 92 0)))))
+
 -- what a character and a byte have alike: an escape of one letter, or itself from 0x20 to 0x7E; `other` stands for the rest
 unfoldable pub escape : ℕ → List ℕ → List ℕ
 escape c other =
-    choose (eqb c 9) (b "\\t")
-    (choose (eqb c 13) (b "\\r")
-    (choose (eqb c 10) (b "\\n")
-    (choose (eqb c 39) (b "\\'")
-    (choose (eqb c 34) (b "\\\"")
-    (choose (eqb c 92) (b "\\\\")
-    (choose (ltb c 0x20) other (choose (leb c 0x7E) (c ∷ []) other)))))))
+    choose (eqb (letter c) 0) (choose (ltb c 0x20) other (choose (leb c 0x7E) (c ∷ []) other)) (92 ∷ (letter c ∷ []))
 
 unfoldable pub unicode-escape : ℕ → List ℕ
 unicode-escape c = b "\\u{" ++ hexadecimal c ++ b "}"

@@ -10,7 +10,7 @@ use Rattle.base.specs.Choose.{choose, choose-case}
 use Rattle.base.specs.Bytes.{b}
 use Rattle.base.specs.Each.{each, All, all-append, all-each}
 use Rattle.utf8.specs.Utf8.{chars}
-use Rattle.literal.specs.Escape.{hex-digit, hex-digits, escape, unicode-escape, byte-escape, escape-char, escape-byte, escape-text, escape-bytes}
+use Rattle.literal.specs.Escape.{hex-digit, hex-digits, letter as letter-of, escape, unicode-escape, byte-escape, escape-char, escape-byte, escape-text, escape-bytes}
 
 -- a character that is written as it is
 pub record Plain (c : ℕ) : Type 0 where
@@ -20,14 +20,15 @@ pub record Plain (c : ℕ) : Type 0 where
   pub no-backslash : c ≡ 92 → ⊥
 
 pub escape-case : (P : List ℕ → Type 0) (c : ℕ) (other : List ℕ) → (c ≡ 9 → P (b "\\t")) → (c ≡ 13 → P (b "\\r")) → (c ≡ 10 → P (b "\\n")) → (c ≡ 39 → P (b "\\'")) → (c ≡ 34 → P (b "\\\"")) → (c ≡ 92 → P (b "\\\\")) → (Plain c → P (c ∷ [])) → P other → P (escape c other)
-unfolding escape
+unfolding escape letter-of choose
 escape-case P c other tab return line single double back plain rest =
-    choose-case P (eqb c 9) (λ e. tab (eqb-true c 9 e))
-    (λ _. choose-case P (eqb c 13) (λ e. return (eqb-true c 13 e))
-    (λ _. choose-case P (eqb c 10) (λ e. line (eqb-true c 10 e))
-    (λ _. choose-case P (eqb c 39) (λ e. single (eqb-true c 39 e))
-    (λ _. choose-case P (eqb c 34) (λ e. double (eqb-true c 34 e))
-    (λ n. choose-case P (eqb c 92) (λ e. back (eqb-true c 92 e))
+    let Q : ℕ → Type 0 = λ l. P (choose (eqb l 0) (choose (ltb c 0x20) other (choose (leb c 0x7E) (c ∷ []) other)) (92 ∷ (l ∷ []))) in
+    choose-case Q (eqb c 9) (λ e. tab (eqb-true c 9 e))
+    (λ _. choose-case Q (eqb c 13) (λ e. return (eqb-true c 13 e))
+    (λ _. choose-case Q (eqb c 10) (λ e. line (eqb-true c 10 e))
+    (λ _. choose-case Q (eqb c 39) (λ e. single (eqb-true c 39 e))
+    (λ _. choose-case Q (eqb c 34) (λ e. double (eqb-true c 34 e))
+    (λ n. choose-case Q (eqb c 92) (λ e. back (eqb-true c 92 e))
     (λ m. choose-case P (ltb c 0x20) (λ _. rest)
     (λ l. choose-case P (leb c 0x7E)
     (λ h. plain (record { low = ltb-false c 0x20 l; high = leb-true c 0x7E h; no-quote = eqb-false c 34 n; no-backslash = eqb-false c 92 m }))

@@ -16,7 +16,7 @@ use Rattle.utf8.specs.Utf8.{chars, is-utf8, charAt, two, second, second-low, se
 use Rattle.utf8.specs.Encode.{scalar, encode}
 use Rattle.utf8.specs.Decoding.{scalar-limit, scalar-low}
 use Rattle.utf8.specs.Chars.{chars-scalar, encoded-again}
-use Rattle.literal.specs.Escape.{hex-digit, hex-digits, escape, unicode-escape, byte-escape, escape-char, escape-byte, escape-text, escape-bytes}
+use Rattle.literal.specs.Escape.{hex-digit, hex-digits, letter as escape-letter, escape, unicode-escape, byte-escape, escape-char, escape-byte, escape-text, escape-bytes}
 use Rattle.literal.specs.HexLaws.{hex-last, hex-more}
 use Rattle.literal.specs.EscapeCases.{Printable, printable-byte, everything, Plain, escape-case, Digit, digit, decimal, letter}
 use Rattle.literal.specs.Reference.{Kind, string, byte-string, Place, plain, behind, hex, unicode, hex-half, digits, Move, to, gives, refused, move, letter as letter-of, itself, hex-value, closed, push, follow, read-from, read}
@@ -189,5 +189,5 @@ bytes-again bs h = each-again byte-string escape-byte Byte escaped-byte-reads bs
 
 -- ---- document 01's table: the default U+00E9
 pub table-accent : escape-text (0xC3 ∷ (0xA9 ∷ [])) ≡ b "\\u{e9}"
-unfolding escape-text escape-char escape unicode-escape hex-digits hex-digit choose run steps on-step charAt two second second-low second-high between
+unfolding escape-text escape-char escape escape-letter unicode-escape hex-digits hex-digit choose run steps on-step charAt two second second-low second-high between
 table-accent = refl

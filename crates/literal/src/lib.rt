@@ -3,7 +3,7 @@ ghost use mathlib.Core.Path.{_≡_};
 ghost use mathlib.Core.List.{[], _∷_};
 ghost use Rattle.base.specs.Each.{each};
 ghost use Rattle.writer.specs.Wrote.{Wrote};
-ghost use Rattle.literal.specs.Escape.{hex-digit, hex-digits, unicode-escape, byte-escape, escape-char, escape-byte, escape-text};
+ghost use Rattle.literal.specs.Escape.{hex-digit, hex-digits, letter, unicode-escape, byte-escape, escape-char, escape-byte, escape-text};
 use utf8::Decoded;
 
 // The last hexadecimal digit of n.
@@ -40,27 +40,39 @@ fn put_unicode(t: &mut [u8], at: usize, c: u32) -> usize
     writer::put(t, a, b"}")
 }
 
+// The letter of an escape of one letter, and 0 for a character that has none.
+fn letter(c: u32) -> u8
+    ensures { λ r. ⌜ r ≡ letter c ⌝ }
+{
+    if c == 9 {
+        return b't';
+    }
+    if c == 13 {
+        return b'r';
+    }
+    if c == 10 {
+        return b'n';
+    }
+    if c == 39 {
+        return 39;
+    }
+    if c == 34 {
+        return 34;
+    }
+    if c == 92 {
+        return 92;
+    }
+    0
+}
+
 // `char::escape_default`
 pub fn put_char(t: &mut [u8], at: usize, c: u32) -> usize
     ensures { λ r. ⌜ Wrote (now (t .entry)) at (escape-char c) (now (t .exit)) r ⌝ }
 {
-    if c == 9 {
-        return writer::put(t, at, b"\\t");
-    }
-    if c == 13 {
-        return writer::put(t, at, b"\\r");
-    }
-    if c == 10 {
-        return writer::put(t, at, b"\\n");
-    }
-    if c == 39 {
-        return writer::put(t, at, b"\\'");
-    }
-    if c == 34 {
-        return writer::put(t, at, b"\\\"");
-    }
-    if c == 92 {
-        return writer::put(t, at, b"\\\\");
+    let l = letter(c);
+    if l != 0 {
+        let a = writer::put_byte(t, at, 92);
+        return writer::put_byte(t, a, l);
     }
     if c < 0x20 {
         return put_unicode(t, at, c);
@@ -97,23 +109,9 @@ pub fn put_byte(t: &mut [u8], at: usize, x: u8) -> usize
     ensures { λ r. ⌜ Wrote (now (t .entry)) at (each escape-char (escape-byte x)) (now (t .exit)) r ⌝ }
 {
     let c = x as u32;
-    if c == 9 {
-        return put_pair(t, at, 116);
-    }
-    if c == 13 {
-        return put_pair(t, at, 114);
-    }
-    if c == 10 {
-        return put_pair(t, at, 110);
-    }
-    if c == 39 {
-        return put_pair(t, at, 39);
-    }
-    if c == 34 {
-        return put_pair(t, at, 34);
-    }
-    if c == 92 {
-        return put_pair(t, at, 92);
+    let l = letter(c);
+    if l != 0 {
+        return put_pair(t, at, l as u32);
     }
     if c < 0x20 {
         return put_byte_escape(t, at, c);

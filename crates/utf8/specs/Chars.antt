@@ -1,13 +1,13 @@
 -- A whole text: its characters one after the other, and that well-formed texts are the encodings of characters. Assumes nothing.
 use mathlib.Core.Path.{_≡_, refl, sym, ap, _∙_}
 use mathlib.Core.Bool.{Bool, true, false}
-use mathlib.Core.List.{List, [], _∷_, _++_, append-nil, append-assoc}
-use Prim.Native.Nat.{ℕ, zero, suc, _+_, _≤_, _<_}
+use mathlib.Core.List.{List, _++_}
+use Prim.Native.Nat.{ℕ, _≤_, _<_}
 use native.Mathlib.Omega.{arith}
-use lib.ListN.{length, drop, length-append, drop-of-length-le}
-use lib.Seq.{drop-append-seam}
+use lib.ListN.{length, drop, drop-of-length-le}
 use Rattle.base.specs.Each.{each, All}
 use Rattle.base.specs.Steps.{Step, item, fault, Run, ended, broken, _then_, run, whole, items, Forward, run-end, run-fault, run-item, run-ind}
+use Rattle.base.specs.Encoded.{run-of, whole-run, items-run, written-back}
 use Rattle.utf8.specs.Utf8.{charAt, step-of, chars-from, chars, is-utf8}
 use Rattle.utf8.specs.Encode.{scalar, encode}
 use Rattle.utf8.specs.Decoding.{Decodes, only-encodings, decodes}
@@ -57,35 +57,14 @@ encoded-again s =
     0
 
 -- ---- the encoding of characters is well-formed, and has those characters
-abbrev run-of : List ℕ → Run
-run-of [] = ended
-run-of (c ∷ cs) = c then run-of cs
-
-encoded-from : (p cs : List ℕ) → All (λ c. scalar c ≡ true) cs → chars-from (p ++ each encode cs) (length p) ≡ run-of cs
-encoded-from p [] h = chars-end (p ++ []) (length p) (rw append-nil (omega arith))
-encoded-from p (c ∷ cs) h =
-    let s : List ℕ = p ++ (encode c ++ each encode cs) in
-    let next : ℕ = length p + length (encode c) in
-    let e : charAt s (length p) ≡ Character c next = decodes s (length p) c (each encode cs) (h .0) (drop-append-seam p (encode c ++ each encode cs)) in
-    let d : Decodes s (length p) c next = only-encodings s (length p) c next e in
-    let w : length p < length s = omega (arith, d .forward, d .within) in
-    chars-next s (length p) w (Character c next) (sym e) c next refl
-    ∙ ap (λ (r : Run). c then r)
-    (ap (λ (k : ℕ). chars-from s k) (sym (length-append p (encode c)))
-    ∙ ap (λ (l : List ℕ). chars-from l (length (p ++ encode c))) (sym (append-assoc p (encode c) (each encode cs)))
-    ∙ encoded-from (p ++ encode c) cs (h .1))
-
-whole-run : (cs : List ℕ) → whole (run-of cs) ≡ true
-whole-run [] = refl
-whole-run (c ∷ cs) = whole-run cs
-
-items-run : (cs : List ℕ) → items (run-of cs) ≡ cs
-items-run [] = refl
-items-run (c ∷ cs) = ap (λ (l : List ℕ). c ∷ l) (items-run cs)
-
 module _ (cs : List ℕ) (h : All (λ c. scalar c ≡ true) cs) where
+  encoded-run : chars-from (each encode cs) 0 ≡ run-of cs
+  encoded-run =
+      written-back (λ s k. step-of (charAt s k)) encode (λ c. scalar c ≡ true) forward
+      (λ s at c q is here. ap step-of (decodes s at c q is here)) cs h
+
   pub encoded-is-utf8 : is-utf8 (each encode cs) ≡ true
-  encoded-is-utf8 = ap whole (encoded-from [] cs h) ∙ whole-run cs
+  encoded-is-utf8 = ap whole encoded-run ∙ whole-run cs
 
   pub encoded-chars : chars (each encode cs) ≡ cs
-  encoded-chars = ap items (encoded-from [] cs h) ∙ items-run cs
+  encoded-chars = ap items encoded-run ∙ items-run cs

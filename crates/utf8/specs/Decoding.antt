@@ -5,14 +5,13 @@ use mathlib.Core.List.{List, [], _∷_, _++_}
 use Prim.Native.Nat.{ℕ, zero, suc, _+_, _*_, _-_, _/_, _%_, _≤_, _<_}
 use native.Mathlib.Omega.{arith}
 use native.Mathlib.Decide.{decLe, decLt, ℕ-discrete}
-use native.Mathlib.Nat.{add-zero}
 use lib.Dec.{leb, ltb, eqb}
-use lib.ListN.{length, getD, drop, length-drop, List·getD-eq-default}
-use lib.Seq.{drop-cons, getD-drop}
+use lib.ListN.{length, getD, drop, List·getD-eq-default}
+use lib.Seq.{drop-cons}
 use borrow.Author.Tests.{ltb-true, ltb-false, leb-true, leb-false, eqb-true, eqb-false, lt-ltb, le-ltb, le-leb, lt-leb, eq-eqb, ne-eqb}
 use Rattle.base.specs.Choose.{choose, choose-case, choices, flags}
-use Rattle.base.specs.Steps.{Step, item, fault}
-use Rattle.utf8.specs.Utf8.{between, second-low, second-high, second, later, two, three, four, charAt, step-of}
+use Rattle.base.specs.Encoded.{byte-there, first-there, starts}
+use Rattle.utf8.specs.Utf8.{between, second-low, second-high, second, later, two, three, four, charAt}
 use Rattle.utf8.specs.Encode.{scalar, encode}
 use Rattle.utf8.specs.declared.Decoded.{Decoded}
 use Rattle.utf8.specs.declared.Decoded.the-variants.{Character, Fault}
@@ -37,7 +36,7 @@ in-range : (low high x : ℕ) → between low high x ≡ true → Between low hi
 unfolding between
 in-range low high x = choose-case (λ (t : Bool). t ≡ true → Between low high x) (ltb x low) (λ e h. absurd (no-flag h)) (λ e h. record { above = ltb-false x low e; below = leb-true x high h })
 
-range : (low high x : ℕ) → low ≤ x → x ≤ high → between low high x ≡ true
+pub range : (low high x : ℕ) → low ≤ x → x ≤ high → between low high x ≡ true
 unfolding between
 range low high x p q = sym (search (choices, sym (le-leb x high q)) depth 5)
 
@@ -252,29 +251,19 @@ pub only-encodings : (s : List ℕ) (i c next : ℕ) → charAt s i ≡ Characte
 only-encodings s i c next e = rw e at (fine s i)
 
 -- ---- a step at an encoding gives its character
-module _ (s : List ℕ) (i : ℕ) (p : List ℕ) (here : drop i s ≡ p) where
-  byte-at : (k : ℕ) → getD s (i + k) 0 ≡ getD p k 0
-  byte-at k = sym (getD-drop i s k 0) ∙ ap (λ (l : List ℕ). getD l k 0) here
-
-  first-at : getD s i 0 ≡ getD p 0 0
-  first-at = ap (λ (k : ℕ). getD s k 0) (sym (add-zero i)) ∙ byte-at 0
-
-  starts : 0 < length p → i < length s
-  starts h = let e : length s - i ≡ length p = sym (length-drop i s) ∙ ap length here in omega arith
-
 module _ (s : List ℕ) (i a : ℕ) (q : List ℕ) where
   at-one : drop i s ≡ a ∷ q → a ≤ 0x7F → Character a (i + 1) ≡ charAt s i
   unfolding charAt
   at-one e h =
       let w : i < length s = starts s i (a ∷ q) e (omega arith) in
-      rw (first-at s i (a ∷ q) e) (search choices depth 9)
+      rw (first-there s i (a ∷ q) e) (search choices depth 9)
 
   at-two : (x : ℕ) → drop i s ≡ a ∷ (x ∷ q) → 0xC2 ≤ a → a ≤ 0xDF → Second a x → Character (a % 32 * 64 + x % 64) (i + 2) ≡ charAt s i
   unfolding charAt two
   at-two x e h k r =
       let w : i < length s = starts s i (a ∷ (x ∷ q)) e (omega arith) in
       let g : 0x7F < a = omega arith in
-      rw (first-at s i (a ∷ (x ∷ q)) e, byte-at s i (a ∷ (x ∷ q)) e 1)
+      rw (first-there s i (a ∷ (x ∷ q)) e, byte-there s i (a ∷ (x ∷ q)) e 1)
       (search (choices, flags, is-second a x r) depth 12)
 
   at-three : (x y : ℕ) → drop i s ≡ a ∷ (x ∷ (y ∷ q)) → 0xDF < a → a ≤ 0xEF → Second a x → Between 0x80 0xBF y → Character (a % 16 * 4096 + x % 64 * 64 + y % 64) (i + 3) ≡ charAt s i
@@ -283,7 +272,7 @@ module _ (s : List ℕ) (i a : ℕ) (q : List ℕ) where
       let w : i < length s = starts s i (a ∷ (x ∷ (y ∷ q))) e (omega arith) in
       let g : 0x7F < a = omega arith in
       let f : 0xC2 ≤ a = omega arith in
-      rw (first-at s i (a ∷ (x ∷ (y ∷ q))) e, byte-at s i (a ∷ (x ∷ (y ∷ q))) e 1, byte-at s i (a ∷ (x ∷ (y ∷ q))) e 2)
+      rw (first-there s i (a ∷ (x ∷ (y ∷ q))) e, byte-there s i (a ∷ (x ∷ (y ∷ q))) e 1, byte-there s i (a ∷ (x ∷ (y ∷ q))) e 2)
       (search (choices, flags, is-second a x r, is-later y (t .above) (t .below)) depth 12)
 
   at-four : (x y z : ℕ) → drop i s ≡ a ∷ (x ∷ (y ∷ (z ∷ q))) → 0xEF < a → a ≤ 0xF4 → Second a x → Between 0x80 0xBF y → Between 0x80 0xBF z → Character (a % 8 * 262144 + x % 64 * 4096 + y % 64 * 64 + z % 64) (i + 4) ≡ charAt s i
@@ -293,7 +282,7 @@ module _ (s : List ℕ) (i a : ℕ) (q : List ℕ) where
       let g : 0x7F < a = omega arith in
       let f : 0xC2 ≤ a = omega arith in
       let d : 0xDF < a = omega arith in
-      rw (first-at s i (a ∷ (x ∷ (y ∷ (z ∷ q)))) e, byte-at s i (a ∷ (x ∷ (y ∷ (z ∷ q)))) e 1, byte-at s i (a ∷ (x ∷ (y ∷ (z ∷ q)))) e 2, byte-at s i (a ∷ (x ∷ (y ∷ (z ∷ q)))) e 3)
+      rw (first-there s i (a ∷ (x ∷ (y ∷ (z ∷ q)))) e, byte-there s i (a ∷ (x ∷ (y ∷ (z ∷ q)))) e 1, byte-there s i (a ∷ (x ∷ (y ∷ (z ∷ q)))) e 2, byte-there s i (a ∷ (x ∷ (y ∷ (z ∷ q)))) e 3)
       (search (choices, flags, is-second a x r, is-later y (t .above) (t .below), is-later z (u .above) (u .below)) depth 14)
 
 -- ---- what a scalar value is not

@@ -3,19 +3,14 @@ use Rattle.c_escaping.specs.Unescape.{byte-of}
 use borrow.Author.Needs.{needs}
 use Rattle.c_escaping.proofs.byte_of.Statement.{statement}
 use Rattle.c_escaping.proofs.byte_of.Tie as tie
-use Rattle.c_escaping.proofs.byte_of.Reads as reads
-use Rattle.c_escaping.proofs.byte_of.Lts as lts
 
--- src/lib.rt:19:17
 cast-x : tie.Need-cast-x
 cast-x c = search needs
 
--- src/lib.rt:20:9
 returns : tie.Need-returns
 unfolding byte-of
 returns c = search (choices, c .if1 .taken) depth 9
 
--- src/lib.rt:15:1
 returns-2 : tie.Need-returns-2
 unfolding byte-of
 returns-2 c = search (choices, c .if1 .left) depth 9

@@ -3,58 +3,40 @@ use Rattle.c_escaping.specs.Unescape.{escape-at}
 use borrow.Author.Needs.{needs}
 use Rattle.c_escaping.proofs.escape_at.Statement.{statement}
 use Rattle.c_escaping.proofs.escape_at.Tie as tie
-use Rattle.c_escaping.proofs.escape_at.Reads as reads
-use Rattle.c_escaping.proofs.escape_at.Lts as lts
-use Rattle.base.proofs.byte_at.Reads as byte-at-reads
-use Rattle.c_escaping.proofs.hex_at.Reads as hex-at-reads
-use Rattle.c_escaping.proofs.is_octal.Reads as is-octal-reads
-use Rattle.c_escaping.proofs.letter.Reads as letter-reads
-use Rattle.c_escaping.proofs.octal_at.Reads as octal-at-reads
 
--- src/lib.rt:148:9
 byte-at-requires : tie.Need-byte-at-requires
 byte-at-requires c κs = search needs
 
--- src/lib.rt:149:8
 is-octal-requires : tie.Need-is-octal-requires
 is-octal-requires c κs = search needs
 
--- src/lib.rt:150:9
 octal-at-requires : tie.Need-octal-at-requires
 octal-at-requires c κs = search needs
 
--- src/lib.rt:150:9
 returns : tie.Need-returns
 unfolding escape-at
 returns c = rw (← c .before .before .before .byte-at .ensures) (search (calls, choices, c .octal-at .ensures, c .before .if1 .taken, c .before .before .is-octal .ensures, c .before .before .before .byte-at .ensures) depth 9)
 
--- src/lib.rt:152:16
 add-next : tie.Need-add-next
 add-next c = search needs
 
--- src/lib.rt:154:9
 hex-at-requires : tie.Need-hex-at-requires
 hex-at-requires c κs = search needs
 
--- src/lib.rt:154:9
 returns-2 : tie.Need-returns-2
 unfolding escape-at
 returns-2 c = rw (← c .before .before .before .before .byte-at .ensures) (search (calls, choices, c .hex-at .ensures, c .before .if2 .taken, c .before .before .if1 .left, c .before .before .before .is-octal .ensures, c .before .before .before .before .byte-at .ensures) depth 9)
 
--- src/lib.rt:157:9
 hex-at-requires-2 : tie.Need-hex-at-requires-2
 hex-at-requires-2 c κs = search needs
 
--- src/lib.rt:157:9
 returns-3 : tie.Need-returns-3
 unfolding escape-at
 returns-3 c = rw (← c .before .before .before .before .before .byte-at .ensures) (search (calls, choices, c .hex-at2 .ensures, c .before .if3 .taken, c .before .before .if2 .left, c .before .before .before .if1 .left, c .before .before .before .before .is-octal .ensures, c .before .before .before .before .before .byte-at .ensures) depth 9)
 
--- src/lib.rt:159:5
 letter-requires : tie.Need-letter-requires
 letter-requires c κs = search needs
 
--- src/lib.rt:144:1
 returns-4 : tie.Need-returns-4
 unfolding escape-at
 returns-4 c = rw (← c .before .before .before .before .before .byte-at .ensures) (search (calls, choices, c .letter .ensures, c .before .if3 .left, c .before .before .if2 .left, c .before .before .before .if1 .left, c .before .before .before .before .is-octal .ensures, c .before .before .before .before .before .byte-at .ensures) depth 9)

@@ -3,33 +3,24 @@ use Rattle.c_escaping.specs.Unescape.{is-hex}
 use borrow.Author.Needs.{needs}
 use Rattle.c_escaping.proofs.is_hex.Statement.{statement}
 use Rattle.c_escaping.proofs.is_hex.Tie as tie
-use Rattle.c_escaping.proofs.is_hex.Reads as reads
-use Rattle.c_escaping.proofs.is_hex.Lts as lts
-use Rattle.utf8.proofs.between.Reads as between-reads
 
--- src/lib.rt:104:8
 between-requires : tie.Need-between-requires
 between-requires c κs = search needs
 
--- src/lib.rt:105:9
 returns : tie.Need-returns
 unfolding is-hex
 returns c = search (calls, c .if1 .taken, c .before .between .ensures) depth 9
 
--- src/lib.rt:107:8
 between-requires-2 : tie.Need-between-requires-2
 between-requires-2 c κs = search needs
 
--- src/lib.rt:108:9
 returns-2 : tie.Need-returns-2
 unfolding is-hex
 returns-2 c = search (calls, c .if2 .taken, c .before .between2 .ensures, c .before .before .if1 .left, c .before .before .before .between .ensures) depth 9
 
--- src/lib.rt:110:5
 between-requires-3 : tie.Need-between-requires-3
 between-requires-3 c κs = search needs
 
--- src/lib.rt:100:1
 returns-3 : tie.Need-returns-3
 unfolding is-hex
 returns-3 c = search (calls, c .between3 .ensures, c .before .if2 .left, c .before .before .between2 .ensures, c .before .before .before .if1 .left, c .before .before .before .before .between .ensures) depth 9

@@ -3,124 +3,90 @@ use Rattle.c_escaping.specs.Unescape.{octal-at}
 use borrow.Author.Needs.{needs}
 use Rattle.c_escaping.proofs.octal_at.Statement.{statement}
 use Rattle.c_escaping.proofs.octal_at.Tie as tie
-use Rattle.c_escaping.proofs.octal_at.Reads as reads
-use Rattle.c_escaping.proofs.octal_at.Lts as lts
-use Rattle.base.proofs.byte_at.Reads as byte-at-reads
-use Rattle.c_escaping.proofs.byte_of.Reads as byte-of-reads
-use Rattle.c_escaping.proofs.is_octal.Reads as is-octal-reads
-use Rattle.c_escaping.proofs.less.Reads as less-reads
 
--- src/lib.rt:86:30
 add-byte-at : tie.Need-add-byte-at
 add-byte-at c = search needs
 
--- src/lib.rt:86:9
 byte-at-requires : tie.Need-byte-at-requires
 byte-at-requires c κs = search needs
 
--- src/lib.rt:87:30
 add-byte-at-2 : tie.Need-add-byte-at-2
 add-byte-at-2 c = search needs
 
--- src/lib.rt:87:9
 byte-at-requires-2 : tie.Need-byte-at-requires-2
 byte-at-requires-2 c κs = search needs
 
--- src/lib.rt:88:18
 byte-at-requires-3 : tie.Need-byte-at-requires-3
 byte-at-requires-3 c κs = search needs
 
--- src/lib.rt:88:13
 less-requires : tie.Need-less-requires
 less-requires c κs = search needs
 
--- src/lib.rt:88:13
 cast-x : tie.Need-cast-x
 cast-x c = search needs
 
--- src/lib.rt:89:13
 less-requires-2 : tie.Need-less-requires-2
 less-requires-2 c κs = search needs
 
--- src/lib.rt:89:13
 cast-y : tie.Need-cast-y
 cast-y c = search needs
 
--- src/lib.rt:90:13
 less-requires-3 : tie.Need-less-requires-3
 less-requires-3 c κs = search needs
 
--- src/lib.rt:90:13
 cast-z : tie.Need-cast-z
 cast-z c = search needs
 
--- src/lib.rt:91:8
 is-octal-requires : tie.Need-is-octal-requires
 is-octal-requires c κs = search needs
 
--- src/lib.rt:92:12
 is-octal-requires-2 : tie.Need-is-octal-requires-2
 is-octal-requires-2 c κs = search needs
 
--- src/lib.rt:93:29
 mul-byte-of : tie.Need-mul-byte-of
 mul-byte-of c = search needs
 
--- src/lib.rt:93:29
 add-byte-of : tie.Need-add-byte-of
 add-byte-of c = search needs
 
--- src/lib.rt:93:28
 mul-byte-of-2 : tie.Need-mul-byte-of-2
 mul-byte-of-2 c = search needs
 
--- src/lib.rt:93:28
 add-byte-of-2 : tie.Need-add-byte-of-2
 add-byte-of-2 c = search needs
 
--- src/lib.rt:93:49
 add-byte-of-3 : tie.Need-add-byte-of-3
 add-byte-of-3 c = search needs
 
--- src/lib.rt:93:13
 byte-of-requires : tie.Need-byte-of-requires
 byte-of-requires c κs = search needs
 
--- src/lib.rt:93:13
 returns : tie.Need-returns
 unfolding octal-at
 returns c = rw (← c .before .before .before .before .before .before .before .before .before .before .byte-at .ensures, ← c .before .before .before .before .before .before .before .before .before .byte-at2 .ensures, ← c .before .before .before .before .before .before .before .before .byte-at3 .ensures, ← c .before .before .before .before .before .before .before .less .ensures, ← c .before .before .before .before .before .before .less2 .ensures, ← c .before .before .before .before .before .less3 .ensures) (search (calls, c .byte-of .ensures, c .before .if2 .taken, c .before .before .is-octal2 .ensures, c .before .before .before .if1 .taken, c .before .before .before .before .is-octal .ensures, c .before .before .before .before .before .less3 .ensures, c .before .before .before .before .before .before .less2 .ensures, c .before .before .before .before .before .before .before .less .ensures, c .before .before .before .before .before .before .before .before .byte-at3 .ensures, c .before .before .before .before .before .before .before .before .before .byte-at2 .ensures, c .before .before .before .before .before .before .before .before .before .before .byte-at .ensures) depth 9)
 
--- src/lib.rt:95:24
 mul-byte-of-3 : tie.Need-mul-byte-of-3
 mul-byte-of-3 c = search needs
 
--- src/lib.rt:95:24
 add-byte-of-4 : tie.Need-add-byte-of-4
 add-byte-of-4 c = search needs
 
--- src/lib.rt:95:35
 add-byte-of-5 : tie.Need-add-byte-of-5
 add-byte-of-5 c = search needs
 
--- src/lib.rt:95:9
 byte-of-requires-2 : tie.Need-byte-of-requires-2
 byte-of-requires-2 c κs = search needs
 
--- src/lib.rt:95:9
 returns-2 : tie.Need-returns-2
 unfolding octal-at
 returns-2 c = rw (← c .before .before .before .before .before .before .before .before .before .before .byte-at .ensures, ← c .before .before .before .before .before .before .before .before .before .byte-at2 .ensures, ← c .before .before .before .before .before .before .before .before .byte-at3 .ensures, ← c .before .before .before .before .before .before .before .less .ensures, ← c .before .before .before .before .before .before .less2 .ensures, ← c .before .before .before .before .before .less3 .ensures) (search (calls, c .byte-of2 .ensures, c .before .if2 .left, c .before .before .is-octal2 .ensures, c .before .before .before .if1 .taken, c .before .before .before .before .is-octal .ensures, c .before .before .before .before .before .less3 .ensures, c .before .before .before .before .before .before .less2 .ensures, c .before .before .before .before .before .before .before .less .ensures, c .before .before .before .before .before .before .before .before .byte-at3 .ensures, c .before .before .before .before .before .before .before .before .before .byte-at2 .ensures, c .before .before .before .before .before .before .before .before .before .before .byte-at .ensures) depth 9)
 
--- src/lib.rt:97:16
 add-byte-of-6 : tie.Need-add-byte-of-6
 add-byte-of-6 c = search needs
 
--- src/lib.rt:97:5
 byte-of-requires-3 : tie.Need-byte-of-requires-3
 byte-of-requires-3 c κs = search needs
 
--- src/lib.rt:82:1
 returns-3 : tie.Need-returns-3
 unfolding octal-at
 returns-3 c = rw (← c .before .before .before .before .before .before .before .before .byte-at .ensures, ← c .before .before .before .before .before .before .before .byte-at2 .ensures, ← c .before .before .before .before .before .before .byte-at3 .ensures, ← c .before .before .before .before .before .less .ensures, ← c .before .before .before .before .less2 .ensures, ← c .before .before .before .less3 .ensures) (search (calls, c .byte-of3 .ensures, c .before .if1 .left, c .before .before .is-octal .ensures, c .before .before .before .less3 .ensures, c .before .before .before .before .less2 .ensures, c .before .before .before .before .before .less .ensures, c .before .before .before .before .before .before .byte-at3 .ensures, c .before .before .before .before .before .before .before .byte-at2 .ensures, c .before .before .before .before .before .before .before .before .byte-at .ensures) depth 9)

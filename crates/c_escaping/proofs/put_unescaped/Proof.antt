@@ -12,10 +12,6 @@ use native.Mathlib.Omega.{arith}
 use borrow.Author.Needs.{needs}
 use Rattle.c_escaping.proofs.put_unescaped.Statement.{statement}
 use Rattle.c_escaping.proofs.put_unescaped.Tie as tie
-use Rattle.c_escaping.proofs.put_unescaped.Reads as reads
-use Rattle.c_escaping.proofs.put_unescaped.Lts as lts
-use Rattle.c_escaping.proofs.unescape_at.Reads as unescape-at-reads
-use Rattle.literal.proofs.put_byte.Reads as put-byte-reads
 
 -- the escape of a byte, each of its characters escaped
 abbrev twice : ℕ → List ℕ
@@ -27,48 +23,37 @@ Inv-loop t₀ at s a₀ p₀ t a p = Left twice t₀ at (each twice (unescaped s
 abbrev μ-loop : tie.MeasureT-loop
 μ-loop t₀ at s a₀ p₀ t a p = length s - p
 
--- src/lib.rt:197:5
 loop-holds : tie.Need-loop-holds Inv-loop μ-loop
 loop-holds c = left-all twice (unescape-from (c .before .before .args .s .now) 0) (search needs)
 
--- src/lib.rt:198:40
 unescape-at-requires : tie.Need-unescape-at-requires Inv-loop μ-loop
 unescape-at-requires c κs = search needs
 
--- src/lib.rt:198:29
 enum-known-x : tie.Need-enum-known-x Inv-loop μ-loop
 enum-known-x c = search needs
 
--- src/lib.rt:199:13
 enum-told : tie.Need-enum-told Inv-loop μ-loop
 enum-told c = search needs
 
--- src/lib.rt:199:13
 same-length : tie.Need-same-length Inv-loop μ-loop
 same-length c = kept (c .before .before .before .before .loop .inv .wrote)
 
--- src/lib.rt:199:13
 returns : tie.Need-returns Inv-loop μ-loop
 unfolding escape-bytes
 returns c = named (sym (each-each escape-char escape-byte (unescaped (c .before .before .before .before .before .before .before .args .s .now)))) (left-broken twice _ (c .before .before .before .before .loop .inv) (unescape-fault _ _ (c .before .before .before .loop-test .taken) _ (c .before .before .unescape-at .ensures) (c .enum-told .given .1)))
 
--- src/lib.rt:201:9
 put-byte-requires : tie.Need-put-byte-requires Inv-loop μ-loop
 put-byte-requires c κs = search needs
 
--- src/lib.rt:197:5
 loop-less : tie.Need-loop-less Inv-loop μ-loop
 loop-less c = let l = byte-forward _ _ (c .before .before .before .before .before .before .before .before .loop-test .taken) _ (c .before .before .before .before .before .before .before .unescape-at .ensures) _ _ (c .before .before .before .before .before .x .given .1) in omega arith
 
--- src/lib.rt:197:5
 loop-again : tie.Need-loop-again Inv-loop μ-loop
 loop-again c = left-more twice _ (c .before .before .before .before .before .before .before .before .before .loop .inv) _ _ (unescape-next _ _ (c .before .before .before .before .before .before .before .before .loop-test .taken) _ (c .before .before .before .before .before .before .before .unescape-at .ensures) _ _ (c .before .before .before .before .before .x .given .1)) (c .before .before .put-byte .ensures)
 
--- src/lib.rt:192:1
 same-length-2 : tie.Need-same-length-2 Inv-loop μ-loop
 same-length-2 c = kept (c .before .loop .inv .wrote)
 
--- src/lib.rt:192:1
 returns-2 : tie.Need-returns-2 Inv-loop μ-loop
 unfolding escape-bytes
 returns-2 c = named (sym (each-each escape-char escape-byte (unescaped (c .before .before .before .before .args .s .now)))) (left-end twice _ (c .before .loop .inv) (unescape-end _ _ (c .loop-test .left)))

@@ -3,34 +3,24 @@ use Rattle.c_escaping.specs.Unescape.{unescape-at}
 use borrow.Author.Needs.{needs}
 use Rattle.c_escaping.proofs.unescape_at.Statement.{statement}
 use Rattle.c_escaping.proofs.unescape_at.Tie as tie
-use Rattle.c_escaping.proofs.unescape_at.Reads as reads
-use Rattle.c_escaping.proofs.unescape_at.Lts as lts
-use Rattle.base.proofs.byte_at.Reads as byte-at-reads
-use Rattle.c_escaping.proofs.escape_at.Reads as escape-at-reads
 
--- src/lib.rt:167:9
 returns : tie.Need-returns
 unfolding unescape-at
 returns c = search (choices, c .if1 .taken) depth 9
 
--- src/lib.rt:169:9
 byte-at-requires : tie.Need-byte-at-requires
 byte-at-requires c κs = search needs
 
--- src/lib.rt:170:16
 add-next : tie.Need-add-next
 add-next c = search needs
 
--- src/lib.rt:172:9
 escape-at-requires : tie.Need-escape-at-requires
 escape-at-requires c κs = search needs
 
--- src/lib.rt:172:9
 returns-2 : tie.Need-returns-2
 unfolding unescape-at
 returns-2 c = rw (← c .before .before .byte-at .ensures) (search (choices, c .escape-at .ensures, c .before .if2 .taken, c .before .before .byte-at .ensures, c .before .before .before .if1 .left) depth 9)
 
--- src/lib.rt:163:1
 returns-3 : tie.Need-returns-3
 unfolding unescape-at
 returns-3 c = rw (← c .before .byte-at .ensures) (search (choices, c .if2 .left, c .before .byte-at .ensures, c .before .before .if1 .left) depth 9)

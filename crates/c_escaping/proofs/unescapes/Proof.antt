@@ -8,9 +8,6 @@ use native.Mathlib.Omega.{arith}
 use borrow.Author.Needs.{needs}
 use Rattle.c_escaping.proofs.unescapes.Statement.{statement}
 use Rattle.c_escaping.proofs.unescapes.Tie as tie
-use Rattle.c_escaping.proofs.unescapes.Reads as reads
-use Rattle.c_escaping.proofs.unescapes.Lts as lts
-use Rattle.c_escaping.proofs.unescape_at.Reads as unescape-at-reads
 
 abbrev Inv-loop : tie.InvT-loop
 Inv-loop s p₀ p = whole (unescape-from s p) ≡ whole (unescape-from s 0)
@@ -18,35 +15,27 @@ Inv-loop s p₀ p = whole (unescape-from s p) ≡ whole (unescape-from s 0)
 abbrev μ-loop : tie.MeasureT-loop
 μ-loop s p₀ p = length s - p
 
--- src/lib.rt:182:5
 loop-holds : tie.Need-loop-holds Inv-loop μ-loop
 loop-holds c = refl
 
--- src/lib.rt:183:40
 unescape-at-requires : tie.Need-unescape-at-requires Inv-loop μ-loop
 unescape-at-requires c κs = search needs
 
--- src/lib.rt:183:32
 enum-known-next : tie.Need-enum-known-next Inv-loop μ-loop
 enum-known-next c = search needs
 
--- src/lib.rt:184:13
 enum-told : tie.Need-enum-told Inv-loop μ-loop
 enum-told c = search needs
 
--- src/lib.rt:184:13
 returns : tie.Need-returns Inv-loop μ-loop
 returns c = sym (ap whole (unescape-fault _ _ (c .before .before .before .loop-test .taken) _ (c .before .before .unescape-at .ensures) (c .enum-told .given .1))) ∙ c .before .before .before .before .loop .inv
 
--- src/lib.rt:182:5
 loop-less : tie.Need-loop-less Inv-loop μ-loop
 loop-less c = let l = byte-forward _ _ (c .before .before .before .before .loop-test .taken) _ (c .before .before .before .unescape-at .ensures) _ _ (c .before .next .given .1) in omega arith
 
--- src/lib.rt:182:5
 loop-again : tie.Need-loop-again Inv-loop μ-loop
 loop-again c = sym (ap whole (unescape-next _ _ (c .before .before .before .before .loop-test .taken) _ (c .before .before .before .unescape-at .ensures) _ _ (c .before .next .given .1))) ∙ c .before .before .before .before .before .loop .inv
 
--- src/lib.rt:178:1
 returns-2 : tie.Need-returns-2 Inv-loop μ-loop
 returns-2 c = sym (ap whole (unescape-end _ _ (c .loop-test .left))) ∙ c .before .loop .inv
 

@@ -5,9 +5,6 @@ use borrow.Author.Needs.{needs}
 use Rattle.c_escaping.specs.Unescaping.{byte-forward}
 use Rattle.escape_cases.proofs.gives.Statement.{statement}
 use Rattle.escape_cases.proofs.gives.Tie as tie
-use Rattle.escape_cases.proofs.gives.Reads as reads
-use Rattle.escape_cases.proofs.gives.Lts as lts
-use Rattle.c_escaping.proofs.unescape_at.Reads as unescape-at-reads
 
 abbrev Inv-loop : tie.InvT-loop
 Inv-loop a b p₀ k₀ p k = k ≤ length b
@@ -15,51 +12,39 @@ Inv-loop a b p₀ k₀ p k = k ≤ length b
 abbrev μ-loop : tie.MeasureT-loop
 μ-loop a b p₀ k₀ p k = length a - p
 
--- src/main.rt:90:5
 loop-holds : tie.Need-loop-holds Inv-loop μ-loop
 loop-holds c = search needs
 
--- src/main.rt:91:40
 unescape-at-requires : tie.Need-unescape-at-requires Inv-loop μ-loop
 unescape-at-requires c κs = search needs
 
--- src/main.rt:91:29
 enum-known-x : tie.Need-enum-known-x Inv-loop μ-loop
 enum-known-x c = search needs
 
--- src/main.rt:92:13
 enum-told : tie.Need-enum-told Inv-loop μ-loop
 enum-told c = search needs
 
--- src/main.rt:92:13
 returns : tie.Need-returns Inv-loop μ-loop
 returns c = search needs
 
--- src/main.rt:95:13
 returns-2 : tie.Need-returns-2 Inv-loop μ-loop
 returns-2 c = search needs
 
--- src/main.rt:97:12
 shared-slice-read-if2 : tie.Need-shared-slice-read-if2 Inv-loop μ-loop
 shared-slice-read-if2 c = search needs
 
--- src/main.rt:98:13
 returns-3 : tie.Need-returns-3 Inv-loop μ-loop
 returns-3 c = search needs
 
--- src/main.rt:100:9
 add-k : tie.Need-add-k Inv-loop μ-loop
 add-k c = search needs
 
--- src/main.rt:90:5
 loop-less : tie.Need-loop-less Inv-loop μ-loop
 loop-less c = let l = byte-forward _ _ (c .before .before .before .before .before .before .before .loop-test .taken) _ (c .before .before .before .before .before .before .unescape-at .ensures) _ _ (c .before .before .before .before .x .given .1) in omega arith
 
--- src/main.rt:90:5
 loop-again : tie.Need-loop-again Inv-loop μ-loop
 loop-again c = search needs
 
--- src/main.rt:87:1
 returns-4 : tie.Need-returns-4 Inv-loop μ-loop
 returns-4 c = search needs
 

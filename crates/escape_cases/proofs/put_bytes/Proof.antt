@@ -6,9 +6,6 @@ use borrow.Author.Needs.{needs}
 use Rattle.writer.specs.Wrote.{kept}
 use Rattle.escape_cases.proofs.put_bytes.Statement.{statement}
 use Rattle.escape_cases.proofs.put_bytes.Tie as tie
-use Rattle.escape_cases.proofs.put_bytes.Reads as reads
-use Rattle.escape_cases.proofs.put_bytes.Lts as lts
-use Rattle.literal.proofs.put_byte.Reads as put-byte-reads
 
 abbrev Inv-loop : tie.InvT-loop
 Inv-loop t₀ bytes a₀ i₀ t a i = (i ≤ length bytes) × (length t ≡ length t₀)
@@ -16,35 +13,27 @@ Inv-loop t₀ bytes a₀ i₀ t a i = (i ≤ length bytes) × (length t ≡ leng
 abbrev μ-loop : tie.MeasureT-loop
 μ-loop t₀ bytes a₀ i₀ t a i = length bytes - i
 
--- src/main.rt:109:5
 loop-holds : tie.Need-loop-holds Inv-loop μ-loop
 loop-holds c = search needs
 
--- src/main.rt:110:37
 shared-slice-read-put-byte : tie.Need-shared-slice-read-put-byte Inv-loop μ-loop
 shared-slice-read-put-byte c = search needs
 
--- src/main.rt:110:9
 put-byte-requires : tie.Need-put-byte-requires Inv-loop μ-loop
 put-byte-requires c κs = search needs
 
--- src/main.rt:111:9
 add-i : tie.Need-add-i Inv-loop μ-loop
 add-i c = search needs
 
--- src/main.rt:109:5
 loop-less : tie.Need-loop-less Inv-loop μ-loop
 loop-less c = search needs
 
--- src/main.rt:109:5
 loop-again : tie.Need-loop-again Inv-loop μ-loop
 loop-again c = (omega arith, kept (c .before .before .put-byte .ensures) ∙ c .before .before .before .before .before .before .loop .inv .1)
 
--- src/main.rt:106:1
 same-length : tie.Need-same-length Inv-loop μ-loop
 same-length c = c .before .loop .inv .1
 
--- src/main.rt:106:1
 returns : tie.Need-returns Inv-loop μ-loop
 returns c = search needs
 

@@ -3,23 +3,16 @@ use mathlib.Core.Path.{sym}
 use borrow.Author.Needs.{needs}
 use Rattle.escape_cases.proofs.shows.Statement.{statement}
 use Rattle.escape_cases.proofs.shows.Tie as tie
-use Rattle.escape_cases.proofs.shows.Reads as reads
-use Rattle.escape_cases.proofs.shows.Lts as lts
-use Rattle.check.proofs.same.Reads as same-reads
 
--- src/main.rt:119:28
 slice-aggregate-same : tie.Need-slice-aggregate-same
 slice-aggregate-same c = sym (length-take-le _ _ (c .before .if1 .taken))
 
--- src/main.rt:119:9
 same-requires : tie.Need-same-requires
 same-requires c κs = search needs
 
--- src/main.rt:119:9
 returns : tie.Need-returns
 returns c = search needs
 
--- src/main.rt:117:1
 returns-2 : tie.Need-returns-2
 returns-2 c = search needs
 

@@ -27,43 +27,33 @@ abbrev put-hex-claims : ℕ → put-hex-lts.Claims
 put-hex-claims t = (hex-digit-reads.Asked, hex-digit-reads.Learnt, put-byte-reads.Asked, put-byte-reads.Learnt, put-hex-below t, put-hex.Post)
 
 module _ (t : ℕ) where
-  -- src/lib.rt:26:9
   put-hex-returns : put-hex-lts.Need-returns (put-hex-claims t) (put-hex-at t) put-hex.Post
   put-hex-returns c = rw (c .if1 .taken, hex-none) (none (search needs))
 
-  -- src/lib.rt:28:9
   put-hex-hex-digit-requires : put-hex-lts.Need-hex-digit-requires (put-hex-claims t) (put-hex-at t) put-hex.Post
   put-hex-hex-digit-requires c κs = search needs
 
-  -- src/lib.rt:30:9
   put-hex-put-byte-requires : put-hex-lts.Need-put-byte-requires (put-hex-claims t) (put-hex-at t) put-hex.Post
   put-hex-put-byte-requires c κs = search needs
 
-  -- src/lib.rt:30:9
   put-hex-same-length : put-hex-lts.Need-same-length (put-hex-claims t) (put-hex-at t) put-hex.Post
   put-hex-same-length c = kept (c .before .before .put-byte .ensures)
 
-  -- src/lib.rt:30:9
   put-hex-returns-2 : put-hex-lts.Need-returns-2 (put-hex-claims t) (put-hex-at t) put-hex.Post
   put-hex-returns-2 c = rw (hex-short _ _ (c .before .before .before .before .before .before .if1 .left) (c .before .before .before .before .if2 .taken), ← c .before .before .before .before .before .hex-digit .ensures) (c .before .before .put-byte .ensures)
 
-  -- src/lib.rt:32:36
   put-hex-sub-put-hex : put-hex-lts.Need-sub-put-hex (put-hex-claims t) (put-hex-at t) put-hex.Post
   put-hex-sub-put-hex c = search needs
 
-  -- src/lib.rt:32:9
   put-hex-put-hex-requires : put-hex-lts.Need-put-hex-requires (put-hex-claims t) (put-hex-at t) put-hex.Post
   put-hex-put-hex-requires c κs = search needs
 
-  -- src/lib.rt:33:5
   put-hex-put-byte-requires-2 : put-hex-lts.Need-put-byte-requires-2 (put-hex-claims t) (put-hex-at t) put-hex.Post
   put-hex-put-byte-requires-2 c κs = search needs
 
-  -- src/lib.rt:22:1
   put-hex-same-length-2 : put-hex-lts.Need-same-length-2 (put-hex-claims t) (put-hex-at t) put-hex.Post
   put-hex-same-length-2 c = kept (c .before .before .before .before .before .before .put-hex .ensures ► c .before .before .put-byte2 .ensures)
 
-  -- src/lib.rt:22:1
   put-hex-returns-3 : put-hex-lts.Need-returns-3 (put-hex-claims t) (put-hex-at t) put-hex.Post
   put-hex-returns-3 c = rw (hex-long _ _ (c .before .before .before .before .before .before .before .before .before .before .if1 .left) (c .before .before .before .before .before .before .before .before .if2 .left), ← c .before .before .before .before .before .before .before .before .before .hex-digit .ensures) (c .before .before .before .before .before .before .put-hex .ensures ► c .before .before .put-byte2 .ensures)
 

@@ -3,31 +3,23 @@ use Rattle.literal.specs.Escape.{hex-digit}
 use borrow.Author.Needs.{needs}
 use Rattle.literal.proofs.hex_digit.Statement.{statement}
 use Rattle.literal.proofs.hex_digit.Tie as tie
-use Rattle.literal.proofs.hex_digit.Reads as reads
-use Rattle.literal.proofs.hex_digit.Lts as lts
 
--- src/lib.rt:16:21
 cast-result : tie.Need-cast-result
 cast-result c = search needs
 
--- src/lib.rt:16:16
 add-result : tie.Need-add-result
 add-result c = search needs
 
--- src/lib.rt:16:9
 returns : tie.Need-returns
 unfolding hex-digit
 returns c = search (choices, c .if1 .taken) depth 9
 
--- src/lib.rt:18:10
 cast-result-2 : tie.Need-cast-result-2
 cast-result-2 c = search needs
 
--- src/lib.rt:18:5
 add-result-2 : tie.Need-add-result-2
 add-result-2 c = search needs
 
--- src/lib.rt:11:1
 returns-2 : tie.Need-returns-2
 unfolding hex-digit
 returns-2 c = search (choices, c .if1 .left) depth 9

@@ -3,48 +3,34 @@ use Rattle.writer.specs.Wrote.{_►_, kept, none, still}
 use borrow.Author.Needs.{needs}
 use Rattle.literal.proofs.put_byte_escape.Statement.{statement}
 use Rattle.literal.proofs.put_byte_escape.Tie as tie
-use Rattle.literal.proofs.put_byte_escape.Reads as reads
-use Rattle.literal.proofs.put_byte_escape.Lts as lts
-use Rattle.literal.proofs.hex_digit.Reads as hex-digit-reads
-use Rattle.literal.proofs.put_char.Reads as put-char-reads
 
--- src/lib.rt:88:16
 hex-digit-requires : tie.Need-hex-digit-requires
 hex-digit-requires c κs = search needs
 
--- src/lib.rt:88:16
 cast-high : tie.Need-cast-high
 cast-high c = search needs
 
--- src/lib.rt:89:15
 hex-digit-requires-2 : tie.Need-hex-digit-requires-2
 hex-digit-requires-2 c κs = search needs
 
--- src/lib.rt:89:15
 cast-low : tie.Need-cast-low
 cast-low c = search needs
 
--- src/lib.rt:90:9
 put-char-requires : tie.Need-put-char-requires
 put-char-requires c κs = search needs
 
--- src/lib.rt:91:9
 put-char-requires-2 : tie.Need-put-char-requires-2
 put-char-requires-2 c κs = search needs
 
--- src/lib.rt:92:9
 put-char-requires-3 : tie.Need-put-char-requires-3
 put-char-requires-3 c κs = search needs
 
--- src/lib.rt:93:5
 put-char-requires-4 : tie.Need-put-char-requires-4
 put-char-requires-4 c κs = search needs
 
--- src/lib.rt:85:1
 same-length : tie.Need-same-length
 same-length c = kept (c .before .before .before .before .before .before .before .before .before .before .before .before .before .before .put-char .ensures ► c .before .before .before .before .before .before .before .before .before .before .put-char2 .ensures ► c .before .before .before .before .before .before .put-char3 .ensures ► c .before .before .put-char4 .ensures)
 
--- src/lib.rt:85:1
 returns : tie.Need-returns
 unfolding byte-escape
 returns c = rw (← c .before .before .before .before .before .before .before .before .before .before .before .before .before .before .before .before .before .hex-digit .ensures, ← c .before .before .before .before .before .before .before .before .before .before .before .before .before .before .before .before .hex-digit2 .ensures) (c .before .before .before .before .before .before .before .before .before .before .before .before .before .before .put-char .ensures ► (c .before .before .before .before .before .before .before .before .before .before .put-char2 .ensures ► (c .before .before .before .before .before .before .put-char3 .ensures ► (c .before .before .put-char4 .ensures ► none (still (c .before .before .put-char4 .ensures))))))

@@ -2,23 +2,16 @@ use Rattle.writer.specs.Wrote.{_►_, kept, none, still}
 use borrow.Author.Needs.{needs}
 use Rattle.literal.proofs.put_pair.Statement.{statement}
 use Rattle.literal.proofs.put_pair.Tie as tie
-use Rattle.literal.proofs.put_pair.Reads as reads
-use Rattle.literal.proofs.put_pair.Lts as lts
-use Rattle.literal.proofs.put_char.Reads as put-char-reads
 
--- src/lib.rt:80:9
 put-char-requires : tie.Need-put-char-requires
 put-char-requires c κs = search needs
 
--- src/lib.rt:81:5
 put-char-requires-2 : tie.Need-put-char-requires-2
 put-char-requires-2 c κs = search needs
 
--- src/lib.rt:77:1
 same-length : tie.Need-same-length
 same-length c = kept (c .before .before .before .before .before .before .put-char .ensures ► c .before .before .put-char2 .ensures)
 
--- src/lib.rt:77:1
 returns : tie.Need-returns
 returns c = c .before .before .before .before .before .before .put-char .ensures ► (c .before .before .put-char2 .ensures ► none (still (c .before .before .put-char2 .ensures)))
 

@@ -10,10 +10,6 @@ use native.Mathlib.Omega.{arith}
 use borrow.Author.Needs.{needs}
 use Rattle.literal.proofs.put_text.Statement.{statement}
 use Rattle.literal.proofs.put_text.Tie as tie
-use Rattle.literal.proofs.put_text.Reads as reads
-use Rattle.literal.proofs.put_text.Lts as lts
-use Rattle.literal.proofs.put_char.Reads as put-char-reads
-use Rattle.utf8.proofs.char_at.Reads as char-at-reads
 
 abbrev Inv-loop : tie.InvT-loop
 Inv-loop t₀ at s a₀ i₀ t a i = Left escape-char t₀ at (each escape-char (chars s)) (chars-from s i) t a
@@ -21,48 +17,37 @@ Inv-loop t₀ at s a₀ i₀ t a i = Left escape-char t₀ at (each escape-char 
 abbrev μ-loop : tie.MeasureT-loop
 μ-loop t₀ at s a₀ i₀ t a i = length s - i
 
--- src/lib.rt:134:5
 loop-holds : tie.Need-loop-holds Inv-loop μ-loop
 loop-holds c = left-all escape-char (chars-from (c .before .before .args .s .now) 0) (search needs)
 
--- src/lib.rt:135:43
 char-at-requires : tie.Need-char-at-requires Inv-loop μ-loop
 char-at-requires c κs = search needs
 
--- src/lib.rt:135:32
 enum-known-c : tie.Need-enum-known-c Inv-loop μ-loop
 enum-known-c c = search needs
 
--- src/lib.rt:136:13
 enum-told : tie.Need-enum-told Inv-loop μ-loop
 enum-told c = search needs
 
--- src/lib.rt:136:13
 same-length : tie.Need-same-length Inv-loop μ-loop
 same-length c = kept (c .before .before .before .before .loop .inv .wrote)
 
--- src/lib.rt:136:13
 returns : tie.Need-returns Inv-loop μ-loop
 unfolding escape-text
 returns c = left-broken escape-char _ (c .before .before .before .before .loop .inv) (chars-fault _ _ (c .before .before .before .loop-test .taken) _ (c .before .before .char-at .ensures) (c .enum-told .given .1))
 
--- src/lib.rt:138:9
 put-char-requires : tie.Need-put-char-requires Inv-loop μ-loop
 put-char-requires c κs = search needs
 
--- src/lib.rt:134:5
 loop-less : tie.Need-loop-less Inv-loop μ-loop
 loop-less c = let l = char-forward _ _ (c .before .before .before .before .before .before .before .before .loop-test .taken) _ (c .before .before .before .before .before .before .before .char-at .ensures) _ _ (c .before .before .before .before .before .c .given .1) in omega arith
 
--- src/lib.rt:134:5
 loop-again : tie.Need-loop-again Inv-loop μ-loop
 loop-again c = left-more escape-char _ (c .before .before .before .before .before .before .before .before .before .loop .inv) _ _ (chars-next _ _ (c .before .before .before .before .before .before .before .before .loop-test .taken) _ (c .before .before .before .before .before .before .before .char-at .ensures) _ _ (c .before .before .before .before .before .c .given .1)) (c .before .before .put-char .ensures)
 
--- src/lib.rt:129:1
 same-length-2 : tie.Need-same-length-2 Inv-loop μ-loop
 same-length-2 c = kept (c .before .loop .inv .wrote)
 
--- src/lib.rt:129:1
 returns-2 : tie.Need-returns-2 Inv-loop μ-loop
 unfolding escape-text
 returns-2 c = left-end escape-char _ (c .before .loop .inv) (chars-end _ _ (c .loop-test .left))

@@ -3,63 +3,46 @@ use Rattle.utf8.specs.Utf8.{four}
 use borrow.Author.Needs.{needs}
 use Rattle.utf8.proofs.four.Statement.{statement}
 use Rattle.utf8.proofs.four.Tie as tie
-use Rattle.utf8.proofs.four.Reads as reads
-use Rattle.utf8.proofs.four.Lts as lts
-use Rattle.utf8.proofs.later.Reads as later-reads
-use Rattle.utf8.proofs.second.Reads as second-reads
 
--- src/lib.rt:98:8
 second-requires : tie.Need-second-requires
 second-requires c κs = search needs
 
--- src/lib.rt:99:12
 later-requires : tie.Need-later-requires
 later-requires c κs = search needs
 
--- src/lib.rt:100:16
 later-requires-2 : tie.Need-later-requires-2
 later-requires-2 c κs = search needs
 
--- src/lib.rt:101:25
 mul-c : tie.Need-mul-c
 mul-c c = search needs
 
--- src/lib.rt:101:42
 mul-c-2 : tie.Need-mul-c-2
 mul-c-2 c = search needs
 
--- src/lib.rt:101:25
 add-c : tie.Need-add-c
 add-c c = search needs
 
--- src/lib.rt:101:58
 mul-c-3 : tie.Need-mul-c-3
 mul-c-3 c = search needs
 
--- src/lib.rt:101:25
 add-c-2 : tie.Need-add-c-2
 add-c-2 c = search needs
 
--- src/lib.rt:101:25
 add-c-3 : tie.Need-add-c-3
 add-c-3 c = search needs
 
--- src/lib.rt:102:17
 returns : tie.Need-returns
 unfolding four
 returns c = search (choices, calls, c .if3 .taken, c .before .later2 .ensures, c .before .before .if2 .taken, c .before .before .before .later .ensures, c .before .before .before .before .if1 .taken, c .before .before .before .before .before .second .ensures) depth 9
 
--- src/lib.rt:104:13
 returns-2 : tie.Need-returns-2
 unfolding four
 returns-2 c = search (choices, calls, c .if3 .left, c .before .later2 .ensures, c .before .before .if2 .taken, c .before .before .before .later .ensures, c .before .before .before .before .if1 .taken, c .before .before .before .before .before .second .ensures) depth 9
 
--- src/lib.rt:106:9
 returns-3 : tie.Need-returns-3
 unfolding four
 returns-3 c = search (choices, calls, c .if2 .left, c .before .later .ensures, c .before .before .if1 .taken, c .before .before .before .second .ensures) depth 9
 
--- src/lib.rt:95:1
 returns-4 : tie.Need-returns-4
 unfolding four
 returns-4 c = search (choices, calls, c .if1 .left, c .before .second .ensures) depth 9

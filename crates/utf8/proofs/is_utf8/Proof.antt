@@ -8,9 +8,6 @@ use native.Mathlib.Omega.{arith}
 use borrow.Author.Needs.{needs}
 use Rattle.utf8.proofs.is_utf8.Statement.{statement}
 use Rattle.utf8.proofs.is_utf8.Tie as tie
-use Rattle.utf8.proofs.is_utf8.Reads as reads
-use Rattle.utf8.proofs.is_utf8.Lts as lts
-use Rattle.utf8.proofs.char_at.Reads as char-at-reads
 
 abbrev Inv-loop : tie.InvT-loop
 Inv-loop s i₀ i = whole (chars-from s i) ≡ whole (chars-from s 0)
@@ -18,35 +15,27 @@ Inv-loop s i₀ i = whole (chars-from s i) ≡ whole (chars-from s 0)
 abbrev μ-loop : tie.MeasureT-loop
 μ-loop s i₀ i = length s - i
 
--- src/lib.rt:146:5
 loop-holds : tie.Need-loop-holds Inv-loop μ-loop
 loop-holds c = refl
 
--- src/lib.rt:147:43
 char-at-requires : tie.Need-char-at-requires Inv-loop μ-loop
 char-at-requires c κs = search needs
 
--- src/lib.rt:147:35
 enum-known-next : tie.Need-enum-known-next Inv-loop μ-loop
 enum-known-next c = search needs
 
--- src/lib.rt:148:13
 enum-told : tie.Need-enum-told Inv-loop μ-loop
 enum-told c = search needs
 
--- src/lib.rt:148:13
 returns : tie.Need-returns Inv-loop μ-loop
 returns c = sym (ap whole (chars-fault _ _ (c .before .before .before .loop-test .taken) _ (c .before .before .char-at .ensures) (c .enum-told .given .1))) ∙ c .before .before .before .before .loop .inv
 
--- src/lib.rt:146:5
 loop-less : tie.Need-loop-less Inv-loop μ-loop
 loop-less c = let l = char-forward _ _ (c .before .before .before .before .loop-test .taken) _ (c .before .before .before .char-at .ensures) _ _ (c .before .next .given .1) in omega arith
 
--- src/lib.rt:146:5
 loop-again : tie.Need-loop-again Inv-loop μ-loop
 loop-again c = sym (ap whole (chars-next _ _ (c .before .before .before .before .loop-test .taken) _ (c .before .before .before .char-at .ensures) _ _ (c .before .next .given .1))) ∙ c .before .before .before .before .before .loop .inv
 
--- src/lib.rt:142:1
 returns-2 : tie.Need-returns-2 Inv-loop μ-loop
 returns-2 c = sym (ap whole (chars-end _ _ (c .loop-test .left))) ∙ c .before .loop .inv
 

@@ -2,25 +2,16 @@ use Rattle.utf8.specs.Utf8.{second}
 use borrow.Author.Needs.{needs}
 use Rattle.utf8.proofs.second.Statement.{statement}
 use Rattle.utf8.proofs.second.Tie as tie
-use Rattle.utf8.proofs.second.Reads as reads
-use Rattle.utf8.proofs.second.Lts as lts
-use Rattle.utf8.proofs.between.Reads as between-reads
-use Rattle.utf8.proofs.second_high.Reads as second-high-reads
-use Rattle.utf8.proofs.second_low.Reads as second-low-reads
 
--- src/lib.rt:62:13
 second-low-requires : tie.Need-second-low-requires
 second-low-requires c κs = search needs
 
--- src/lib.rt:62:28
 second-high-requires : tie.Need-second-high-requires
 second-high-requires c κs = search needs
 
--- src/lib.rt:62:5
 between-requires : tie.Need-between-requires
 between-requires c κs = search needs
 
--- src/lib.rt:59:1
 returns : tie.Need-returns
 unfolding second
 returns c = rw (← c .before .before .second-low .ensures, ← c .before .second-high .ensures) (c .between .ensures)

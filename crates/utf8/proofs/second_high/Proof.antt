@@ -2,20 +2,15 @@ use Rattle.base.specs.Choose.{choices}
 use Rattle.utf8.specs.Utf8.{second-high}
 use Rattle.utf8.proofs.second_high.Statement.{statement}
 use Rattle.utf8.proofs.second_high.Tie as tie
-use Rattle.utf8.proofs.second_high.Reads as reads
-use Rattle.utf8.proofs.second_high.Lts as lts
 
--- src/lib.rt:50:9
 returns : tie.Need-returns
 unfolding second-high
 returns c = search (choices, c .if1 .taken) depth 9
 
--- src/lib.rt:53:9
 returns-2 : tie.Need-returns-2
 unfolding second-high
 returns-2 c = search (choices, c .if2 .taken, c .before .if1 .left) depth 9
 
--- src/lib.rt:46:1
 returns-3 : tie.Need-returns-3
 unfolding second-high
 returns-3 c = search (choices, c .if2 .left, c .before .if1 .left) depth 9

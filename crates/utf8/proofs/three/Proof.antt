@@ -3,46 +3,33 @@ use Rattle.utf8.specs.Utf8.{three}
 use borrow.Author.Needs.{needs}
 use Rattle.utf8.proofs.three.Statement.{statement}
 use Rattle.utf8.proofs.three.Tie as tie
-use Rattle.utf8.proofs.three.Reads as reads
-use Rattle.utf8.proofs.three.Lts as lts
-use Rattle.utf8.proofs.later.Reads as later-reads
-use Rattle.utf8.proofs.second.Reads as second-reads
 
--- src/lib.rt:85:8
 second-requires : tie.Need-second-requires
 second-requires c κs = search needs
 
--- src/lib.rt:86:12
 later-requires : tie.Need-later-requires
 later-requires c κs = search needs
 
--- src/lib.rt:87:21
 mul-c : tie.Need-mul-c
 mul-c c = search needs
 
--- src/lib.rt:87:37
 mul-c-2 : tie.Need-mul-c-2
 mul-c-2 c = search needs
 
--- src/lib.rt:87:21
 add-c : tie.Need-add-c
 add-c c = search needs
 
--- src/lib.rt:87:21
 add-c-2 : tie.Need-add-c-2
 add-c-2 c = search needs
 
--- src/lib.rt:88:13
 returns : tie.Need-returns
 unfolding three
 returns c = search (choices, calls, c .if2 .taken, c .before .later .ensures, c .before .before .if1 .taken, c .before .before .before .second .ensures) depth 9
 
--- src/lib.rt:90:9
 returns-2 : tie.Need-returns-2
 unfolding three
 returns-2 c = search (choices, calls, c .if2 .left, c .before .later .ensures, c .before .before .if1 .taken, c .before .before .before .second .ensures) depth 9
 
--- src/lib.rt:82:1
 returns-3 : tie.Need-returns-3
 unfolding three
 returns-3 c = search (choices, calls, c .if1 .left, c .before .second .ensures) depth 9

@@ -3,28 +3,20 @@ use Rattle.utf8.specs.Utf8.{two}
 use borrow.Author.Needs.{needs}
 use Rattle.utf8.proofs.two.Statement.{statement}
 use Rattle.utf8.proofs.two.Tie as tie
-use Rattle.utf8.proofs.two.Reads as reads
-use Rattle.utf8.proofs.two.Lts as lts
-use Rattle.utf8.proofs.second.Reads as second-reads
 
--- src/lib.rt:75:8
 second-requires : tie.Need-second-requires
 second-requires c κs = search needs
 
--- src/lib.rt:76:17
 mul-c : tie.Need-mul-c
 mul-c c = search needs
 
--- src/lib.rt:76:17
 add-c : tie.Need-add-c
 add-c c = search needs
 
--- src/lib.rt:77:9
 returns : tie.Need-returns
 unfolding two
 returns c = search (choices, calls, c .if1 .taken, c .before .second .ensures) depth 9
 
--- src/lib.rt:72:1
 returns-2 : tie.Need-returns-2
 unfolding two
 returns-2 c = search (choices, calls, c .if1 .left, c .before .second .ensures) depth 9
