@@ -1,0 +1,35 @@
+use borrow.Author.Needs.{needs}
+use Rattle.message_graph.proofs.reaches.Statement.{statement}
+use Rattle.message_graph.proofs.reaches.Tie as tie
+use Rattle.message_graph.proofs.reaches.Reads as reads
+use Rattle.message_graph.proofs.reaches.Lts as lts
+use Rattle.message_graph.proofs.visit.Reads as visit-reads
+
+-- src/lib.rt:167:9
+returns : tie.Need-returns
+returns c = ?
+
+-- src/lib.rt:170:9
+returns-2 : tie.Need-returns-2
+returns-2 c = ?
+
+-- src/lib.rt:173:51
+slice-aggregate-visit : tie.Need-slice-aggregate-visit
+slice-aggregate-visit c = search needs
+
+-- src/lib.rt:173:5
+visit-requires : tie.Need-visit-requires
+visit-requires c κs = ?
+
+-- src/lib.rt:174:5
+array-read-result : tie.Need-array-read-result
+array-read-result c = search needs
+
+-- src/lib.rt:152:1
+returns-3 : tie.Need-returns-3
+returns-3 c = ?
+
+pub reaches-spec : {M : Type 1} → statement M
+reaches-spec =
+    tie.close
+    (tie.spec returns returns-2 slice-aggregate-visit visit-requires array-read-result returns-3)
