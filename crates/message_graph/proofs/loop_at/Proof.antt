@@ -1,3 +1,6 @@
+use borrow.Author.Tests.{not-true, not-false}
+use mathlib.Core.Path.{_≡_, refl, sym, _∙_, ap}
+use Rattle.message_graph.specs.Boxes.{boxed-by-loop}
 use borrow.Author.Needs.{needs}
 use Rattle.message_graph.proofs.loop_at.Statement.{statement}
 use Rattle.message_graph.proofs.loop_at.Tie as tie
@@ -22,7 +25,8 @@ may-loop-requires c κs = search needs
 
 -- src/lib.rt:210:9
 returns : tie.Need-returns
-returns c = ?
+unfolding boxed-by-loop
+returns c = rw (← c .before .before .before .byte-at .ensures, ← c .before .before .byte-at2 .ensures, ← c .before .may-loop .ensures, not-true (c .before .may-loop .result) (c .if1 .taken))
 
 -- src/lib.rt:212:9
 message-at-requires : tie.Need-message-at-requires
@@ -38,7 +42,8 @@ reaches-requires c κs = search needs
 
 -- src/lib.rt:194:1
 returns-2 : tie.Need-returns-2
-returns-2 c = ?
+unfolding boxed-by-loop
+returns-2 c = rw (← c .before .before .before .before .before .before .byte-at .ensures, ← c .before .before .before .before .before .byte-at2 .ensures, ← c .before .before .before .before .may-loop .ensures, not-false (c .before .before .before .before .may-loop .result) (c .before .before .before .if1 .left), ← c .before .before .message-at .ensures, ← c .before .message-at2 .ensures) (c .reaches .ensures)
 
 pub loop-at-spec : {M : Type 1} → statement M
 loop-at-spec =
