@@ -15,8 +15,9 @@ use Rattle.message_graph.specs.Marks.{Firsts, Ends}
 stored : (P : ℕ → Type 0) (l : List ℕ) (x y v : ℕ) → x < length l → (y ≡ x → P v) → ((y ≡ x → ⊥) → P (getD l y 0)) → P (getD (set l x v) y 0)
 stored P l x y v h same other =
     elim (ℕ-discrete y x) [
-      yes e ↦ subst P (sym (ap (λ (z : ℕ). getD (set l x v) z 0) e ∙ getD-set-same l x v 0 h)) (same e)
-    | no n ↦ subst P (sym (getD-set-other l x y v 0 n)) (other n) ]
+      | yes e ↦ subst P (sym (ap (λ (z : ℕ). getD (set l x v) z 0) e ∙ getD-set-same l x v 0 h)) (same e)
+      | no n ↦ subst P (sym (getD-set-other l x y v 0 n)) (other n)
+    ]
 
 -- the fields from i on are looked at
 pub record FirstsFrom (owner first : List ℕ) (i : ℕ) : Type 0 where
@@ -36,7 +37,7 @@ firsts-more {owner} {first} {i} p pos x is =
       within = omega arith;
       size = length-set first x (i - 1) ∙ long;
       low = λ k h l. stored (λ (v : ℕ). v ≤ k) first x (message-at owner k) (i - 1) (omega arith) (λ e. h) (λ n.
-      elim (ℕ-discrete k (i - 1)) [ yes e ↦ absurd (n (ap (message-at owner) e ∙ sym is)) | no m ↦ p .low k (omega arith) l ]);
+          elim (ℕ-discrete k (i - 1)) [ yes e ↦ absurd (n (ap (message-at owner) e ∙ sym is)) | no m ↦ p .low k (omega arith) l ]);
     }
 
 pub firsts-all : {owner first : List ℕ} {i : ℕ} → FirstsFrom owner first i → i ≤ 0 → Firsts owner first
@@ -66,7 +67,7 @@ ends-more {owner} {end} {i} p lt x is =
       size = length-set end x (i + 1) ∙ long;
       most = λ y. stored (λ (v : ℕ). v ≤ i + 1) end x y (i + 1) (omega arith) (λ e. le-refl _) (λ n. omega (arith, p .most y));
       high = λ k h. stored (λ (v : ℕ). k < v) end x (message-at owner k) (i + 1) (omega arith) (λ e. h) (λ n.
-      elim (ℕ-discrete k i) [ yes e ↦ absurd (n (ap (message-at owner) e ∙ sym is)) | no m ↦ p .high k (omega arith) ]);
+          elim (ℕ-discrete k i) [ yes e ↦ absurd (n (ap (message-at owner) e ∙ sym is)) | no m ↦ p .high k (omega arith) ]);
     }
 
 pub ends-all : {owner end : List ℕ} {i : ℕ} → EndsTo owner end i → length owner ≤ i → Ends owner end
