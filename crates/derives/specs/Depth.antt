@@ -126,11 +126,11 @@ module _ (d : Derive) (f : Fields) (set : List Bool) where
   unfolding field-can
   field-same g h i e = shape-same (shape d (kind-of f i) (label-of f i) (leadsb f (target-of f i) (owner-of f i)) (getD set i false)) (g (target-of f i)) (h (target-of f i)) e
 
-  entry-other : (g : ℕ → Bool) (x i : ℕ) → (owner-of f i ≡ x → ⊥) → entry-can d f set g x i ≡ true
+  pub entry-other : (g : ℕ → Bool) (x i : ℕ) → (owner-of f i ≡ x → ⊥) → entry-can d f set g x i ≡ true
   unfolding entry-can
   entry-other g x i n = ap (λ (t : Bool). not t || field-can d f set g i) (ne-eqb (owner-of f i) x n)
 
-  entry-own : (g : ℕ → Bool) (x i : ℕ) → owner-of f i ≡ x → entry-can d f set g x i ≡ field-can d f set g i
+  pub entry-own : (g : ℕ → Bool) (x i : ℕ) → owner-of f i ≡ x → entry-can d f set g x i ≡ field-can d f set g i
   unfolding entry-can
   entry-own g x i e = ap (λ (t : Bool). not t || field-can d f set g i) (eq-eqb (owner-of f i) x e)
 

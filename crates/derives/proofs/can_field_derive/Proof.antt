@@ -1,3 +1,5 @@
+use mathlib.Core.Path.{_≡_, refl, sym, _∙_}
+use Rattle.derives.specs.Rules.{rule}
 use borrow.Author.Needs.{needs}
 use Rattle.derives.proofs.can_field_derive.Statement.{statement}
 use Rattle.derives.proofs.can_field_derive.Tie as tie
@@ -24,11 +26,13 @@ can-field-derive-eq-requires c κs = search needs
 
 -- src/lib.rt:101:1
 returns : tie.Need-returns
-returns c = ?
+unfolding rule
+returns c = rw (c .before .enum-told .given .1) (c .can-field-derive-copy .ensures)
 
 -- src/lib.rt:101:1
 returns-2 : tie.Need-returns-2
-returns-2 c = ?
+unfolding rule
+returns-2 c = rw (c .before .enum-told2 .given .1) (c .can-field-derive-eq .ensures)
 
 pub can-field-derive-spec : {M : Type 1} → statement M
 can-field-derive-spec =
