@@ -52,8 +52,13 @@ module _ {ℓ} {A : Type ℓ} {f : ℕ → A} {old : List A} where
     is = ap (λ (x : A). set out i x) e ∙ ap (λ (l : List A). set l i (f i)) (p .is) ∙ tab-more i f old r lt;
   }
 
-  pub filled-all : {out : List A} {i : ℕ} → Filled f old out i → length old ≤ i → out ≡ tab (length old) f
-  filled-all {out} {i} p h =
-      p .is ∙ ap (λ (k : ℕ). tab k f ++ drop k old) (le-antisymm (p .within) h)
-      ∙ ap (λ (l : List A). tab (length old) f ++ l) (drop-of-length-le old {i = length old} (omega arith))
-      ∙ append-nil (tab (length old) f)
+  pub filled-all : {out : List A} {i : ℕ} → Filled f old out i → (n : ℕ) → length old ≡ n → n ≤ i → out ≡ tab n f
+  filled-all {out} {i} p n e h =
+      let w = p .within in
+      p .is ∙ ap (λ (k : ℕ). tab k f ++ drop k old) (le-antisymm (omega arith) h)
+      ∙ ap (λ (l : List A). tab n f ++ l) (drop-of-length-le old {i = n} (omega arith))
+      ∙ append-nil (tab n f)
+
+-- a table's own length says how far it goes
+pub tab-whole {ℓ} : {A : Type ℓ} (n : ℕ) (f : ℕ → A) (l : List A) → l ≡ tab n f → l ≡ tab (length l) f
+tab-whole n f l e = e ∙ ap (λ (k : ℕ). tab k f) (sym (length-tab n f) ∙ ap length (sym e))

@@ -67,7 +67,7 @@ same-length c = c .before .loop .inv .size
 
 -- src/lib.rt:227:1
 returns : tie.Need-returns Inv-loop μ-loop
-returns c = filled-all (c .before .loop .inv) (omega (arith, c .before .loop .inv .size))
+returns c = filled-all (c .before .loop .inv) _ refl (omega (arith, c .before .loop .inv .size))
 
 pub boxes-spec : {M : Type 1} → statement M
 boxes-spec =
