@@ -56,30 +56,24 @@ abbrev message-can-μ-loop : message-can-lts.MeasureT-loop
 message-can-μ-loop derive owner target kind label set boxed memo₀ x depth known i₀ memo i = length owner - i
 
 module _ (t : ℕ) where
-  -- src/lib.rt:241:9
   field-can-turn-at-requires : field-can-lts.Need-turn-at-requires (field-can-claims t) (field-can-at t) field-can.Post
   field-can-turn-at-requires c κs = c .before .before .before .before .before .before .before .pre .1 .0
 
-  -- src/lib.rt:243:9
   field-can-returns : field-can-lts.Need-returns (field-can-claims t) (field-can-at t) field-can.Post
   field-can-returns c = (sym (field-cannot _ _ _ _ _ (c .before .turn-at .ensures) (c .if1 .taken)), c .before .before .before .before .before .before .before .before .before .pre .1 .1 .0)
 
-  -- src/lib.rt:246:9
   field-can-returns-2 : field-can-lts.Need-returns-2 (field-can-claims t) (field-can-at t) field-can.Post
   field-can-returns-2 c = (sym (field-can-all _ _ _ _ _ (c .before .before .turn-at .ensures) (c .if2 .taken)), c .before .before .before .before .before .before .before .before .before .before .pre .1 .1 .0)
 
-  -- src/lib.rt:248:9
   field-can-message-at-requires : field-can-lts.Need-message-at-requires (field-can-claims t) (field-can-at t) field-can.Post
   field-can-message-at-requires c κs = search needs
 
-  -- src/lib.rt:259:9
   field-can-sub-message-can : field-can-lts.Need-sub-message-can (field-can-claims t) (field-can-at t) field-can.Post
   field-can-sub-message-can c =
       let s = c .before .before .before .before .before .before .before .before .before .before .before .before in
       let less = field-falls _ _ _ _ _ (c .before .before .before .before .turn-at .ensures) (c .before .before .before .if1 .left) (c .before .before .if2 .left) (s .pre .1 .1 .1 .0) in
       omega (arith, s .pre .1 .1 .1 .1)
 
-  -- src/lib.rt:249:5
   field-can-message-can-requires : field-can-lts.Need-message-can-requires (field-can-claims t) (field-can-at t) field-can.Post
   field-can-message-can-requires c κs =
       let s = c .before .before .before .before .before .before .before .before .before .before .before .before in
@@ -90,60 +84,48 @@ module _ (t : ℕ) where
       let is = c .before .message-at .ensures in
       (omega (arith, s .pre .0, s .pre .1 .1 .1 .1), (s .pre .1 .0, (s .pre .1 .1 .0, (omega (arith, message-at-below (a .target .now) (a .i)), rw is bound))))
 
-  -- src/lib.rt:223:1
   field-can-same-length : field-can-lts.Need-same-length (field-can-claims t) (field-can-at t) field-can.Post
   field-can-same-length c = c .before .before .message-can .kept .1 .1 .1 .1 .1 .1 .1 .0
 
-  -- src/lib.rt:223:1
   field-can-returns-3 : field-can-lts.Need-returns-3 (field-can-claims t) (field-can-at t) field-can.Post
   field-can-returns-3 c =
       let r = c .before .before .message-can .ensures in
       (r .0 ∙ ap (can-message-derive _ _ _) (c .before .before .before .before .message-at .ensures) ∙ sym (field-by-type _ _ _ _ _ (c .before .before .before .before .before .before .before .turn-at .ensures) (c .before .before .before .before .before .before .if1 .left) (c .before .before .before .before .before .if2 .left)), r .1)
 
-  -- src/lib.rt:189:17
   message-can-slice-read-known : message-can-lts.Need-slice-read-known (message-can-claims t) (message-can-at t) message-can.Post message-can-Inv-loop message-can-μ-loop
   message-can-slice-read-known c = let s = c .before .before .before .before .before .before .before .before in omega (arith, s .pre .1 .1 .0 .size, s .pre .1 .1 .1 .0)
 
-  -- src/lib.rt:191:9
   message-can-returns : message-can-lts.Need-returns (message-can-claims t) (message-can-at t) message-can.Post message-can-Inv-loop message-can-μ-loop
   message-can-returns c =
       let s = c .before .before .before .before .before .before .before .before .before in
       (sym (s .pre .1 .1 .0 .can (s .args .x) (c .if1 .taken)), s .pre .1 .1 .0)
 
-  -- src/lib.rt:194:9
   message-can-returns-2 : message-can-lts.Need-returns-2 (message-can-claims t) (message-can-at t) message-can.Post message-can-Inv-loop message-can-μ-loop
   message-can-returns-2 c =
       let s = c .before .before .before .before .before .before .before .before .before .before in
       (sym (s .pre .1 .1 .0 .cannot (s .args .x) (c .if2 .taken)), s .pre .1 .1 .0)
 
-  -- src/lib.rt:197:5
   message-can-loop-holds : message-can-lts.Need-loop-holds (message-can-claims t) (message-can-at t) message-can.Post message-can-Inv-loop message-can-μ-loop
   message-can-loop-holds c = scan-none (c .before .before .before .before .before .before .before .before .before .before .pre .1 .1 .0) _
 
-  -- src/lib.rt:198:20
   message-can-add-next : message-can-lts.Need-add-next (message-can-claims t) (message-can-at t) message-can.Post message-can-Inv-loop message-can-μ-loop
   message-can-add-next c = search needs
 
-  -- src/lib.rt:199:12
   message-can-message-at-requires : message-can-lts.Need-message-at-requires (message-can-claims t) (message-can-at t) message-can.Post message-can-Inv-loop message-can-μ-loop
   message-can-message-at-requires c κs = search needs
 
-  -- src/lib.rt:200:17
   message-can-field-can-requires : message-can-lts.Need-field-can-requires (message-can-claims t) (message-can-at t) message-can.Post message-can-Inv-loop message-can-μ-loop
   message-can-field-can-requires c κs =
       let s = c .before .before .before .before .before .before .before .before .before .before .before .before .before .before .before in
       let own = sym (c .before .before .message-at .ensures) ∙ c .before .if3 .taken in
       (omega (arith, s .pre .0), (s .pre .1 .0, (c .before .before .before .before .loop .inv .memo, (c .before .before .before .loop-test .taken, rw own (s .pre .1 .1 .1 .1)))))
 
-  -- src/lib.rt:212:17
   message-can-slice-write-memo : message-can-lts.Need-slice-write-memo (message-can-claims t) (message-can-at t) message-can.Post message-can-Inv-loop message-can-μ-loop
   message-can-slice-write-memo c = omega (arith, c .before .before .before .field-can .ensures .1 .size, c .before .before .before .before .before .before .before .before .before .before .before .before .before .before .before .before .before .before .before .pre .1 .1 .1 .0)
 
-  -- src/lib.rt:213:17
   message-can-same-length : message-can-lts.Need-same-length (message-can-claims t) (message-can-at t) message-can.Post message-can-Inv-loop message-can-μ-loop
   message-can-same-length c = kept-size (c .before .before .before .field-can .ensures .1) (c .before .before .before .before .before .before .before .before .before .before .before .before .before .before .before .before .before .before .before .pre .1 .1 .0) (c .before .before .before .before .before .before .before .before .before .before .before .before .before .before .before .before .before .before .before .args .x) 2
 
-  -- src/lib.rt:213:17
   message-can-returns-3 : message-can-lts.Need-returns-3 (message-can-claims t) (message-can-at t) message-can.Post message-can-Inv-loop message-can-μ-loop
   message-can-returns-3 c =
       let s = c .before .before .before .before .before .before .before .before .before .before .before .before .before .before .before .before .before .before .before in
@@ -152,33 +134,26 @@ module _ (t : ℕ) where
       let cannot = scan-not _ _ _ (s .args .x) (c .before .before .before .before .before .before .before .before .loop .i) (c .before .before .before .before .before .before .before .loop-test .taken) own (sym (r .0) ∙ not-true _ (c .if4 .taken)) in
       (sym cannot, memo-set (r .1) (s .args .x) 2 (s .pre .1 .1 .1 .0) (λ e. absurd (omega arith)) (λ e. cannot))
 
-  -- src/lib.rt:197:5
   message-can-loop-less : message-can-lts.Need-loop-less (message-can-claims t) (message-can-at t) message-can.Post message-can-Inv-loop message-can-μ-loop
   message-can-loop-less c = search needs
 
-  -- src/lib.rt:197:5
   message-can-loop-again : message-can-lts.Need-loop-again (message-can-claims t) (message-can-at t) message-can.Post message-can-Inv-loop message-can-μ-loop
   message-can-loop-again c =
       let r = c .before .before .before .field-can .ensures in
       scan-can (c .before .before .before .before .before .before .before .before .loop .inv) (c .before .before .before .before .before .before .before .loop-test .taken) (sym (c .before .before .before .before .before .before .message-at .ensures) ∙ c .before .before .before .before .before .if3 .taken) (r .1) (sym (r .0) ∙ not-false _ (c .if4 .left))
 
-  -- src/lib.rt:197:5
   message-can-loop-less-2 : message-can-lts.Need-loop-less-2 (message-can-claims t) (message-can-at t) message-can.Post message-can-Inv-loop message-can-μ-loop
   message-can-loop-less-2 c = search needs
 
-  -- src/lib.rt:197:5
   message-can-loop-again-2 : message-can-lts.Need-loop-again-2 (message-can-claims t) (message-can-at t) message-can.Post message-can-Inv-loop message-can-μ-loop
   message-can-loop-again-2 c = scan-other (c .before .before .before .loop .inv) (c .before .before .loop-test .taken) (λ e. c .if3 .left (c .before .message-at .ensures ∙ e))
 
-  -- src/lib.rt:218:5
   message-can-slice-write-memo-2 : message-can-lts.Need-slice-write-memo-2 (message-can-claims t) (message-can-at t) message-can.Post message-can-Inv-loop message-can-μ-loop
   message-can-slice-write-memo-2 c = omega (arith, c .before .loop .inv .memo .size, c .before .before .before .before .before .before .before .before .before .before .before .before .pre .1 .1 .1 .0)
 
-  -- src/lib.rt:171:1
   message-can-same-length-2 : message-can-lts.Need-same-length-2 (message-can-claims t) (message-can-at t) message-can.Post message-can-Inv-loop message-can-μ-loop
   message-can-same-length-2 c = kept-size (c .before .loop .inv .memo) (c .before .before .before .before .before .before .before .before .before .before .before .before .pre .1 .1 .0) (c .before .before .before .before .before .before .before .before .before .before .before .before .args .x) 1
 
-  -- src/lib.rt:171:1
   message-can-returns-4 : message-can-lts.Need-returns-4 (message-can-claims t) (message-can-at t) message-can.Post message-can-Inv-loop message-can-μ-loop
   message-can-returns-4 c =
       let s = c .before .before .before .before .before .before .before .before .before .before .before .before in

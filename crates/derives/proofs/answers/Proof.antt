@@ -14,9 +14,6 @@ use Rattle.derives.specs.Memo.{Memo}
 use Rattle.derives.proofs.Known.{memo-none}
 use Rattle.derives.proofs.answers.Statement.{statement}
 use Rattle.derives.proofs.answers.Tie as tie
-use Rattle.derives.proofs.answers.Reads as reads
-use Rattle.derives.proofs.answers.Lts as lts
-use Rattle.derives.proofs.message_can.Reads as message-can-reads
 
 abbrev Inv-loop : tie.InvT-loop
 Inv-loop derive owner target kind label set boxed memo₀ out₀ x₀ memo out x = (length out₀ ≡ messages) × Filled (can-message-derive derive (fields owner target kind label) set) out₀ out x × Memo derive (fields owner target kind label) set memo
@@ -24,37 +21,29 @@ Inv-loop derive owner target kind label set boxed memo₀ out₀ x₀ memo out x
 abbrev μ-loop : tie.MeasureT-loop
 μ-loop derive owner target kind label set boxed memo₀ out₀ x₀ memo out x = messages - x
 
--- src/lib.rt:279:5
 loop-holds : tie.Need-loop-holds Inv-loop μ-loop
 loop-holds c = (length-replicate messages false, filled-none, memo-none _ _ _)
 
--- src/lib.rt:288:13
 slice-aggregate-message-can : tie.Need-slice-aggregate-message-can Inv-loop μ-loop
 slice-aggregate-message-can c = sym (c .before .before .loop .inv .2 .size)
 
--- src/lib.rt:280:18
 message-can-requires : tie.Need-message-can-requires Inv-loop μ-loop
 message-can-requires c κs = (c .before .before .before .before .before .before .before .before .before .pre, (c .before .before .loop .inv .2, (c .before .loop-test .taken, rank-most _ _)))
 
--- src/lib.rt:280:9
 array-write-out : tie.Need-array-write-out Inv-loop μ-loop
 array-write-out c = omega (arith, c .before .before .before .before .loop .inv .1 .size, c .before .before .before .before .loop .inv .0)
 
--- src/lib.rt:292:9
 add-x : tie.Need-add-x Inv-loop μ-loop
 add-x c = search needs
 
--- src/lib.rt:279:5
 loop-less : tie.Need-loop-less Inv-loop μ-loop
 loop-less c = search needs
 
--- src/lib.rt:279:5
 loop-again : tie.Need-loop-again Inv-loop μ-loop
 loop-again c =
     let old = c .before .before .before .before .loop .inv .0 in
     (old, filled-more (c .before .before .before .before .loop .inv .1) (omega (arith, c .before .before .before .loop-test .taken)) (c .before .message-can .result) (c .before .message-can .ensures .0), c .before .message-can .ensures .1)
 
--- src/lib.rt:264:1
 returns : tie.Need-returns Inv-loop μ-loop
 returns c = filled-all (c .before .loop .inv .1) messages (c .before .loop .inv .0) (c .loop-test .left)
 

@@ -3,33 +3,23 @@ use Rattle.derives.specs.Rules.{rule}
 use borrow.Author.Needs.{needs}
 use Rattle.derives.proofs.can_field_derive.Statement.{statement}
 use Rattle.derives.proofs.can_field_derive.Tie as tie
-use Rattle.derives.proofs.can_field_derive.Reads as reads
-use Rattle.derives.proofs.can_field_derive.Lts as lts
-use Rattle.derives.proofs.can_field_derive_copy.Reads as can-field-derive-copy-reads
-use Rattle.derives.proofs.can_field_derive_eq.Reads as can-field-derive-eq-reads
 
--- src/lib.rt:112:25
 enum-told : tie.Need-enum-told
 enum-told c = search needs
 
--- src/lib.rt:112:25
 can-field-derive-copy-requires : tie.Need-can-field-derive-copy-requires
 can-field-derive-copy-requires c κs = search needs
 
--- src/lib.rt:113:23
 enum-told-2 : tie.Need-enum-told-2
 enum-told-2 c = search needs
 
--- src/lib.rt:113:23
 can-field-derive-eq-requires : tie.Need-can-field-derive-eq-requires
 can-field-derive-eq-requires c κs = search needs
 
--- src/lib.rt:101:1
 returns : tie.Need-returns
 unfolding rule
 returns c = rw (c .before .enum-told .given .1) (c .can-field-derive-copy .ensures)
 
--- src/lib.rt:101:1
 returns-2 : tie.Need-returns-2
 unfolding rule
 returns-2 c = rw (c .before .enum-told2 .given .1) (c .can-field-derive-eq .ensures)

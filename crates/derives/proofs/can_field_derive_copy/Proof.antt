@@ -4,35 +4,26 @@ use Rattle.derives.specs.Rules.{can-field-derive-copy, can-field-derive-
 use borrow.Author.Needs.{needs}
 use Rattle.derives.proofs.can_field_derive_copy.Statement.{statement}
 use Rattle.derives.proofs.can_field_derive_copy.Tie as tie
-use Rattle.derives.proofs.can_field_derive_copy.Reads as reads
-use Rattle.derives.proofs.can_field_derive_copy.Lts as lts
-use Rattle.derives.proofs.is_of.Reads as is-of-reads
 
--- src/lib.rt:61:9
 returns : tie.Need-returns
 unfolding can-field-derive-copy
 returns c = search (choices, flags, c .if1 .taken) depth 12
 
--- src/lib.rt:65:13
 returns-2 : tie.Need-returns-2
 unfolding can-field-derive-copy
 returns-2 c = search (choices, flags, c .if3 .taken, c .before .if2 .taken, c .before .before .if1 .left) depth 12
 
--- src/lib.rt:68:13
 returns-3 : tie.Need-returns-3
 unfolding can-field-derive-copy
 returns-3 c = search (choices, flags, c .if4 .taken, c .before .if3 .left, c .before .before .if2 .taken, c .before .before .before .if1 .left) depth 12
 
--- src/lib.rt:70:9
 returns-4 : tie.Need-returns-4
 unfolding can-field-derive-copy
 returns-4 c = search (choices, flags, c .if4 .left, c .before .if3 .left, c .before .before .if2 .taken, c .before .before .before .if1 .left) depth 12
 
--- src/lib.rt:72:5
 is-of-requires : tie.Need-is-of-requires
 is-of-requires c κs = search needs
 
--- src/lib.rt:57:1
 returns-5 : tie.Need-returns-5
 unfolding can-field-derive-copy
 returns-5 c = search (choices, flags, c .is-of .ensures, c .before .if2 .left, c .before .before .if1 .left) depth 12

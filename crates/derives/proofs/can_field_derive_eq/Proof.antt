@@ -4,30 +4,22 @@ use Rattle.derives.specs.Rules.{can-field-derive-copy, can-field-derive-
 use borrow.Author.Needs.{needs}
 use Rattle.derives.proofs.can_field_derive_eq.Statement.{statement}
 use Rattle.derives.proofs.can_field_derive_eq.Tie as tie
-use Rattle.derives.proofs.can_field_derive_eq.Reads as reads
-use Rattle.derives.proofs.can_field_derive_eq.Lts as lts
-use Rattle.derives.proofs.is_of.Reads as is-of-reads
 
--- src/lib.rt:80:13
 returns : tie.Need-returns
 unfolding can-field-derive-eq
 returns c = search (choices, flags, c .if2 .taken, c .before .if1 .taken) depth 12
 
--- src/lib.rt:83:13
 returns-2 : tie.Need-returns-2
 unfolding can-field-derive-eq
 returns-2 c = search (choices, flags, c .if3 .taken, c .before .if2 .left, c .before .before .if1 .taken) depth 12
 
--- src/lib.rt:85:9
 returns-3 : tie.Need-returns-3
 unfolding can-field-derive-eq
 returns-3 c = search (choices, flags, c .if3 .left, c .before .if2 .left, c .before .before .if1 .taken) depth 12
 
--- src/lib.rt:87:5
 is-of-requires : tie.Need-is-of-requires
 is-of-requires c κs = search needs
 
--- src/lib.rt:75:1
 returns-4 : tie.Need-returns-4
 unfolding can-field-derive-eq
 returns-4 c = search (choices, flags, c .is-of .ensures, c .before .if1 .left) depth 12

@@ -4,18 +4,13 @@ use mathlib.Core.Bool.{false}
 use borrow.Author.Needs.{needs}
 use Rattle.derives.proofs.flag_at.Statement.{statement}
 use Rattle.derives.proofs.flag_at.Tie as tie
-use Rattle.derives.proofs.flag_at.Reads as reads
-use Rattle.derives.proofs.flag_at.Lts as lts
 
--- src/lib.rt:122:16
 shared-slice-read-result : tie.Need-shared-slice-read-result
 shared-slice-read-result c = search needs
 
--- src/lib.rt:122:9
 returns : tie.Need-returns
 returns c = search needs
 
--- src/lib.rt:118:1
 returns-2 : tie.Need-returns-2
 returns-2 c = sym (List·getD-eq-default (c .before .args .s .now) false (c .if1 .left))
 

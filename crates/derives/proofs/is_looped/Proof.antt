@@ -6,23 +6,16 @@ use Rattle.message_graph.specs.Tab.{tab-at}
 use borrow.Author.Needs.{needs}
 use Rattle.derives.proofs.is_looped.Statement.{statement}
 use Rattle.derives.proofs.is_looped.Tie as tie
-use Rattle.derives.proofs.is_looped.Reads as reads
-use Rattle.derives.proofs.is_looped.Lts as lts
-use Rattle.message_graph.proofs.boxed_by_loop.Reads as boxed-by-loop-reads
 
--- src/lib.rt:140:16
 shared-slice-read-result : tie.Need-shared-slice-read-result
 shared-slice-read-result c = search needs
 
--- src/lib.rt:140:9
 returns : tie.Need-returns
 returns c = ap (λ (l : List Bool). getD l (c .before .before .before .before .before .before .before .args .i) false) (c .before .before .before .before .before .before .before .pre) ∙ tab-at _ _ false (c .before .before .before .before .before .before .before .args .i) (c .before .if1 .taken)
 
--- src/lib.rt:142:5
 boxed-by-loop-requires : tie.Need-boxed-by-loop-requires
 boxed-by-loop-requires c κs = search needs
 
--- src/lib.rt:128:1
 returns-2 : tie.Need-returns-2
 returns-2 c = search needs
 

@@ -4,20 +4,14 @@ use Rattle.derives.specs.Rules.{is-of}
 use borrow.Author.Needs.{needs}
 use Rattle.derives.proofs.is_of.Statement.{statement}
 use Rattle.derives.proofs.is_of.Tie as tie
-use Rattle.derives.proofs.is_of.Reads as reads
-use Rattle.derives.proofs.is_of.Lts as lts
-use Rattle.derives.proofs.sort_of.Reads as sort-of-reads
 
--- src/lib.rt:50:9
 sort-of-requires : tie.Need-sort-of-requires
 sort-of-requires c κs = search needs
 
--- src/lib.rt:52:9
 returns : tie.Need-returns
 unfolding is-of
 returns c = rw (← c .before .sort-of .ensures, eq-eqb _ _ (c .if1 .taken))
 
--- src/lib.rt:47:1
 returns-2 : tie.Need-returns-2
 unfolding is-of
 returns-2 c = rw (← c .before .sort-of .ensures, ne-eqb _ _ (c .if1 .left))

@@ -7,14 +7,6 @@ use mathlib.Core.List.{List}
 use lib.ListN.{length, length-set}
 use Rattle.graph_cases.proofs.large.Statement.{statement}
 use Rattle.graph_cases.proofs.large.Tie as tie
-use Rattle.graph_cases.proofs.large.Reads as reads
-use Rattle.graph_cases.proofs.large.Lts as lts
-use Rattle.graph_cases.proofs.kind_at.Reads as kind-at-reads
-use Rattle.graph_cases.proofs.label_at.Reads as label-at-reads
-use Rattle.graph_cases.proofs.owner_at.Reads as owner-at-reads
-use Rattle.graph_cases.proofs.set_at.Reads as set-at-reads
-use Rattle.graph_cases.proofs.show_counts.Reads as show-counts-reads
-use Rattle.graph_cases.proofs.target_at.Reads as target-at-reads
 
 -- each column has its length
 record Long (owner target kind label : List ℕ) (set : List Bool) (i : ℕ) : Type 0 where
@@ -31,87 +23,66 @@ Inv-loop case owner₀ target₀ kind₀ label₀ set₀ i₀ owner target kind 
 abbrev μ-loop : tie.MeasureT-loop
 μ-loop case owner₀ target₀ kind₀ label₀ set₀ i₀ owner target kind label set i = 2048 - i
 
--- src/main.rt:110:5
 loop-holds : tie.Need-loop-holds Inv-loop μ-loop
 loop-holds c = search needs
 
--- src/main.rt:111:20
 owner-at-requires : tie.Need-owner-at-requires Inv-loop μ-loop
 owner-at-requires c κs = search needs
 
--- src/main.rt:111:9
 array-write-owner : tie.Need-array-write-owner Inv-loop μ-loop
 array-write-owner c = search needs
 
--- src/main.rt:112:21
 target-at-requires : tie.Need-target-at-requires Inv-loop μ-loop
 target-at-requires c κs = search needs
 
--- src/main.rt:112:9
 array-write-target : tie.Need-array-write-target Inv-loop μ-loop
 array-write-target c = search needs
 
--- src/main.rt:113:19
 kind-at-requires : tie.Need-kind-at-requires Inv-loop μ-loop
 kind-at-requires c κs = search needs
 
--- src/main.rt:113:9
 array-write-kind : tie.Need-array-write-kind Inv-loop μ-loop
 array-write-kind c = search needs
 
--- src/main.rt:114:20
 label-at-requires : tie.Need-label-at-requires Inv-loop μ-loop
 label-at-requires c κs = search needs
 
--- src/main.rt:114:9
 array-write-label : tie.Need-array-write-label Inv-loop μ-loop
 array-write-label c = search needs
 
--- src/main.rt:115:18
 set-at-requires : tie.Need-set-at-requires Inv-loop μ-loop
 set-at-requires c κs = search needs
 
--- src/main.rt:115:9
 array-write-set : tie.Need-array-write-set Inv-loop μ-loop
 array-write-set c = search needs
 
--- src/main.rt:116:9
 add-i : tie.Need-add-i Inv-loop μ-loop
 add-i c = search needs
 
--- src/main.rt:110:5
 loop-less : tie.Need-loop-less Inv-loop μ-loop
 loop-less c = search needs
 
--- src/main.rt:110:5
 loop-again : tie.Need-loop-again Inv-loop μ-loop
 loop-again c = let h = c .before .before .before .before .before .before .loop .inv in record { within = omega arith; owners = simp length-set (h .owners); targets = simp length-set (h .targets); kinds = simp length-set (h .kinds); labels = simp length-set (h .labels); sets = simp length-set (h .sets) }
 
--- src/main.rt:118:17
 slice-aggregate-show-counts : tie.Need-slice-aggregate-show-counts Inv-loop μ-loop
 slice-aggregate-show-counts c = search needs
 
--- src/main.rt:118:25
 slice-aggregate-show-counts-2 : tie.Need-slice-aggregate-show-counts-2 Inv-loop μ-loop
 slice-aggregate-show-counts-2 c = search needs
 
--- src/main.rt:118:34
 slice-aggregate-show-counts-3 : tie.Need-slice-aggregate-show-counts-3 Inv-loop μ-loop
 slice-aggregate-show-counts-3 c = search needs
 
--- src/main.rt:118:41
 slice-aggregate-show-counts-4 : tie.Need-slice-aggregate-show-counts-4 Inv-loop μ-loop
 slice-aggregate-show-counts-4 c = search needs
 
--- src/main.rt:118:49
 slice-aggregate-show-counts-5 : tie.Need-slice-aggregate-show-counts-5 Inv-loop μ-loop
 slice-aggregate-show-counts-5 c = search needs
 
--- src/main.rt:118:5
 show-counts-requires : tie.Need-show-counts-requires Inv-loop μ-loop
 show-counts-requires c κs = search needs
 
--- src/main.rt:103:1
 returns : tie.Need-returns Inv-loop μ-loop
 returns c = search needs
 

@@ -3,10 +3,6 @@ use native.Mathlib.Omega.{arith}
 use Prim.Native.Nat.{_≤_, _-_}
 use Rattle.graph_cases.proofs.main.Statement.{statement}
 use Rattle.graph_cases.proofs.main.Tie as tie
-use Rattle.graph_cases.proofs.main.Reads as reads
-use Rattle.graph_cases.proofs.main.Lts as lts
-use Rattle.graph_cases.proofs.large.Reads as large-reads
-use Rattle.graph_cases.proofs.replay.Reads as replay-reads
 
 abbrev Inv-loop : tie.InvT-loop
 Inv-loop case₀ case = case ≤ 8
@@ -20,51 +16,39 @@ Inv-loop2 case sets₀ sets = sets ≤ 100
 abbrev μ-loop2 : tie.MeasureT-loop2
 μ-loop2 case sets₀ sets = 100 - sets
 
--- src/main.rt:163:5
 loop-holds : tie.Need-loop-holds Inv-loop μ-loop Inv-loop2 μ-loop2
 loop-holds c = search needs
 
--- src/main.rt:164:9
 large-requires : tie.Need-large-requires Inv-loop μ-loop Inv-loop2 μ-loop2
 large-requires c κs = search needs
 
--- src/main.rt:165:9
 add-case : tie.Need-add-case Inv-loop μ-loop Inv-loop2 μ-loop2
 add-case c = search needs
 
--- src/main.rt:163:5
 loop-less : tie.Need-loop-less Inv-loop μ-loop Inv-loop2 μ-loop2
 loop-less c = search needs
 
--- src/main.rt:163:5
 loop-again : tie.Need-loop-again Inv-loop μ-loop Inv-loop2 μ-loop2
 loop-again c = search needs
 
--- src/main.rt:168:5
 loop2-holds : tie.Need-loop2-holds Inv-loop μ-loop Inv-loop2 μ-loop2
 loop2-holds c = search needs
 
--- src/main.rt:169:13
 replay-requires : tie.Need-replay-requires Inv-loop μ-loop Inv-loop2 μ-loop2
 replay-requires c κs = search needs
 
--- src/main.rt:170:13
 returns : tie.Need-returns Inv-loop μ-loop Inv-loop2 μ-loop2
 returns c = search needs
 
--- src/main.rt:172:9
 add-sets : tie.Need-add-sets Inv-loop μ-loop Inv-loop2 μ-loop2
 add-sets c = search needs
 
--- src/main.rt:168:5
 loop2-less : tie.Need-loop2-less Inv-loop μ-loop Inv-loop2 μ-loop2
 loop2-less c = search needs
 
--- src/main.rt:168:5
 loop2-again : tie.Need-loop2-again Inv-loop μ-loop Inv-loop2 μ-loop2
 loop2-again c = search needs
 
--- src/main.rt:161:1
 returns-2 : tie.Need-returns-2 Inv-loop μ-loop Inv-loop2 μ-loop2
 returns-2 c = search needs
 

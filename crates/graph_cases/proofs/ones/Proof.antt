@@ -5,9 +5,6 @@ use mathlib.Core.Path.{_≡_, refl, sym, _∙_}
 use lib.ListN.{length, length-set}
 use Rattle.graph_cases.proofs.ones.Statement.{statement}
 use Rattle.graph_cases.proofs.ones.Tie as tie
-use Rattle.graph_cases.proofs.ones.Reads as reads
-use Rattle.graph_cases.proofs.ones.Lts as lts
-use Rattle.base.proofs.byte_at.Reads as byte-at-reads
 
 abbrev Inv-loop : tie.InvT-loop
 Inv-loop s out₀ i₀ out i = (i ≤ 64) × (length out ≡ 64)
@@ -15,31 +12,24 @@ Inv-loop s out₀ i₀ out i = (i ≤ 64) × (length out ≡ 64)
 abbrev μ-loop : tie.MeasureT-loop
 μ-loop s out₀ i₀ out i = 64 - i
 
--- src/main.rt:135:5
 loop-holds : tie.Need-loop-holds Inv-loop μ-loop
 loop-holds c = search needs
 
--- src/main.rt:136:18
 byte-at-requires : tie.Need-byte-at-requires Inv-loop μ-loop
 byte-at-requires c κs = search needs
 
--- src/main.rt:136:9
 array-write-out : tie.Need-array-write-out Inv-loop μ-loop
 array-write-out c = search needs
 
--- src/main.rt:137:9
 add-i : tie.Need-add-i Inv-loop μ-loop
 add-i c = search needs
 
--- src/main.rt:135:5
 loop-less : tie.Need-loop-less Inv-loop μ-loop
 loop-less c = search needs
 
--- src/main.rt:135:5
 loop-again : tie.Need-loop-again Inv-loop μ-loop
 loop-again c = simp length-set (omega arith)
 
--- src/main.rt:132:1
 returns : tie.Need-returns Inv-loop μ-loop
 returns c = search needs
 

@@ -5,10 +5,6 @@ use mathlib.Core.Path.{_≡_, refl, sym, _∙_}
 use lib.ListN.{length, length-set}
 use Rattle.graph_cases.proofs.put_digits.Statement.{statement}
 use Rattle.graph_cases.proofs.put_digits.Tie as tie
-use Rattle.graph_cases.proofs.put_digits.Reads as reads
-use Rattle.graph_cases.proofs.put_digits.Lts as lts
-use Rattle.graph_cases.proofs.digit_at.Reads as digit-at-reads
-use Rattle.io.proofs.write_all.Reads as write-all-reads
 
 abbrev Inv-loop : tie.InvT-loop
 Inv-loop s end line₀ i₀ line i = (i ≤ 64) × (length line ≡ 64)
@@ -16,43 +12,33 @@ Inv-loop s end line₀ i₀ line i = (i ≤ 64) × (length line ≡ 64)
 abbrev μ-loop : tie.MeasureT-loop
 μ-loop s end line₀ i₀ line i = 64 - i
 
--- src/main.rt:85:5
 loop-holds : tie.Need-loop-holds Inv-loop μ-loop
 loop-holds c = search needs
 
--- src/main.rt:86:19
 digit-at-requires : tie.Need-digit-at-requires Inv-loop μ-loop
 digit-at-requires c κs = search needs
 
--- src/main.rt:86:9
 array-write-line : tie.Need-array-write-line Inv-loop μ-loop
 array-write-line c = search needs
 
--- src/main.rt:87:9
 add-i : tie.Need-add-i Inv-loop μ-loop
 add-i c = search needs
 
--- src/main.rt:85:5
 loop-less : tie.Need-loop-less Inv-loop μ-loop
 loop-less c = search needs
 
--- src/main.rt:85:5
 loop-again : tie.Need-loop-again Inv-loop μ-loop
 loop-again c = simp length-set (omega arith)
 
--- src/main.rt:89:22
 slice-aggregate-write-all : tie.Need-slice-aggregate-write-all Inv-loop μ-loop
 slice-aggregate-write-all c = search needs
 
--- src/main.rt:89:5
 write-all-requires : tie.Need-write-all-requires Inv-loop μ-loop
 write-all-requires c κs = search needs
 
--- src/main.rt:90:5
 write-all-requires-2 : tie.Need-write-all-requires-2 Inv-loop μ-loop
 write-all-requires-2 c κs = search needs
 
--- src/main.rt:82:1
 returns : tie.Need-returns Inv-loop μ-loop
 returns c = search needs
 

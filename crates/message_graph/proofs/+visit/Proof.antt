@@ -39,42 +39,33 @@ abbrev visit-μ-loop : visit-lts.MeasureT-loop
 visit-μ-loop owner target kind label first end marks₀ x last i₀ marks i = last - i
 
 module _ (t : ℕ) where
-  -- src/lib.rt:136:5
   visit-slice-write-marks : visit-lts.Need-slice-write-marks (visit-claims t) (visit-at t) visit.Post visit-Inv-loop visit-μ-loop
   visit-slice-write-marks c = let s = c .before .before .before .before .before .before .before in omega (arith, s .pre .1 .1 .1 .0, s .pre .1 .1 .1 .1)
 
-  -- src/lib.rt:137:9
   visit-place-at-requires : visit-lts.Need-place-at-requires (visit-claims t) (visit-at t) visit.Post visit-Inv-loop visit-μ-loop
   visit-place-at-requires c κs = search needs
 
-  -- src/lib.rt:138:9
   visit-place-at-requires-2 : visit-lts.Need-place-at-requires-2 (visit-claims t) (visit-at t) visit.Post visit-Inv-loop visit-μ-loop
   visit-place-at-requires-2 c κs = search needs
 
-  -- src/lib.rt:139:5
   visit-loop-holds : visit-lts.Need-loop-holds (visit-claims t) (visit-at t) visit.Post visit-Inv-loop visit-μ-loop
   visit-loop-holds c = visiting-start _ _ _ _
 
-  -- src/lib.rt:140:20
   visit-add-next : visit-lts.Need-add-next (visit-claims t) (visit-at t) visit.Post visit-Inv-loop visit-μ-loop
   visit-add-next c = search needs
 
-  -- src/lib.rt:141:12
   visit-is-link-of-requires : visit-lts.Need-is-link-of-requires (visit-claims t) (visit-at t) visit.Post visit-Inv-loop visit-μ-loop
   visit-is-link-of-requires c κs = search needs
 
-  -- src/lib.rt:142:17
   visit-message-at-requires : visit-lts.Need-message-at-requires (visit-claims t) (visit-at t) visit.Post visit-Inv-loop visit-μ-loop
   visit-message-at-requires c κs = search needs
 
-  -- src/lib.rt:143:17
   visit-slice-read-if2 : visit-lts.Need-slice-read-if2 (visit-claims t) (visit-at t) visit.Post visit-Inv-loop visit-μ-loop
   visit-slice-read-if2 c =
       let s = c .before .before .before .before .before .before .before .before .before .before .before .before .before .before .before in
       let size : length (c .before .before .before .before .before .loop .marks) ≡ length (s .args .marks .now) = c .before .before .before .before .before .loop .inv .size ∙ length-set (s .args .marks .now) (s .args .x) true in
       omega (arith, c .before .message-at .ensures, message-at-below (s .args .target .now) (c .before .before .before .before .before .loop .i), s .pre .1 .1 .1 .1)
 
-  -- src/lib.rt:144:17
   visit-visit-requires : visit-lts.Need-visit-requires (visit-claims t) (visit-at t) visit.Post visit-Inv-loop visit-μ-loop
   visit-visit-requires c κs =
       let s = c .before .before .before .before .before .before .before .before .before .before .before .before .before .before .before .before .before in
@@ -84,37 +75,29 @@ module _ (t : ℕ) where
       let less = clear-set (s .args .marks .now) (s .args .x) x-in (s .pre .1 .1 .1 .2) in
       (omega (arith, s .pre .0), (s .pre .1 .0, (s .pre .1 .1 .0, (omega (arith, c .before .before .before .message-at .ensures, message-at-below (s .args .target .now) (c .before .before .before .before .before .before .before .loop .i)), size ∙ s .pre .1 .1 .1 .1, not-true _ (c .before .if2 .taken)))))
 
-  -- src/lib.rt:139:5
   visit-loop-less : visit-lts.Need-loop-less (visit-claims t) (visit-at t) visit.Post visit-Inv-loop visit-μ-loop
   visit-loop-less c = search needs
 
-  -- src/lib.rt:139:5
   visit-loop-again : visit-lts.Need-loop-again (visit-claims t) (visit-at t) visit.Post visit-Inv-loop visit-μ-loop
   visit-loop-again c = visiting-on (c .before .before .before .before .before .before .before .before .before .before .loop .inv) (c .before .before .before .before .before .before .message-at .result) (c .before .before .before .before .before .before .message-at .ensures) (link-here _ (c .before .before .before .before .before .before .before .before .before .before .before .before .before .before .before .before .before .before .before .before .pre .1 .1 .0) (c .before .before .before .before .before .before .before .before .before .before .before .before .place-at .ensures) (c .before .before .before .before .before .before .before .before .before .loop-test .taken) _ (c .before .before .before .before .before .before .before .before .is-link-of .ensures) (c .before .before .before .before .before .before .before .if1 .taken) (c .before .before .before .before .before .before .message-at .ensures)) (c .before .before .visit .ensures)
 
-  -- src/lib.rt:139:5
   visit-loop-less-2 : visit-lts.Need-loop-less-2 (visit-claims t) (visit-at t) visit.Post visit-Inv-loop visit-μ-loop
   visit-loop-less-2 c = search needs
 
-  -- src/lib.rt:139:5
   visit-loop-again-2 : visit-lts.Need-loop-again-2 (visit-claims t) (visit-at t) visit.Post visit-Inv-loop visit-μ-loop
   visit-loop-again-2 c = visiting-there (c .before .before .before .before .before .before .loop .inv) (c .before .before .message-at .result) (c .before .before .message-at .ensures) (not-false _ (c .if2 .left))
 
-  -- src/lib.rt:139:5
   visit-loop-less-3 : visit-lts.Need-loop-less-3 (visit-claims t) (visit-at t) visit.Post visit-Inv-loop visit-μ-loop
   visit-loop-less-3 c = search needs
 
-  -- src/lib.rt:139:5
   visit-loop-again-3 : visit-lts.Need-loop-again-3 (visit-claims t) (visit-at t) visit.Post visit-Inv-loop visit-μ-loop
   visit-loop-again-3 c = visiting-past (c .before .before .before .loop .inv) _ (c .before .is-link-of .ensures) (c .if1 .left)
 
-  -- src/lib.rt:121:1
   visit-same-length : visit-lts.Need-same-length (visit-claims t) (visit-at t) visit.Post visit-Inv-loop visit-μ-loop
   visit-same-length c =
       let s = c .before .before .before .before .before .before .before .before .before .before .before in
       c .before .loop .inv .size ∙ length-set (s .args .marks .now) (s .args .x) true
 
-  -- src/lib.rt:121:1
   visit-returns : visit-lts.Need-returns (visit-claims t) (visit-at t) visit.Post visit-Inv-loop visit-μ-loop
   visit-returns c =
       let s = c .before .before .before .before .before .before .before .before .before .before .before in

@@ -9,11 +9,6 @@ use Rattle.message_graph.specs.Marks.{Firsts, Ends}
 use Rattle.message_graph.specs.Tab.{Filled, filled-none, filled-more, filled-all}
 use Rattle.message_graph.proofs.boxes.Statement.{statement}
 use Rattle.message_graph.proofs.boxes.Tie as tie
-use Rattle.message_graph.proofs.boxes.Reads as reads
-use Rattle.message_graph.proofs.boxes.Lts as lts
-use Rattle.message_graph.proofs.ends.Reads as ends-reads
-use Rattle.message_graph.proofs.firsts.Reads as firsts-reads
-use Rattle.message_graph.proofs.loop_at.Reads as loop-at-reads
 
 abbrev Inv-loop : tie.InvT-loop
 Inv-loop owner target kind label out₀ first end i₀ out i = Filled (boxed-by-loop (fields owner target kind label)) out₀ out i
@@ -21,51 +16,39 @@ Inv-loop owner target kind label out₀ first end i₀ out i = Filled (boxed-by-
 abbrev μ-loop : tie.MeasureT-loop
 μ-loop owner target kind label out₀ first end i₀ out i = length out₀ - i
 
--- src/lib.rt:230:17
 firsts-requires : tie.Need-firsts-requires Inv-loop μ-loop
 firsts-requires c κs = search needs
 
--- src/lib.rt:231:15
 ends-requires : tie.Need-ends-requires Inv-loop μ-loop
 ends-requires c κs = search needs
 
--- src/lib.rt:233:5
 loop-holds : tie.Need-loop-holds Inv-loop μ-loop
 loop-holds c = filled-none
 
--- src/lib.rt:234:54
 slice-aggregate-loop-at : tie.Need-slice-aggregate-loop-at Inv-loop μ-loop
 slice-aggregate-loop-at c = search needs
 
--- src/lib.rt:234:62
 slice-aggregate-loop-at-2 : tie.Need-slice-aggregate-loop-at-2 Inv-loop μ-loop
 slice-aggregate-loop-at-2 c = search needs
 
--- src/lib.rt:234:18
 loop-at-requires : tie.Need-loop-at-requires Inv-loop μ-loop
 loop-at-requires c κs = (c .before .before .before .before .before .firsts .ensures, c .before .before .before .before .ends .ensures)
 
--- src/lib.rt:234:9
 slice-write-out : tie.Need-slice-write-out Inv-loop μ-loop
 slice-write-out c = search needs
 
--- src/lib.rt:235:9
 add-i : tie.Need-add-i Inv-loop μ-loop
 add-i c = search needs
 
--- src/lib.rt:233:5
 loop-less : tie.Need-loop-less Inv-loop μ-loop
 loop-less c = search needs
 
--- src/lib.rt:233:5
 loop-again : tie.Need-loop-again Inv-loop μ-loop
 loop-again c = filled-more (c .before .before .before .before .loop .inv) (omega (arith, c .before .before .before .before .loop .inv .size)) (c .loop-at .result) (c .loop-at .ensures)
 
--- src/lib.rt:227:1
 same-length : tie.Need-same-length Inv-loop μ-loop
 same-length c = c .before .loop .inv .size
 
--- src/lib.rt:227:1
 returns : tie.Need-returns Inv-loop μ-loop
 returns c = filled-all (c .before .loop .inv) _ refl (omega (arith, c .before .loop .inv .size))
 

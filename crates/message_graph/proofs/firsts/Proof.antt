@@ -6,9 +6,6 @@ use Rattle.message_graph.specs.Fields.{message-at-below}
 use Rattle.message_graph.proofs.Spans.{FirstsFrom, firsts-none, firsts-more, firsts-all}
 use Rattle.message_graph.proofs.firsts.Statement.{statement}
 use Rattle.message_graph.proofs.firsts.Tie as tie
-use Rattle.message_graph.proofs.firsts.Reads as reads
-use Rattle.message_graph.proofs.firsts.Lts as lts
-use Rattle.message_graph.proofs.message_at.Reads as message-at-reads
 
 abbrev Inv-loop : tie.InvT-loop
 Inv-loop owner first₀ i₀ first i = FirstsFrom owner first i
@@ -16,35 +13,27 @@ Inv-loop owner first₀ i₀ first i = FirstsFrom owner first i
 abbrev μ-loop : tie.MeasureT-loop
 μ-loop owner first₀ i₀ first i = i
 
--- src/lib.rt:98:5
 loop-holds : tie.Need-loop-holds Inv-loop μ-loop
 loop-holds c = firsts-none _
 
--- src/lib.rt:99:9
 sub-i : tie.Need-sub-i Inv-loop μ-loop
 sub-i c = search needs
 
--- src/lib.rt:100:13
 message-at-requires : tie.Need-message-at-requires Inv-loop μ-loop
 message-at-requires c κs = search needs
 
--- src/lib.rt:101:9
 mul-first : tie.Need-mul-first Inv-loop μ-loop
 mul-first c = omega (arith, c .message-at .ensures, message-at-below (c .before .before .before .before .args .owner .now) (c .before .before .loop .i - 1))
 
--- src/lib.rt:101:9
 array-write-first : tie.Need-array-write-first Inv-loop μ-loop
 array-write-first c = omega (arith, c .before .before .loop .inv .size, c .message-at .ensures, message-at-below (c .before .before .before .before .args .owner .now) (c .before .before .loop .i - 1))
 
--- src/lib.rt:98:5
 loop-less : tie.Need-loop-less Inv-loop μ-loop
 loop-less c = search needs
 
--- src/lib.rt:98:5
 loop-again : tie.Need-loop-again Inv-loop μ-loop
 loop-again c = firsts-more (c .before .before .loop .inv) (c .before .loop-test .taken) _ (c .message-at .ensures)
 
--- src/lib.rt:93:1
 returns : tie.Need-returns Inv-loop μ-loop
 returns c = firsts-all (c .before .loop .inv) (c .loop-test .left)
 

@@ -3,15 +3,11 @@ use borrow.Author.Tests.{eq-eqb, ne-eqb}
 use Rattle.message_graph.specs.Fields.{is-link}
 use Rattle.message_graph.proofs.is_link.Statement.{statement}
 use Rattle.message_graph.proofs.is_link.Tie as tie
-use Rattle.message_graph.proofs.is_link.Reads as reads
-use Rattle.message_graph.proofs.is_link.Lts as lts
 
--- src/lib.rt:62:9
 returns : tie.Need-returns
 unfolding is-link
 returns c = rw (eq-eqb _ 11 (c .if1 .taken))
 
--- src/lib.rt:58:1
 returns-2 : tie.Need-returns-2
 unfolding is-link
 returns-2 c = rw (ne-eqb _ 11 (c .if1 .left))

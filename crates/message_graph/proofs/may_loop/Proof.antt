@@ -3,20 +3,15 @@ use borrow.Author.Tests.{eq-eqb, ne-eqb}
 use Rattle.message_graph.specs.Boxes.{may-loop}
 use Rattle.message_graph.proofs.may_loop.Statement.{statement}
 use Rattle.message_graph.proofs.may_loop.Tie as tie
-use Rattle.message_graph.proofs.may_loop.Reads as reads
-use Rattle.message_graph.proofs.may_loop.Lts as lts
 
--- src/lib.rt:72:9
 returns : tie.Need-returns
 unfolding may-loop
 returns c = rw (eq-eqb _ 11 (c .if1 .taken))
 
--- src/lib.rt:75:9
 returns-2 : tie.Need-returns-2
 unfolding may-loop
 returns-2 c = rw (ne-eqb _ 11 (c .before .if1 .left), eq-eqb _ 10 (c .if2 .taken))
 
--- src/lib.rt:68:1
 returns-3 : tie.Need-returns-3
 unfolding may-loop
 returns-3 c = rw (ne-eqb _ 11 (c .before .if1 .left), ne-eqb _ 10 (c .if2 .left))

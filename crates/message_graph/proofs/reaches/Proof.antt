@@ -7,31 +7,22 @@ use Rattle.message_graph.proofs.Visits.{off, visited-all}
 use borrow.Author.Needs.{needs}
 use Rattle.message_graph.proofs.reaches.Statement.{statement}
 use Rattle.message_graph.proofs.reaches.Tie as tie
-use Rattle.message_graph.proofs.reaches.Reads as reads
-use Rattle.message_graph.proofs.reaches.Lts as lts
-use Rattle.message_graph.proofs.visit.Reads as visit-reads
 
--- src/lib.rt:167:9
 returns : tie.Need-returns
 returns c = sym (outside-from _ _ _ (c .if1 .taken))
 
--- src/lib.rt:170:9
 returns-2 : tie.Need-returns-2
 returns-2 c = sym (outside-to _ _ _ (c .if2 .taken))
 
--- src/lib.rt:173:51
 slice-aggregate-visit : tie.Need-slice-aggregate-visit
 slice-aggregate-visit c = search needs
 
--- src/lib.rt:173:5
 visit-requires : tie.Need-visit-requires
 visit-requires c κs = (c .before .before .before .before .before .before .before .before .before .pre .0, (c .before .before .before .before .before .before .before .before .before .pre .1, (c .before .before .if1 .left, length-replicate messages false, off messages (c .before .before .before .before .before .before .before .before .before .args .outer))))
 
--- src/lib.rt:174:5
 array-read-result : tie.Need-array-read-result
 array-read-result c = search needs
 
--- src/lib.rt:152:1
 returns-3 : tie.Need-returns-3
 returns-3 c = visited-all messages (c .before .visit .ensures) _
 
