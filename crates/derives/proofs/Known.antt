@@ -63,8 +63,11 @@ module _ {d : Derive} {f : Fields} {boxes : List Bool} {ms : List ℕ} (m : Memo
       elim (ℕ-discrete y x) [ yes p ↦ ap (can-message-derive d f boxes) p ∙ new (sym same ∙ ap (λ (z : ℕ). getD (set ms x v) z 0) (sym p) ∙ e) | no p ↦ old y (sym (getD-set-other ms x y v 0 p) ∙ e) ] in
       record { size = length-set ms x v ∙ size; can = value true 1 can (m .can); cannot = value false 2 cannot (m .cannot) }
 
+pub same-size : {d : Derive} {f : Fields} {boxes : List Bool} {ms old : List ℕ} → Memo d f boxes ms → Memo d f boxes old → length ms ≡ length old
+same-size m o = m .size ∙ sym (o .size)
+
 pub kept-size : {d : Derive} {f : Fields} {boxes : List Bool} {ms old : List ℕ} → Memo d f boxes ms → Memo d f boxes old → (x v : ℕ) → length (set ms x v) ≡ length old
-kept-size {ms = ms} m o x v = length-set ms x v ∙ m .size ∙ sym (o .size)
+kept-size {ms = ms} m o x v = length-set ms x v ∙ same-size m o
 
 -- ---- the fields of x, one after the other, up to i
 

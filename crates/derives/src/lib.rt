@@ -167,7 +167,7 @@ fn turn_at(
     turn_of(derive, k, l, looped, s)
 }
 
-// Can the message x, by its fields? Known answers are in memo: 1 can, 2 cannot. depth bounds the links below x.
+// Can the message x? Known answers are in memo: 1 can, 2 cannot. depth bounds the links that are followed from x.
 fn message_can(
     derive: Derive,
     owner: &[Index],
@@ -193,6 +193,44 @@ fn message_can(
     if known == 2 {
         return false;
     }
+    if fields_can(
+        derive,
+        owner,
+        target,
+        kind,
+        label,
+        set,
+        boxed,
+        memo,
+        x,
+        depth,
+    ) {
+        memo[x] = 1;
+        return true;
+    }
+    memo[x] = 2;
+    false
+}
+
+// Can each field of the message x?
+fn fields_can(
+    derive: Derive,
+    owner: &[Index],
+    target: &[Index],
+    kind: &[u8],
+    label: &[u8],
+    set: &[bool],
+    boxed: &[bool],
+    memo: &mut [u8],
+    x: usize,
+    depth: usize,
+) -> bool
+    requires { ⌜ Boxed (fields (now owner) (now target) (now kind) (now label)) (now boxed) ⌝ }
+    requires { ⌜ Memo derive (fields (now owner) (now target) (now kind) (now label)) (now set) (now memo) ⌝ }
+    requires { ⌜ (x < messages) × (rank (fields (now owner) (now target) (now kind) (now label)) x ≤ depth) ⌝ }
+    ensures { λ r. ⌜ r ≡ can-message-derive derive (fields (now (owner .entry)) (now (target .entry)) (now (kind .entry)) (now (label .entry))) (now (set .entry)) x ⌝ }
+    ensures { λ _. ⌜ Memo derive (fields (now (owner .entry)) (now (target .entry)) (now (kind .entry)) (now (label .entry))) (now (set .entry)) (now (memo .exit)) ⌝ }
+{
     let mut i = 0;
     while i < owner.len() {
         let next = i + 1;
@@ -209,13 +247,11 @@ fn message_can(
                 i,
                 depth,
             ) {
-                memo[x] = 2;
                 return false;
             }
         }
         i = next;
     }
-    memo[x] = 1;
     true
 }
 
