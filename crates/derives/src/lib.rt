@@ -1,0 +1,350 @@
+// context.rs: can a message, or a field, derive Copy or Eq?
+ghost use mathlib.Core.Path.{_≡_};
+ghost use mathlib.Core.Bool.{false};
+ghost use Prim.Native.Nat.{_<_, _≤_};
+ghost use lib.ListN.{length, getD};
+ghost use Rattle.message_graph.specs.Limit.{messages};
+ghost use Rattle.message_graph.specs.Fields.{fields, message-at};
+ghost use Rattle.message_graph.specs.Boxes.{boxed-by-loop};
+ghost use Rattle.message_graph.specs.Tab.{tab};
+ghost use Rattle.derives.specs.Rules.{sort-of, is-of, can-field-derive-copy, can-field-derive-eq, rule};
+ghost use Rattle.derives.specs.Can.{can-message-derive, can-field-derive};
+ghost use Rattle.derives.specs.RuleLaws.{turn, turn-at};
+ghost use Rattle.derives.specs.Depth.{rank};
+ghost use Rattle.derives.specs.Memo.{Memo, Boxed};
+use message_graph::Index;
+use message_graph::LABEL_REPEATED;
+use message_graph::MESSAGES;
+use message_graph::TYPE_MESSAGE;
+
+// The trait that is asked for.
+pub enum Derive {
+    Copy,
+    Eq,
+}
+
+// For each message, whether it can derive Copy, and Eq.
+pub struct Derives {
+    pub copy: [bool; MESSAGES],
+    pub eq: [bool; MESSAGES],
+}
+
+fn wide(x: u8) -> usize
+    ensures { λ r. ⌜ r ≡ x ⌝ }
+{
+    x as usize
+}
+
+// The sort of a type: f double, float; n integers, bool, enum; s string, bytes; g group; m message.
+fn sort_of(kind: u8) -> u8
+    ensures { λ r. ⌜ r ≡ sort-of kind ⌝ }
+{
+    let i = wide(kind);
+    base::byte_at(b" ffnnnnnnsgmsnnnnnn", i)
+}
+
+// Is the type of one of two sorts?
+fn is_of(kind: u8, one: u8, other: u8) -> bool
+    ensures { λ r. ⌜ r ≡ is-of kind one other ⌝ }
+{
+    let sort = sort_of(kind);
+    if sort == one {
+        return true;
+    }
+    sort == other
+}
+
+fn can_field_derive_copy(kind: u8, label: u8, looped: bool, set: bool, can: bool) -> bool
+    ensures { λ r. ⌜ r ≡ can-field-derive-copy kind label looped set can ⌝ }
+{
+    if label == LABEL_REPEATED {
+        return false;
+    }
+    if kind == TYPE_MESSAGE {
+        if looped {
+            return false;
+        }
+        if set {
+            return false;
+        }
+        return can;
+    }
+    is_of(kind, b'f', b'n')
+}
+
+fn can_field_derive_eq(kind: u8, label: u8, looped: bool, can: bool) -> bool
+    ensures { λ r. ⌜ r ≡ can-field-derive-eq kind label looped can ⌝ }
+{
+    if kind == TYPE_MESSAGE {
+        if label == LABEL_REPEATED {
+            return false;
+        }
+        if looped {
+            return false;
+        }
+        return can;
+    }
+    is_of(kind, b's', b'n')
+}
+
+// Can a field of this type and label derive it? `looped`: its type leads to its message; `set`: it has a boxed setting at `.M.f`;
+// `can`: the answer of the message that is its type.
+pub fn can_field_derive(
+    derive: Derive,
+    kind: u8,
+    label: u8,
+    looped: bool,
+    set: bool,
+    can: bool,
+) -> bool
+    ensures { λ r. ⌜ r ≡ rule derive kind label looped set can ⌝ }
+{
+    match derive {
+        Derive::Copy => can_field_derive_copy(kind, label, looped, set, can),
+        Derive::Eq => can_field_derive_eq(kind, label, looped, can),
+    }
+}
+
+// The flag that a table has at i, and false past its end.
+fn flag_at(s: &[bool], i: usize) -> bool
+    ensures { λ r. ⌜ r ≡ getD (now (s .entry)) i false ⌝ }
+{
+    if i < s.len() {
+        return s[i];
+    }
+    false
+}
+
+// Is the field i boxed by a loop? By the table, as far as it goes.
+fn is_looped(
+    owner: &[Index],
+    target: &[Index],
+    kind: &[u8],
+    label: &[u8],
+    boxed: &[bool],
+    i: usize,
+) -> bool
+    requires { ⌜ Boxed (fields (now owner) (now target) (now kind) (now label)) (now boxed) ⌝ }
+    ensures { λ r. ⌜ r ≡ boxed-by-loop (fields (now (owner .entry)) (now (target .entry)) (now (kind .entry)) (now (label .entry))) i ⌝ }
+{
+    if i < boxed.len() {
+        return boxed[i];
+    }
+    message_graph::boxed_by_loop(owner, target, kind, label, i)
+}
+
+// What the answer of a field turns on: 0 it cannot, 1 it can, 2 as its type's message.
+fn turn_of(derive: Derive, kind: u8, label: u8, looped: bool, set: bool) -> u8
+    ensures { λ r. ⌜ r ≡ turn (rule derive kind label looped set) ⌝ }
+{
+    if can_field_derive(derive, kind, label, looped, set, true) {
+        if can_field_derive(derive, kind, label, looped, set, false) {
+            return 1;
+        }
+        return 2;
+    }
+    0
+}
+
+// What the answer of the field i turns on.
+fn turn_at(
+    derive: Derive,
+    owner: &[Index],
+    target: &[Index],
+    kind: &[u8],
+    label: &[u8],
+    set: &[bool],
+    boxed: &[bool],
+    i: usize,
+) -> u8
+    requires { ⌜ Boxed (fields (now owner) (now target) (now kind) (now label)) (now boxed) ⌝ }
+    ensures { λ r. ⌜ r ≡ turn-at derive (fields (now (owner .entry)) (now (target .entry)) (now (kind .entry)) (now (label .entry))) (now (set .entry)) i ⌝ }
+{
+    let k = base::byte_at(kind, i);
+    let l = base::byte_at(label, i);
+    let looped = is_looped(owner, target, kind, label, boxed, i);
+    let s = flag_at(set, i);
+    turn_of(derive, k, l, looped, s)
+}
+
+// Can the message x? Known answers are in memo: 1 can, 2 cannot. depth bounds the links that are followed from x.
+fn message_can(
+    derive: Derive,
+    owner: &[Index],
+    target: &[Index],
+    kind: &[u8],
+    label: &[u8],
+    set: &[bool],
+    boxed: &[bool],
+    memo: &mut [u8],
+    x: usize,
+    depth: usize,
+) -> bool
+    requires { ⌜ Boxed (fields (now owner) (now target) (now kind) (now label)) (now boxed) ⌝ }
+    requires { ⌜ Memo derive (fields (now owner) (now target) (now kind) (now label)) (now set) (now memo) ⌝ }
+    requires { ⌜ (x < messages) × (rank (fields (now owner) (now target) (now kind) (now label)) x ≤ depth) ⌝ }
+    ensures { λ r. ⌜ r ≡ can-message-derive derive (fields (now (owner .entry)) (now (target .entry)) (now (kind .entry)) (now (label .entry))) (now (set .entry)) x ⌝ }
+    ensures { λ _. ⌜ Memo derive (fields (now (owner .entry)) (now (target .entry)) (now (kind .entry)) (now (label .entry))) (now (set .entry)) (now (memo .exit)) ⌝ }
+{
+    let known = memo[x];
+    if known == 1 {
+        return true;
+    }
+    if known == 2 {
+        return false;
+    }
+    if fields_can(
+        derive,
+        owner,
+        target,
+        kind,
+        label,
+        set,
+        boxed,
+        memo,
+        x,
+        depth,
+    ) {
+        memo[x] = 1;
+        return true;
+    }
+    memo[x] = 2;
+    false
+}
+
+// Can each field of the message x?
+fn fields_can(
+    derive: Derive,
+    owner: &[Index],
+    target: &[Index],
+    kind: &[u8],
+    label: &[u8],
+    set: &[bool],
+    boxed: &[bool],
+    memo: &mut [u8],
+    x: usize,
+    depth: usize,
+) -> bool
+    requires { ⌜ Boxed (fields (now owner) (now target) (now kind) (now label)) (now boxed) ⌝ }
+    requires { ⌜ Memo derive (fields (now owner) (now target) (now kind) (now label)) (now set) (now memo) ⌝ }
+    requires { ⌜ (x < messages) × (rank (fields (now owner) (now target) (now kind) (now label)) x ≤ depth) ⌝ }
+    ensures { λ r. ⌜ r ≡ can-message-derive derive (fields (now (owner .entry)) (now (target .entry)) (now (kind .entry)) (now (label .entry))) (now (set .entry)) x ⌝ }
+    ensures { λ _. ⌜ Memo derive (fields (now (owner .entry)) (now (target .entry)) (now (kind .entry)) (now (label .entry))) (now (set .entry)) (now (memo .exit)) ⌝ }
+{
+    let mut i = 0;
+    while i < owner.len() {
+        let next = i + 1;
+        if message_graph::message_at(owner, i) == x {
+            if !field_can(
+                derive,
+                owner,
+                target,
+                kind,
+                label,
+                set,
+                boxed,
+                memo,
+                i,
+                depth,
+            ) {
+                return false;
+            }
+        }
+        i = next;
+    }
+    true
+}
+
+// Can the field i, by the message that is its type?
+fn field_can(
+    derive: Derive,
+    owner: &[Index],
+    target: &[Index],
+    kind: &[u8],
+    label: &[u8],
+    set: &[bool],
+    boxed: &[bool],
+    memo: &mut [u8],
+    i: usize,
+    depth: usize,
+) -> bool
+    requires { ⌜ Boxed (fields (now owner) (now target) (now kind) (now label)) (now boxed) ⌝ }
+    requires { ⌜ Memo derive (fields (now owner) (now target) (now kind) (now label)) (now set) (now memo) ⌝ }
+    requires { ⌜ (i < length (now owner)) × (rank (fields (now owner) (now target) (now kind) (now label)) (message-at (now owner) i) ≤ depth) ⌝ }
+    ensures { λ r. ⌜ r ≡ can-field-derive derive (fields (now (owner .entry)) (now (target .entry)) (now (kind .entry)) (now (label .entry))) (now (set .entry)) i ⌝ }
+    ensures { λ _. ⌜ Memo derive (fields (now (owner .entry)) (now (target .entry)) (now (kind .entry)) (now (label .entry))) (now (set .entry)) (now (memo .exit)) ⌝ }
+{
+    let turn = turn_at(derive, owner, target, kind, label, set, boxed, i);
+    if turn == 0 {
+        return false;
+    }
+    if turn == 1 {
+        return true;
+    }
+    let t = message_graph::message_at(target, i);
+    message_can(
+        derive,
+        owner,
+        target,
+        kind,
+        label,
+        set,
+        boxed,
+        memo,
+        t,
+        depth - 1,
+    )
+}
+
+// For each message, whether it can.
+fn answers(
+    derive: Derive,
+    owner: &[Index],
+    target: &[Index],
+    kind: &[u8],
+    label: &[u8],
+    set: &[bool],
+    boxed: &[bool],
+) -> [bool; MESSAGES]
+    requires { ⌜ Boxed (fields (now owner) (now target) (now kind) (now label)) (now boxed) ⌝ }
+    ensures { λ r. ⌜ r ≡ tab messages (can-message-derive derive (fields (now (owner .entry)) (now (target .entry)) (now (kind .entry)) (now (label .entry))) (now (set .entry))) ⌝ }
+{
+    let mut memo = [0u8; MESSAGES];
+    let mut out = [false; MESSAGES];
+    let mut x = 0;
+    while x < MESSAGES {
+        out[x] = message_can(
+            derive,
+            owner,
+            target,
+            kind,
+            label,
+            set,
+            boxed,
+            &mut memo,
+            x,
+            MESSAGES,
+        );
+        x += 1;
+    }
+    out
+}
+
+// For each place of `boxed`, whether the field there is boxed by a loop; and for each message, whether it can derive Copy, and Eq.
+pub fn can_derive(
+    owner: &[Index],
+    target: &[Index],
+    kind: &[u8],
+    label: &[u8],
+    set: &[bool],
+    boxed: &mut [bool],
+) -> Derives
+    ensures { λ _. ⌜ now (boxed .exit) ≡ tab (length (now (boxed .entry))) (boxed-by-loop (fields (now (owner .entry)) (now (target .entry)) (now (kind .entry)) (now (label .entry)))) ⌝ }
+    ensures { λ r. ⌜ r .copy ≡ tab messages (can-message-derive Derive.Copy (fields (now (owner .entry)) (now (target .entry)) (now (kind .entry)) (now (label .entry))) (now (set .entry))) ⌝ }
+    ensures { λ r. ⌜ r .eq ≡ tab messages (can-message-derive Derive.Eq (fields (now (owner .entry)) (now (target .entry)) (now (kind .entry)) (now (label .entry))) (now (set .entry))) ⌝ }
+{
+    message_graph::boxes(owner, target, kind, label, boxed);
+    let copy = answers(Derive::Copy, owner, target, kind, label, set, boxed);
+    let eq = answers(Derive::Eq, owner, target, kind, label, set, boxed);
+    Derives { copy, eq }
+}
