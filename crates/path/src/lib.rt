@@ -1,0 +1,1 @@
+// path.rs: which rows a path finds.
