@@ -1,5 +1,11 @@
 // Refusal 1: options that break the layout.
-use crate::{behind, kind_at, number_at, path_length, row_count, value_length, wide};
+use crate::behind;
+use crate::kind_at;
+use crate::path_length;
+use crate::row_count;
+use crate::value_length;
+use crate::wide;
+use crate::zero_of;
 ghost use mathlib.Core.Path.{_≡_};
 ghost use mathlib.Core.Bool.{Bool};
 ghost use Prim.Native.Nat.{_+_, _*_, _<_, _≤_};
@@ -98,7 +104,7 @@ fn check_header(s: &[u8], i: u16) -> bool
     if !is {
         return false;
     }
-    if number_at(s, 8 + behind(i)) != 0 {
+    if zero_of(s, i) != 0 {
         return false;
     }
     let path = part_fits(path_had(kind), path_length(s, i));

@@ -2,7 +2,7 @@
 ghost use mathlib.Core.Path.{_≡_};
 ghost use Prim.Native.Nat.{_+_, _*_, _<_};
 ghost use Rattle.writer.specs.Wrote.{Wrote};
-ghost use Rattle.options.specs.Settings.{number, row-count, kind-at, path-length, value-length, bodies, settings, row, row-number, first-of-kind, prost-path, strips-prefix};
+ghost use Rattle.options.specs.Settings.{number, row-count, kind-at, path-length, value-length, zero-at, bodies, settings, row, row-number, first-of-kind, prost-path, strips-prefix};
 
 pub mod check;
 
@@ -56,7 +56,7 @@ pub fn row_count(o: &[u8]) -> u16
     number_at(o, 0)
 }
 
-pub fn kind_at(o: &[u8], i: u16) -> u16
+fn kind_at(o: &[u8], i: u16) -> u16
     ensures { λ r. ⌜ r ≡ kind-at (now (o .entry)) i ⌝ }
 {
     number_at(o, 2 + behind(i))
@@ -72,6 +72,12 @@ fn value_length(o: &[u8], i: u16) -> usize
     ensures { λ r. ⌜ (r ≡ value-length (now (o .entry)) i) × (r < 65536) ⌝ }
 {
     wide(number_at(o, 6 + behind(i)))
+}
+
+fn zero_of(o: &[u8], i: u16) -> u16
+    ensures { λ r. ⌜ r ≡ zero-at (now (o .entry)) i ⌝ }
+{
+    number_at(o, 8 + behind(i))
 }
 
 // Where the bodies start.
@@ -110,7 +116,7 @@ pub fn row_at(o: &[u8], i: u16) -> Row
         at = row.end;
         j = j + 1;
     }
-    row_from(o, i, at)
+    row_from(o, j, at)
 }
 
 // The first row of a kind.

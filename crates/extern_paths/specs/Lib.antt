@@ -1,3 +1,0 @@
-pub mod Split
-pub mod ExternPaths
-pub mod Doubles

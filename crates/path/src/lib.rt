@@ -1,1 +1,0 @@
-// path.rs: which rows a path finds.
