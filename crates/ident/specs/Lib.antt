@@ -1,0 +1,7 @@
+pub mod Ident
+pub mod Added
+pub mod Spaced
+pub mod Prefix
+pub mod Name
+pub mod Convert
+pub mod Reference
