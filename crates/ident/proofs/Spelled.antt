@@ -107,7 +107,7 @@ unfolding piece character spelt every choose between
 piece-in-snake q low c =
     choose-case (λ l. every in-snake l ≡ true) (in-word (class c))
     (λ e. let k = every-cons in-snake (lowered c) [] (lowered-in-snake c e) refl in
-      choose-case (λ l. every in-snake l ≡ true) (separated false q (first q (class c) low)) (λ _. every-cons in-snake 95 (lowered c ∷ []) refl k) (λ _. k))
+    choose-case (λ l. every in-snake l ≡ true) (separated false q (first q (class c) low)) (λ _. every-cons in-snake 95 (lowered c ∷ []) refl k) (λ _. k))
     (λ e. refl)
 
 pub cased-in-snake : (q : State) (s : List ℕ) → every in-snake (cased false q s) ≡ true

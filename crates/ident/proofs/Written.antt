@@ -151,9 +151,9 @@ variant-identifier prefix name h =
     (choose-case (λ (l : List ℕ). identifier (sanitize-identifier l) ≡ true) (is-trailing (addition (to-upper-camel-case prefix)))
     (λ _. sanitized-identifier (to-upper-camel-case name) (camel-parts name) (camel-begins name h))
     (λ _. let x = true-prefix (strip-prefix (to-upper-camel-case prefix) (to-upper-camel-case name)) (to-upper-camel-case name) in
-      sanitized-identifier x
-      (every-also alphanumeric name-part alphanumeric-part x (rest-parts (to-upper-camel-case prefix) (to-upper-camel-case name) (to-upper-camel-case name) (camel name .plain) (camel name .plain)))
-      (rest-begins (strip-prefix (to-upper-camel-case prefix) (to-upper-camel-case name)) (to-upper-camel-case name) (camel-begins name h))))
+    sanitized-identifier x
+    (every-also alphanumeric name-part alphanumeric-part x (rest-parts (to-upper-camel-case prefix) (to-upper-camel-case name) (to-upper-camel-case name) (camel name .plain) (camel name .plain)))
+    (rest-begins (strip-prefix (to-upper-camel-case prefix) (to-upper-camel-case name)) (to-upper-camel-case name) (camel-begins name h))))
 
 -- ---- never `_`, `super`, `self`, `Self`, `extern` or `crate`
 free-as : (y x : List ℕ) → Sanitized y x → among x kept-words ≡ false

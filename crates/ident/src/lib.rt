@@ -6,7 +6,6 @@ mod prefix;
 
 use heck::State;
 use keywords::Addition;
-
 ghost use mathlib.Core.Path.{_≡_};
 ghost use lib.ListN.{drop};
 ghost use Rattle.writer.specs.Wrote.{Wrote};

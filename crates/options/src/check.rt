@@ -1,6 +1,7 @@
 // Refusal 1: options that break the layout.
 use crate::behind;
 use crate::kind_at;
+use crate::long;
 use crate::path_length;
 use crate::row_count;
 use crate::value_length;
@@ -72,7 +73,7 @@ fn part_fits(has: bool, n: usize) -> bool
 }
 
 // Has one of the rows before row i the kind?
-fn listed_before(s: &[u8], kind: u16, i: u16) -> bool
+fn listed_before(s: &[u8], kind: u16, i: u32) -> bool
     ensures { λ r. ⌜ r ≡ kind-before (now (s .entry)) kind i ⌝ }
 {
     let mut j = i;
@@ -85,7 +86,7 @@ fn listed_before(s: &[u8], kind: u16, i: u16) -> bool
     false
 }
 
-fn comes_again(s: &[u8], i: u16) -> bool
+fn comes_again(s: &[u8], i: u32) -> bool
     ensures { λ r. ⌜ r ≡ repeated (now (s .entry)) i ⌝ }
 {
     let kind = kind_at(s, i);
@@ -96,7 +97,7 @@ fn comes_again(s: &[u8], i: u16) -> bool
     false
 }
 
-fn check_header(s: &[u8], i: u16) -> bool
+fn check_header(s: &[u8], i: u32) -> bool
     ensures { λ r. ⌜ r ≡ header-good (now (s .entry)) i ⌝ }
 {
     let kind = kind_at(s, i);
@@ -137,8 +138,8 @@ fn all_printable(low: u8, s: &[u8]) -> bool
     true
 }
 
-fn check_body(s: &[u8], i: u16, at: usize) -> bool
-    requires { ⌜ (at < 100000000) × (at + path-length (now s) i + value-length (now s) i ≤ length (now s)) ⌝ }
+fn check_body(s: &[u8], i: u32, at: usize) -> bool
+    requires { ⌜ (at < 1000000000000) × (at + path-length (now s) i + value-length (now s) i ≤ length (now s)) ⌝ }
     ensures { λ r. ⌜ r ≡ body-good (now (s .entry)) i at ⌝ }
 {
     let value = at + path_length(s, i);
@@ -151,8 +152,8 @@ fn check_body(s: &[u8], i: u16, at: usize) -> bool
 }
 
 // Row i, whose body starts at `at`.
-fn check_row(s: &[u8], i: u16, at: usize) -> bool
-    requires { ⌜ at < 100000000 ⌝ }
+fn check_row(s: &[u8], i: u32, at: usize) -> bool
+    requires { ⌜ at < 1000000000000 ⌝ }
     ensures { λ r. ⌜ r ≡ row-good (now (s .entry)) i at ⌝ }
 {
     let head = 10 + behind(i);
@@ -172,16 +173,16 @@ fn check_row(s: &[u8], i: u16, at: usize) -> bool
 }
 
 // All rows, in options of `size` bytes that begin with s.
-fn check_rows(s: &[u8], size: usize, n: u16, start: usize) -> Layout
-    requires { ⌜ (n ≤ 64) × (start < 600000) ⌝ }
+fn check_rows(s: &[u8], size: usize, n: u32, start: usize) -> Layout
+    requires { ⌜ (n ≤ 64) × (start < 100000000000) ⌝ }
     ensures { λ r. ⌜ r ≡ layout-from (now (s .entry)) size n 0 start ⌝ }
 {
     let mut at = start;
-    let mut i: u16 = 0;
+    let mut i: u32 = 0;
     while i < n {
         let good = check_row(s, i, at);
         if !good {
-            return Layout::Broken(wide(i));
+            return Layout::Broken(long(i));
         }
         let value = at + path_length(s, i);
         at = value + value_length(s, i);
@@ -191,9 +192,9 @@ fn check_rows(s: &[u8], size: usize, n: u16, start: usize) -> Layout
         if at <= 4096 {
             return Layout::Good;
         }
-        return Layout::Broken(wide(i));
+        return Layout::Broken(long(i));
     }
-    Layout::Broken(wide(i))
+    Layout::Broken(long(i))
 }
 
 // Refusal 1 and its place.

@@ -17,11 +17,17 @@ pub struct Row {
 // What a search for a row answers: its number, if there is one.
 pub struct Found {
     pub found: bool,
-    pub number: u16,
+    pub number: u32,
 }
 
 fn wide(x: u16) -> usize
     ensures { λ r. ⌜ (r ≡ x) × (r < 65536) ⌝ }
+{
+    x as usize
+}
+
+fn long(x: u32) -> usize
+    ensures { λ r. ⌜ (r ≡ x) × (r < 4294967296) ⌝ }
 {
     x as usize
 }
@@ -34,7 +40,7 @@ fn wider(x: u8) -> u16
 
 // The little-endian number at a place.
 fn number_at(o: &[u8], at: usize) -> u16
-    requires { ⌜ at < 1000000 ⌝ }
+    requires { ⌜ at < 1000000000000 ⌝ }
     ensures { λ r. ⌜ r ≡ number (now (o .entry)) at ⌝ }
 {
     let next = at + 1;
@@ -44,37 +50,38 @@ fn number_at(o: &[u8], at: usize) -> u16
 }
 
 // Where row i stands behind row 0.
-fn behind(i: u16) -> usize
-    ensures { λ r. ⌜ (r ≡ i * 8) × (r < 524288) ⌝ }
+fn behind(i: u32) -> usize
+    ensures { λ r. ⌜ (r ≡ i * 8) × (r < 34359738368) ⌝ }
 {
-    wide(i) * 8
+    long(i) * 8
 }
 
-pub fn row_count(o: &[u8]) -> u16
+pub fn row_count(o: &[u8]) -> u32
     ensures { λ r. ⌜ r ≡ row-count (now (o .entry)) ⌝ }
 {
-    number_at(o, 0)
+    let n = number_at(o, 0);
+    n as u32
 }
 
-fn kind_at(o: &[u8], i: u16) -> u16
+fn kind_at(o: &[u8], i: u32) -> u16
     ensures { λ r. ⌜ r ≡ kind-at (now (o .entry)) i ⌝ }
 {
     number_at(o, 2 + behind(i))
 }
 
-fn path_length(o: &[u8], i: u16) -> usize
+fn path_length(o: &[u8], i: u32) -> usize
     ensures { λ r. ⌜ (r ≡ path-length (now (o .entry)) i) × (r < 65536) ⌝ }
 {
     wide(number_at(o, 4 + behind(i)))
 }
 
-fn value_length(o: &[u8], i: u16) -> usize
+fn value_length(o: &[u8], i: u32) -> usize
     ensures { λ r. ⌜ (r ≡ value-length (now (o .entry)) i) × (r < 65536) ⌝ }
 {
     wide(number_at(o, 6 + behind(i)))
 }
 
-fn zero_of(o: &[u8], i: u16) -> u16
+fn zero_of(o: &[u8], i: u32) -> u16
     ensures { λ r. ⌜ r ≡ zero-at (now (o .entry)) i ⌝ }
 {
     number_at(o, 8 + behind(i))
@@ -82,13 +89,13 @@ fn zero_of(o: &[u8], i: u16) -> u16
 
 // Where the bodies start.
 pub fn bodies_at(o: &[u8]) -> usize
-    ensures { λ r. ⌜ (r ≡ bodies (now (o .entry))) × (r < 600000) ⌝ }
+    ensures { λ r. ⌜ (r ≡ bodies (now (o .entry))) × (r < 100000000000) ⌝ }
 {
     2 + behind(row_count(o))
 }
 
 // Row i, whose body starts at `at`. The next row's body starts at its end.
-pub fn row_from(o: &[u8], i: u16, at: usize) -> Row
+pub fn row_from(o: &[u8], i: u32, at: usize) -> Row
     ensures { λ r. ⌜ r ≡ row (now (o .entry)) i at ⌝ }
 {
     let path = writer::within(at, o.len());
@@ -106,11 +113,11 @@ pub fn row_from(o: &[u8], i: u16, at: usize) -> Row
 }
 
 // Row i.
-pub fn row_at(o: &[u8], i: u16) -> Row
+pub fn row_at(o: &[u8], i: u32) -> Row
     ensures { λ r. ⌜ r ≡ row-number (now (o .entry)) i ⌝ }
 {
     let mut at = bodies_at(o);
-    let mut j: u16 = 0;
+    let mut j: u32 = 0;
     while j < i {
         let row = row_from(o, j, at);
         at = row.end;
@@ -124,7 +131,7 @@ pub fn find_kind(o: &[u8], kind: u16) -> Found
     ensures { λ r. ⌜ r ≡ first-of-kind kind 0 (settings (now (o .entry))) ⌝ }
 {
     let n = row_count(o);
-    let mut i: u16 = 0;
+    let mut i: u32 = 0;
     while i < n {
         if kind_at(o, i) == kind {
             return Found {

@@ -17,13 +17,13 @@ ghost use Rattle.path.specs.Matches.{Matches};
 // The best row so far, and what its form is worth: 0 while there is none.
 pub struct Best {
     pub worth: usize,
-    pub number: u16,
+    pub number: u32,
 }
 
 // What a search for the next row answers: where its value starts and ends, and the row behind it. That row's body starts at `end`.
 pub struct Match {
     pub found: bool,
-    pub next: u16,
+    pub next: u32,
     pub value: usize,
     pub end: usize,
 }
@@ -117,7 +117,7 @@ fn row_worth(o: &[u8], row: Row, kind: u16, path: &[u8], all: bool) -> usize
 }
 
 // Row i is better than the best so far only if it is worth more.
-pub fn improved(best: Best, i: u16, w: usize) -> Best
+pub fn improved(best: Best, i: u32, w: usize) -> Best
     ensures { λ r. ⌜ r ≡ improve best i w ⌝ }
 {
     if best.worth < w {
@@ -139,7 +139,7 @@ pub fn best_row(o: &[u8], kind: u16, path: &[u8], all: bool) -> Best
         worth: 0,
         number: 0,
     };
-    let mut i: u16 = 0;
+    let mut i: u32 = 0;
     while i < n {
         let row = options::row_from(o, i, at);
         let w = row_worth(o, row, kind, path, all);
@@ -162,7 +162,7 @@ pub fn find_first(o: &[u8], kind: u16, path: &[u8]) -> Found
 }
 
 // PathMap::get, one value at a time: the first match from row i on, whose body starts at `at`.
-pub fn next_match(o: &[u8], kind: u16, path: &[u8], i: u16, at: usize) -> Match
+pub fn next_match(o: &[u8], kind: u16, path: &[u8], i: u32, at: usize) -> Match
     ensures { λ r. ⌜ Matches (now (o .entry)) kind (now (path .entry)) i at r ⌝ }
 {
     let n = options::row_count(o);

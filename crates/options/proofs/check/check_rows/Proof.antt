@@ -10,7 +10,7 @@ use Rattle.options.proofs.check.check_rows.Statement.{statement}
 use Rattle.options.proofs.check.check_rows.Tie as tie
 
 abbrev Inv-loop : tie.InvT-loop
-Inv-loop s size n start at₀ i₀ at i = (i ≤ n) × (at ≤ 600000 + i * 131072) × (layout-from s size (n - i) i at ≡ layout-from s size n 0 start)
+Inv-loop s size n start at₀ i₀ at i = (i ≤ n) × (at ≤ 100000000000 + i * 131072) × (layout-from s size (n - i) i at ≡ layout-from s size n 0 start)
 
 abbrev μ-loop : tie.MeasureT-loop
 μ-loop s size n start at₀ i₀ at i = n - i
@@ -21,11 +21,11 @@ loop-holds c = (omega arith, omega arith, let e : c .before .args .n - 0 ≡ c .
 check-row-requires : tie.Need-check-row-requires Inv-loop μ-loop
 check-row-requires c κs = search needs
 
-wide-requires : tie.Need-wide-requires Inv-loop μ-loop
-wide-requires c κs = search needs
+long-requires : tie.Need-long-requires Inv-loop μ-loop
+long-requires c κs = search needs
 
 returns : tie.Need-returns Inv-loop μ-loop
-returns c = rw (c .wide .ensures .0) (sym (layout-broken _ _ _ _ _ (c .before .before .before .loop-test .taken) (sym (c .before .before .check-row .ensures) ∙ not-true _ (c .before .if1 .taken))) ∙ c .before .before .before .before .loop .inv .2)
+returns c = rw (c .long .ensures .0) (sym (layout-broken _ _ _ _ _ (c .before .before .before .loop-test .taken) (sym (c .before .before .check-row .ensures) ∙ not-true _ (c .before .if1 .taken))) ∙ c .before .before .before .before .loop .inv .2)
 
 path-length-requires : tie.Need-path-length-requires Inv-loop μ-loop
 path-length-requires c κs = search needs
@@ -51,17 +51,17 @@ loop-again c = (omega arith, omega (arith, c .before .path-length .ensures .1, c
 returns-2 : tie.Need-returns-2 Inv-loop μ-loop
 returns-2 c = then-eq _ _ _ _ _ (c .before .if2 .taken) (then-le _ _ _ _ _ (c .if3 .taken) refl) ∙ sym (layout-end _ _ _ _ _ (c .before .before .loop-test .left)) ∙ c .before .before .before .loop .inv .2
 
-wide-requires-2 : tie.Need-wide-requires-2 Inv-loop μ-loop
-wide-requires-2 c κs = search needs
+long-requires-2 : tie.Need-long-requires-2 Inv-loop μ-loop
+long-requires-2 c κs = search needs
 
 returns-3 : tie.Need-returns-3 Inv-loop μ-loop
-returns-3 c = rw (c .wide2 .ensures .0) (then-eq _ _ _ _ _ (c .before .before .if2 .taken) (else-le _ _ _ _ _ (c .before .if3 .left) refl) ∙ sym (layout-end _ _ _ _ _ (c .before .before .before .loop-test .left)) ∙ c .before .before .before .before .loop .inv .2)
+returns-3 c = rw (c .long2 .ensures .0) (then-eq _ _ _ _ _ (c .before .before .if2 .taken) (else-le _ _ _ _ _ (c .before .if3 .left) refl) ∙ sym (layout-end _ _ _ _ _ (c .before .before .before .loop-test .left)) ∙ c .before .before .before .before .loop .inv .2)
 
-wide-requires-3 : tie.Need-wide-requires-3 Inv-loop μ-loop
-wide-requires-3 c κs = search needs
+long-requires-3 : tie.Need-long-requires-3 Inv-loop μ-loop
+long-requires-3 c κs = search needs
 
 returns-4 : tie.Need-returns-4 Inv-loop μ-loop
-returns-4 c = rw (c .wide3 .ensures .0) (else-eq _ _ _ _ _ (c .before .if2 .left) refl ∙ sym (layout-end _ _ _ _ _ (c .before .before .loop-test .left)) ∙ c .before .before .before .loop .inv .2)
+returns-4 c = rw (c .long3 .ensures .0) (else-eq _ _ _ _ _ (c .before .if2 .left) refl ∙ sym (layout-end _ _ _ _ _ (c .before .before .loop-test .left)) ∙ c .before .before .before .loop .inv .2)
 
 pub check-rows-spec : {M : Type 1} → statement M
 check-rows-spec =
@@ -71,7 +71,7 @@ check-rows-spec =
     μ-loop
     loop-holds
     check-row-requires
-    wide-requires
+    long-requires
     returns
     path-length-requires
     add-value
@@ -81,7 +81,7 @@ check-rows-spec =
     loop-less
     loop-again
     returns-2
-    wide-requires-2
+    long-requires-2
     returns-3
-    wide-requires-3
+    long-requires-3
     returns-4)
