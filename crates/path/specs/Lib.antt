@@ -1,0 +1,4 @@
+pub mod Forms
+pub mod PathMap
+pub mod Worth
+pub mod Matches
