@@ -2,3 +2,4 @@ pub mod SizeLaws
 pub mod TreeLaws
 pub mod IndexLaws
 pub mod FileLaws
+pub mod DecodedLaws
