@@ -3,3 +3,4 @@ pub mod TreeLaws
 pub mod IndexLaws
 pub mod FileLaws
 pub mod DecodedLaws
+pub mod TableLaws
