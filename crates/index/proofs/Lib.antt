@@ -4,3 +4,4 @@ pub mod IndexLaws
 pub mod FileLaws
 pub mod DecodedLaws
 pub mod TableLaws
+pub mod CountLaws
