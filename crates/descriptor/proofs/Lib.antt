@@ -1,3 +1,4 @@
 pub mod LatestLaws
 pub mod ViewLaws
 pub mod ViewTheorems
+pub mod Examples
