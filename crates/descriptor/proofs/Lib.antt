@@ -1,3 +1,5 @@
 pub mod LatestLaws
 pub mod ViewLaws
 pub mod ViewTheorems
+pub mod EntriesLaws
+pub mod Examples

@@ -31,7 +31,7 @@ drop-take (suc x) zero l = sym (ap (λ (k : ℕ). take k (drop (suc x) l)) (let 
 drop-take (suc x) (suc m) [] = sym (take-nil (suc m - suc x))
 drop-take (suc x) (suc m) (a ∷ l) = drop-take x m l ∙ ap (λ (k : ℕ). take k (drop x l)) (let e : m - x ≡ suc m - suc x = omega arith in e)
 
-part-part : (s : List ℕ) (a m x k : ℕ) → x + k ≤ length (part s a m) → part (part s a m) x k ≡ part s (a + x) k
+pub part-part : (s : List ℕ) (a m x k : ℕ) → x + k ≤ length (part s a m) → part (part s a m) x k ≡ part s (a + x) k
 part-part s a m x k h =
     let l : length (part s a m) ≤ m = rw (length-take m (drop a s)) (min-le-left m (length (drop a s))) in
     ap (take k) (drop-take x m (drop a s)) ∙ take-take k (m - x) (drop x (drop a s)) (omega arith) ∙ ap (take k) (drop-drop x a s)

@@ -2,3 +2,4 @@ pub mod Latest
 pub mod Descriptor
 pub mod Decode
 pub mod Views
+pub mod Limits

@@ -2,3 +2,6 @@ pub mod SizeLaws
 pub mod TreeLaws
 pub mod IndexLaws
 pub mod FileLaws
+pub mod DecodedLaws
+pub mod TableLaws
+pub mod CountLaws

@@ -92,3 +92,7 @@ rows-of file i (F ∷ Fs) = rows file 0 i F ++ rows-of (file + 1) (i + size F) F
 pub record IndexedFiles (Fs : List (Forest Place)) (t u : List ℕ) (next : ℕ) : Type 0 where
   pub table : u ≡ fill t 0 (rows-of 0 0 Fs)
   pub counted : next ≡ total Fs
+
+-- row i as the code reads it: a table has fewer than 65,536 rows
+unfoldable pub row-at : List ℕ → ℕ → Row
+row-at t i = choose (ltb i 65536) (row-in t i) (record { start = 0; end = 0; file = 0; up = 0; after = 0 })

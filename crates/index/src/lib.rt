@@ -1,10 +1,10 @@
 // Where the declarations of a set lie: how many there are, and a table of them in declaration order.
 ghost use mathlib.Core.Path.{_≡_};
 ghost use Prim.Native.Nat.{ℕ, _+_, _*_, _-_, _<_, _≤_, _^_};
-ghost use lib.ListN.{length};
+ghost use lib.ListN.{length, getD};
 ghost use Rattle.index.specs.Places.{end-in};
 ghost use Rattle.index.specs.Sizes.{size-in};
-ghost use Rattle.index.specs.Tree.{forest-in, size, rows, put, fill, Indexed, file-forests, IndexedFiles};
+ghost use Rattle.index.specs.Tree.{forest-in, size, rows, put, fill, Indexed, file-forests, IndexedFiles, row-at};
 use wire::Record;
 use wire::Step;
 
@@ -155,5 +155,42 @@ pub fn index_files(set: &[u8], number: u64, left: usize, t: &mut [u16]) -> usize
                 }
             }
         }
+    }
+}
+
+fn word_at(t: &[u16], i: usize) -> u16
+    ensures { λ r. ⌜ r ≡ getD (now (t .entry)) i 0 ⌝ }
+{
+    if i < t.len() {
+        return t[i];
+    }
+    0
+}
+
+// Row `i` of a table.
+pub fn row_of(t: &[u16], i: usize) -> Row
+    ensures { λ r. ⌜ r ≡ row-at (now (t .entry)) i ⌝ }
+{
+    if i < 65536 {
+        let first = i * 5;
+        let start = word_at(t, first);
+        let end = word_at(t, first + 1);
+        let file = word_at(t, first + 2);
+        let up = word_at(t, first + 3);
+        let after = word_at(t, first + 4);
+        return Row {
+            start,
+            end,
+            file,
+            up,
+            after,
+        };
+    }
+    Row {
+        start: 0,
+        end: 0,
+        file: 0,
+        up: 0,
+        after: 0,
     }
 }

@@ -1,2 +1,3 @@
 pub mod TableLaws
 pub mod CheckLaws
+pub mod Examples

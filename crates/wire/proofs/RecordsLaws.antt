@@ -129,7 +129,7 @@ pub record In (n : ℕ) (f : Record) : Type 0 where
   pub from : f .start ≤ f .next
   pub to : f .next ≤ n
 
-abbrev AllIn : ℕ → List Step → Type 0
+abbrev pub AllIn : ℕ → List Step → Type 0
 AllIn n [] = Unit
 AllIn n (End ∷ rs) = AllIn n rs
 AllIn n (Fault key ∷ rs) = AllIn n rs
@@ -146,6 +146,10 @@ scan-in : (n : ℕ) (s : List ℕ) (at : ℕ) → AllIn (length s) (scan n s at)
 unfolding scan
 scan-in zero s at = tt
 scan-in (suc n) s at = step-in s at (λ f. scan n s (f .next)) (λ f. scan-in n s (f .next)) (stepAt s at) refl
+
+pub records-in : (s : List ℕ) (at : ℕ) → AllIn (length s) (records s at)
+unfolding records
+records-in s at = scan-in (length s - at) s at
 
 -- What holds at the end and at a fault, and at a record where it holds of going on, holds of a pass.
 module _ {ℓ κ ι} {A : Type ℓ} {S : Type κ} (P : A → Type ι) (body : Record → S → (S → A) → A) (fault : ℕ → S → A) (done : S → A) (n : ℕ)
