@@ -16,8 +16,9 @@ use Rattle.heck.specs.declared.State.{State}
 use Rattle.heck.specs.declared.State.the-variants.{Start}
 use Rattle.heck.proofs.Spelling.{camel-cased}
 use Rattle.ident.specs.Ident.{strip-prefix, true-prefix}
-use Rattle.ident.specs.Prefix.{Spells, Behind}
-use Rattle.ident.specs.declared.prefix.Step.{Step}
+use Rattle.heck.specs.Spells.{Spells}
+use Rattle.ident.specs.Prefix.{Behind}
+use Rattle.heck.specs.declared.Step.{Step}
 use Rattle.ident.specs.declared.prefix.Rest.{Rest}
 
 module _ {s : List ℕ} {from : ℕ} {q : State} {r : Step} (w : Spells s from q r) where

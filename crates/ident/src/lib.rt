@@ -11,7 +11,7 @@ ghost use lib.ListN.{drop};
 ghost use Rattle.writer.specs.Wrote.{Wrote};
 ghost use Rattle.heck.specs.Pass.{cased};
 ghost use Rattle.ident.specs.Ident.{addition, with-addition, sanitize-identifier, to-snake, to-upper-camel, strip-enum-prefix};
-ghost use Rattle.ident.specs.Convert.{convert};
+ghost use Rattle.ident.specs.Convert.{convertible, convert};
 
 // What a name writer answers: the place behind the name.
 pub struct Named {
@@ -97,13 +97,27 @@ pub struct Converted {
     pub camellen: usize,
 }
 
+// An identifier of at most 64 bytes with a letter or digit.
+fn convertible(s: &[u8]) -> bool
+    ensures { λ r. ⌜ r ≡ convertible (now (s .entry)) ⌝ }
+{
+    let name = names::is_name(s);
+    if name {
+        if s.len() <= 64 {
+            return names::has_word(s);
+        }
+        return false;
+    }
+    false
+}
+
 // Both names of one name.
 pub fn convert(name: &[u8]) -> Converted
     ensures { λ r. ⌜ r ≡ convert (now (name .entry)) ⌝ }
 {
     let mut snake = [0u8; 106];
     let mut camel = [0u8; 64];
-    let good = names::convertible(name);
+    let good = convertible(name);
     if good {
         let a = put_snake(&mut snake, 0, name);
         let e = put_upper_camel(&mut camel, 0, name);

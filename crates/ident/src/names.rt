@@ -1,7 +1,6 @@
 // What is a name: `[A-Za-z_][A-Za-z0-9_]*`, and has a letter or digit.
 ghost use mathlib.Core.Path.{_≡_};
 ghost use Rattle.ident.specs.Name.{name-start, name-part, is-name, has-word};
-ghost use Rattle.ident.specs.Convert.{convertible};
 
 fn is_name_start(c: u8) -> bool
     ensures { λ r. ⌜ r ≡ name-start c ⌝ }
@@ -55,24 +54,11 @@ pub fn has_word(s: &[u8]) -> bool
 {
     let mut i = 0;
     while i < s.len() {
-        let word = heck::in_word(heck::class_of(s[i]));
+        let word = heck::is_alphanumeric(s[i]);
         if word {
             return true;
         }
         i += 1;
-    }
-    false
-}
-
-pub fn convertible(s: &[u8]) -> bool
-    ensures { λ r. ⌜ r ≡ convertible (now (s .entry)) ⌝ }
-{
-    let name = is_name(s);
-    if name {
-        if s.len() <= 64 {
-            return has_word(s);
-        }
-        return false;
     }
     false
 }

@@ -6,53 +6,12 @@ ghost use lib.ListN.{drop};
 ghost use Rattle.heck.specs.Case.{to-upper-camel-case};
 ghost use Rattle.heck.specs.Pass.{cased};
 ghost use Rattle.ident.specs.Ident.{strip-prefix, true-prefix};
-ghost use Rattle.ident.specs.Prefix.{Spells, Behind};
-
-// The next byte of a camel name, if there is one, and where its name goes on.
-pub struct Step {
-    pub more: bool,
-    pub byte: u8,
-    pub at: usize,
-    pub state: State,
-}
+ghost use Rattle.ident.specs.Prefix.{Behind};
 
 // Where the rest of a name starts.
 pub struct Rest {
     pub at: usize,
     pub state: State,
-}
-
-fn camel_step(s: &[u8], from: usize, state: State) -> Step
-    ensures { λ r. ⌜ Spells (now (s .entry)) from state r ⌝ }
-{
-    let mut i = from;
-    let mut q = state;
-    while i < s.len() {
-        let c = s[i];
-        let next_i = i + 1;
-        let class = heck::class_of(c);
-        let word = heck::in_word(class);
-        let then = heck::next(q, class);
-        if word {
-            let low = heck::is_lower(base::byte_at(s, next_i));
-            let first = heck::first(q, class, low);
-            let x = heck::spelt(true, first, c);
-            return Step {
-                more: true,
-                byte: x,
-                at: next_i,
-                state: then,
-            };
-        }
-        q = then;
-        i = next_i;
-    }
-    Step {
-        more: false,
-        byte: 0,
-        at: i,
-        state: q,
-    }
 }
 
 // The whole name.
@@ -75,8 +34,8 @@ pub fn behind(prefix: &[u8], name: &[u8]) -> Rest
     let mut j = 0;
     let mut q = State::Start;
     loop {
-        let m = camel_step(prefix, i, p);
-        let n = camel_step(name, j, q);
+        let m = heck::camel_step(prefix, i, p);
+        let n = heck::camel_step(name, j, q);
         if n.more {
             if m.more {
                 if m.byte == n.byte {

@@ -10,7 +10,7 @@ use Rattle.ident.proofs.convert.Statement.{statement}
 use Rattle.ident.proofs.convert.Tie as tie
 use Rattle.ident.proofs.convert.Reads as reads
 use Rattle.ident.proofs.convert.Lts as lts
-use Rattle.ident.proofs.names.convertible.Reads as convertible-reads
+use Rattle.ident.proofs.convertible.Reads as convertible-reads
 use Rattle.ident.proofs.put_snake.Reads as put-snake-reads
 use Rattle.ident.proofs.put_upper_camel.Reads as put-upper-camel-reads
 

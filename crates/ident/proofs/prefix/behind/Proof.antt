@@ -13,7 +13,7 @@ use Rattle.ident.proofs.prefix.behind.Tie as tie
 use Rattle.ident.proofs.prefix.behind.Reads as reads
 use Rattle.ident.proofs.prefix.behind.Lts as lts
 use Rattle.heck.proofs.is_upper.Reads as is-upper-reads
-use Rattle.ident.proofs.prefix.camel_step.Reads as camel-step-reads
+use Rattle.heck.proofs.camel_step.Reads as camel-step-reads
 use Rattle.ident.proofs.prefix.whole.Reads as whole-reads
 
 abbrev Inv-loop : tie.InvT-loop

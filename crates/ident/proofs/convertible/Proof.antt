@@ -1,10 +1,10 @@
 use borrow.Author.Tests.{le-leb, lt-leb}
 use Rattle.ident.specs.Convert.{convertible}
 use borrow.Author.Needs.{needs}
-use Rattle.ident.proofs.names.convertible.Statement.{statement}
-use Rattle.ident.proofs.names.convertible.Tie as tie
-use Rattle.ident.proofs.names.convertible.Reads as reads
-use Rattle.ident.proofs.names.convertible.Lts as lts
+use Rattle.ident.proofs.convertible.Statement.{statement}
+use Rattle.ident.proofs.convertible.Tie as tie
+use Rattle.ident.proofs.convertible.Reads as reads
+use Rattle.ident.proofs.convertible.Lts as lts
 use Rattle.ident.proofs.names.has_word.Reads as has-word-reads
 use Rattle.ident.proofs.names.is_name.Reads as is-name-reads
 
