@@ -1,12 +1,10 @@
 -- The loop of `index_members`: what holds before each message. Assumes nothing.
 use mathlib.Core.Path.{_≡_, refl, sym, ap, _∙_, subst}
-use mathlib.Core.List.{List, [], _∷_, _++_}
-use Prim.Native.Nat.{ℕ, zero, suc, _+_, _*_, _-_, _≤_, _<_}
+use mathlib.Core.List.{List, [], _++_}
+use Prim.Native.Nat.{ℕ, zero, suc, _+_, _-_, _≤_, _<_}
 use native.Mathlib.Omega.{arith}
-use native.Mathlib.Numerals.{add-one}
 use native.Mathlib.Nat.{min-le-right}
 use lib.ListN.{length, drop, length-append, length-take, length-drop}
-use lib.Dec.{ltb}
 use borrow.Author.Tests.{le-ltb, lt-ltb}
 use Rattle.base.specs.Choose.{choose}
 use Rattle.wire.specs.Records.{part}
