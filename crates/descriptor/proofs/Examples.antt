@@ -1,9 +1,8 @@
 -- Document 01's set, decoded. Assumes nothing.
 use mathlib.Core.Path.{_≡_, refl}
-use mathlib.Core.Bool.{true, false}
-use mathlib.Core.List.{List, [], _∷_}
-use mathlib.Core.Option.{Option, none, some}
-use Prim.Native.Nat.{ℕ}
+use mathlib.Core.Bool.{false}
+use mathlib.Core.List.{[], _∷_}
+use mathlib.Core.Option.{none, some}
 use Rattle.base.specs.Bytes.{b}
 use Rattle.base.specs.Choose.{choose}
 use Rattle.wire.specs.Varint.{varint, groups, onVarint}

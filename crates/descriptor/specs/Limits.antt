@@ -1,13 +1,13 @@
 -- Refusal 4: the lowest limit that a set passes, of those that document 01 numbers 1 to 10. Each limit passes, one more is refused.
 -- Lengths are of raw bytes, also of names that are no identifiers. A missing name counts 0.
-use Prim.Native.Nat.{ℕ, zero, suc, _+_}
-use mathlib.Core.Bool.{Bool, true, false, _||_}
+use Prim.Native.Nat.{ℕ, _+_}
+use mathlib.Core.Bool.{Bool, false, _||_}
 use mathlib.Core.List.{List, [], _∷_, _++_}
 use mathlib.Core.Option.{Option, none, some}
 use lib.ListN.{length}
 use lib.Dec.{ltb, eqb}
 use Rattle.base.specs.Choose.{choose}
-use Rattle.descriptor.specs.Descriptor.{Forest, done, node, preorder, Bytes, FieldDescriptor, ValueDescriptor, EnumDescriptor, MessageDescriptor, FileDescriptor}
+use Rattle.descriptor.specs.Descriptor.{Forest, done, node, preorder, Bytes, FieldDescriptor, EnumDescriptor, MessageDescriptor, FileDescriptor}
 use Rattle.descriptor.specs.Decode.{entries, parts, decode-set, too-deep-file}
 
 abbrev pub max-set : ℕ

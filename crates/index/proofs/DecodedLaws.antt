@@ -2,7 +2,7 @@
 use mathlib.Core.Path.{_≡_, refl, sym, ap, _∙_, subst}
 use mathlib.Core.Bool.{Bool, true, false}
 use mathlib.Core.List.{List, [], _∷_, _++_, map}
-use Prim.Native.Nat.{ℕ, zero, suc, _+_, _-_, _≤_, _<_}
+use Prim.Native.Nat.{ℕ, zero, suc, _+_, _-_, _≤_}
 use native.Mathlib.Omega.{arith}
 use lib.ListN.{length, take, drop}
 use lib.Dec.{eqb}
@@ -19,7 +19,7 @@ use Rattle.descriptor.specs.Decode.{entries, entries-of, bytes-in, parts, decod
 use Rattle.descriptor.proofs.ViewLaws.{bytes-of}
 use Rattle.descriptor.proofs.ViewTheorems.{part-part}
 use Rattle.index.specs.Places.{end-in, inside}
-use Rattle.index.specs.Tree.{Place, place, Inner, forest-record, forest-in, size, rows, file-record, file-forests}
+use Rattle.index.specs.Tree.{Place, place, forest-record, forest-in, size, rows, file-record, file-forests}
 use Rattle.index.specs.declared.Row.{Row}
 
 -- the bytes at a place of the set

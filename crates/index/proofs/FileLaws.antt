@@ -1,11 +1,10 @@
 -- The loop of `index_files`: what holds before each record. Assumes nothing.
 use mathlib.Core.Path.{_≡_, refl, sym, ap, _∙_, subst}
-use mathlib.Core.List.{List, [], _∷_, _++_}
-use Prim.Native.Nat.{ℕ, zero, suc, _+_, _*_, _-_, _≤_, _<_}
+use mathlib.Core.List.{List, [], _∷_}
+use Prim.Native.Nat.{ℕ, _+_, _-_, _≤_, _<_}
 use native.Mathlib.Omega.{arith}
 use native.Mathlib.Nat.{le-refl}
 use lib.ListN.{length}
-use lib.Dec.{ltb}
 use borrow.Author.Tests.{le-ltb, lt-ltb}
 use Rattle.base.specs.Choose.{choose, choices}
 use Rattle.wire.specs.Step.{stepAt}
@@ -15,11 +14,9 @@ use Rattle.wire.proofs.RecordsLaws.{passes}
 use Rattle.wire.specs.declared.Record.{Record}
 use Rattle.wire.specs.declared.Step.{Step}
 use Rattle.wire.specs.declared.Step.the-variants.{End, Fault, Found}
-use Rattle.descriptor.specs.Descriptor.{Forest, done, node}
+use Rattle.descriptor.specs.Descriptor.{Forest}
 use Rattle.index.specs.Places.{end-in, inside}
-use Rattle.index.specs.Sizes.{size-in}
 use Rattle.index.specs.Tree.{Place, forest-in, size, rows, fill, Indexed, files-from, file-forests, total, rows-of, IndexedFiles}
-use Rattle.index.specs.declared.Row.{Row}
 use Rattle.index.proofs.SizeLaws.{grown}
 use Rattle.index.proofs.TreeLaws.{rows-length, fill-append}
 use Rattle.index.proofs.IndexLaws.{indexed-length}

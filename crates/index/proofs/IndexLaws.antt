@@ -1,21 +1,21 @@
 -- The loop of `index_in`: what holds before each record. Assumes nothing.
-use mathlib.Core.Path.{_≡_, refl, sym, ap, _∙_, subst}
+use mathlib.Core.Path.{_≡_, refl, ap, _∙_, subst}
 use mathlib.Core.List.{List, [], _∷_}
-use Prim.Native.Nat.{ℕ, zero, suc, _+_, _*_, _-_, _≤_, _<_}
+use Prim.Native.Nat.{ℕ, _+_, _*_, _-_, _≤_}
 use native.Mathlib.Omega.{arith}
 use lib.ListN.{length, length-set}
 use lib.Dec.{ltb}
-use Rattle.base.specs.Choose.{choose, choose-case}
+use Rattle.base.specs.Choose.{choose-case}
 use Rattle.wire.specs.Step.{stepAt}
 use Rattle.wire.specs.Records.{part}
 use Rattle.wire.proofs.StepLaws.{Lies, lies}
 use Rattle.wire.specs.declared.Record.{Record}
 use Rattle.wire.specs.declared.Step.{Step}
-use Rattle.wire.specs.declared.Step.the-variants.{End, Fault, Found}
+use Rattle.wire.specs.declared.Step.the-variants.{Found}
 use Rattle.descriptor.specs.Descriptor.{Forest, done, node}
-use Rattle.index.specs.Places.{end-in, inside}
+use Rattle.index.specs.Places.{end-in}
 use Rattle.index.specs.Sizes.{size-in}
-use Rattle.index.specs.Tree.{Place, place, Inner, forest-from, forest-in, size, rows, put, fill, Indexed}
+use Rattle.index.specs.Tree.{Place, forest-from, forest-in, size, rows, put, fill, Indexed}
 use Rattle.index.specs.declared.Row.{Row}
 use Rattle.index.proofs.SizeLaws.{grown}
 use Rattle.index.proofs.TreeLaws.{forest-is, forest-node, forest-skip, size-forest, node-counted, node-filled}

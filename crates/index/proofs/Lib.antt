@@ -5,3 +5,4 @@ pub mod FileLaws
 pub mod DecodedLaws
 pub mod TableLaws
 pub mod CountLaws
+pub mod MemberLaws

@@ -2,22 +2,21 @@
 use mathlib.Core.Path.{_≡_, refl, sym, ap, _∙_}
 use mathlib.Core.Bool.{Bool, true, false}
 use mathlib.Core.List.{List, [], _∷_, _++_}
-use Prim.Native.Nat.{ℕ, zero, suc, _+_, _*_, _-_, _≤_, _<_}
+use Prim.Native.Nat.{ℕ, zero, suc, _+_, _-_}
 use native.Mathlib.Numerals.{sub-one}
 use native.Mathlib.Omega.{arith}
 use lib.ListN.{length, length-append}
 use lib.Dec.{eqb}
 use Rattle.base.specs.Choose.{choose, choices}
 use Rattle.wire.specs.Step.{stepAt}
-use Rattle.wire.specs.Records.{records, pass, over, part}
-use Rattle.wire.proofs.StepLaws.{Lies, lies}
+use Rattle.wire.specs.Records.{records, pass, over}
 use Rattle.wire.proofs.RecordsLaws.{passes}
 use Rattle.wire.specs.declared.Record.{Record}
 use Rattle.wire.specs.declared.Step.{Step}
 use Rattle.wire.specs.declared.Step.the-variants.{End, Fault, Found}
 use Rattle.descriptor.specs.Descriptor.{Forest, done, node}
-use Rattle.index.specs.Places.{end-in, inside}
-use Rattle.index.specs.Sizes.{size-in, size-from, size-record}
+use Rattle.index.specs.Places.{inside}
+use Rattle.index.specs.Sizes.{size-in, size-record}
 use Rattle.index.specs.Tree.{Place, place, Inner, forest-record, forest-from, forest-in, size, rows, put, fill, Indexed}
 use Rattle.index.specs.declared.Row.{Row}
 

@@ -5,7 +5,7 @@ use mathlib.Core.List.{List, [], _∷_, _++_}
 use lib.ListN.{length, getD, set}
 use lib.Dec.{eqb, ltb}
 use Rattle.base.specs.Choose.{choose}
-use Rattle.wire.specs.Records.{over}
+use Rattle.wire.specs.Records.{over, part}
 use Rattle.wire.specs.declared.Record.{Record}
 use Rattle.descriptor.specs.Descriptor.{Forest, done, node}
 use Rattle.index.specs.Places.{end-in, inside}
@@ -96,3 +96,24 @@ pub record IndexedFiles (Fs : List (Forest Place)) (t u : List ℕ) (next : ℕ)
 -- row i as the code reads it: a table has fewer than 65,536 rows
 unfoldable pub row-at : List ℕ → ℕ → Row
 row-at t i = choose (ltb i 65536) (row-in t i) (record { start = 0; end = 0; file = 0; up = 0; after = 0 })
+
+-- The rows of what the messages of a table hold with the field number (fields 2, enums 4, oneofs 8), from row i on: of k messages, the first in row j of
+-- the table. A set within the limits has fewer than 32,768; what follows them is left out.
+abbrev pub member-forest : List ℕ → ℕ → Row → Forest Place
+member-forest set number m = forest-in 1 number (part set (m .start) (m .end - m .start)) (m .start)
+
+unfoldable pub members : List ℕ → ℕ → List ℕ → ℕ → ℕ → ℕ → List Row
+members set number messages zero j i = []
+members set number messages (suc k) j i =
+    choose (ltb 32767 i) []
+    (rows (row-at messages j .file) (j + 1) i (member-forest set number (row-at messages j))
+    ++ members set number messages k (j + 1) (i + size (member-forest set number (row-at messages j))))
+
+-- the table t with these rows from row i on is u, and next is the row behind them
+pub record Holds (rs : List Row) (t : List ℕ) (i : ℕ) (u : List ℕ) (next : ℕ) : Type 0 where
+  pub table : u ≡ fill t i rs
+  pub counted : next ≡ i + length rs
+
+-- a set over limit 1, or a table of more messages than limit 3, is not looked at
+unfoldable pub all-members : List ℕ → ℕ → List ℕ → ℕ → ℕ → List Row
+all-members set number messages count i = choose (ltb 32768 (length set)) [] (choose (ltb 1024 count) [] (members set number messages count 0 i))

@@ -4,7 +4,7 @@ ghost use Prim.Native.Nat.{ℕ, _+_, _*_, _-_, _<_, _≤_, _^_};
 ghost use lib.ListN.{length, getD};
 ghost use Rattle.index.specs.Places.{end-in};
 ghost use Rattle.index.specs.Sizes.{size-in};
-ghost use Rattle.index.specs.Tree.{forest-in, size, rows, put, fill, Indexed, file-forests, IndexedFiles, row-at};
+ghost use Rattle.index.specs.Tree.{forest-in, size, rows, put, fill, Indexed, file-forests, IndexedFiles, row-at, Holds, all-members};
 use wire::Record;
 use wire::Step;
 
@@ -193,4 +193,45 @@ pub fn row_of(t: &[u16], i: usize) -> Row
         up: 0,
         after: 0,
     }
+}
+
+// The rows of what the first `count` messages of a table hold with this field number: fields (2), enums (4) or oneofs (8),
+// from row `i` on.
+pub fn index_members(
+    set: &[u8],
+    messages: &[u16],
+    count: usize,
+    number: u64,
+    t: &mut [u16],
+    i: usize,
+) -> usize
+    ensures { λ r. ⌜ Holds (all-members (now (set .entry)) number (now (messages .entry)) count i) (now (t .entry)) i (now (t .exit)) r ⌝ }
+{
+    if 32768 < set.len() {
+        return i;
+    }
+    if 1024 < count {
+        return i;
+    }
+    let mut n = i;
+    let mut j: usize = 0;
+    while j < count {
+        if 32767 < n {
+            return n;
+        }
+        let m = row_of(messages, j);
+        let start = wide(m.start);
+        let end = wide(m.end);
+        let next = j + 1;
+        let part = descriptor::part_of(set, start, end);
+        n = index_in(part, start, number, 1, m.file, short(next), t, n);
+        j = next;
+    }
+    n
+}
+
+fn wide(x: u16) -> usize
+    ensures { λ r. ⌜ (r ≡ x) × (r < 65536) ⌝ }
+{
+    x as usize
 }

@@ -1,7 +1,6 @@
 -- Sets and their first faults, by computation. Assumes nothing.
 use mathlib.Core.Path.{_≡_, refl}
-use mathlib.Core.List.{List, [], _∷_}
-use Prim.Native.Nat.{ℕ}
+use mathlib.Core.List.{[], _∷_}
 use Rattle.base.specs.Choose.{choose}
 use Rattle.wire.specs.Varint.{varint, groups, onVarint}
 use Rattle.wire.specs.Step.{payload, stepAt}

@@ -45,123 +45,93 @@ abbrev check-message-μ-loop : check-message-lts.MeasureT-loop
 check-message-μ-loop s base sort left at₀ met₀ at met = length s - at
 
 module _ (t : ℕ) where
-  -- src/lib.rt:123:5
   check-message-loop-holds : check-message-lts.Need-loop-holds (check-message-claims t) (check-message-at t) check-message.Post check-message-Inv-loop check-message-μ-loop
   check-message-loop-holds c = check-is _ _ _ _
 
-  -- src/lib.rt:124:15
   check-message-read-step-requires : check-message-lts.Need-read-step-requires (check-message-claims t) (check-message-at t) check-message.Post check-message-Inv-loop check-message-μ-loop
   check-message-read-step-requires c κs = search needs
 
-  -- src/lib.rt:125:26
   check-message-enum-told : check-message-lts.Need-enum-told (check-message-claims t) (check-message-at t) check-message.Post check-message-Inv-loop check-message-μ-loop
   check-message-enum-told c = search needs
 
-  -- src/lib.rt:125:26
   check-message-returns : check-message-lts.Need-returns (check-message-claims t) (check-message-at t) check-message.Post check-message-Inv-loop check-message-μ-loop
   check-message-returns c = whole (c .before .before .before .loop .inv) (search (passes, on-verdict, on-checked, c .enum-told .given .1, c .before .before .read-step .ensures) depth 16)
 
-  -- src/lib.rt:126:25
   check-message-enum-known-key : check-message-lts.Need-enum-known-key (check-message-claims t) (check-message-at t) check-message.Post check-message-Inv-loop check-message-μ-loop
   check-message-enum-known-key c = search needs
 
-  -- src/lib.rt:127:29
   check-message-add-place : check-message-lts.Need-add-place (check-message-claims t) (check-message-at t) check-message.Post check-message-Inv-loop check-message-μ-loop
   check-message-add-place c = search rooms
 
-  -- src/lib.rt:128:17
   check-message-returns-2 : check-message-lts.Need-returns-2 (check-message-claims t) (check-message-at t) check-message.Post check-message-Inv-loop check-message-μ-loop
   check-message-returns-2 c = whole (c .before .before .before .before .loop .inv) (search (passes, on-verdict, on-checked, c .before .key .given .1, c .before .before .before .read-step .ensures) depth 16)
 
-  -- src/lib.rt:130:25
   check-message-enum-known-f : check-message-lts.Need-enum-known-f (check-message-claims t) (check-message-at t) check-message.Post check-message-Inv-loop check-message-μ-loop
   check-message-enum-known-f c = search needs
 
-  -- src/lib.rt:131:21
   check-message-class-of-requires : check-message-lts.Need-class-of-requires (check-message-claims t) (check-message-at t) check-message.Post check-message-Inv-loop check-message-μ-loop
   check-message-class-of-requires c κs = search needs
 
-  -- src/lib.rt:132:21
   check-message-was-met-requires : check-message-lts.Need-was-met-requires (check-message-claims t) (check-message-at t) check-message.Post check-message-Inv-loop check-message-μ-loop
   check-message-was-met-requires c κs = search needs
 
-  -- src/lib.rt:133:17
   check-message-with-met-requires : check-message-lts.Need-with-met-requires (check-message-claims t) (check-message-at t) check-message.Post check-message-Inv-loop check-message-μ-loop
   check-message-with-met-requires c κs = search needs
 
-  -- src/lib.rt:134:23
   check-message-judged-requires : check-message-lts.Need-judged-requires (check-message-claims t) (check-message-at t) check-message.Post check-message-Inv-loop check-message-μ-loop
   check-message-judged-requires c κs = search needs
 
-  -- src/lib.rt:136:25
   check-message-enum-told-2 : check-message-lts.Need-enum-told-2 (check-message-claims t) (check-message-at t) check-message.Post check-message-Inv-loop check-message-μ-loop
   check-message-enum-told-2 c = search needs
 
-  -- src/lib.rt:123:5
   check-message-loop-less : check-message-lts.Need-loop-less (check-message-claims t) (check-message-at t) check-message.Post check-message-Inv-loop check-message-μ-loop
   check-message-loop-less c = search places
 
-  -- src/lib.rt:123:5
   check-message-loop-again : check-message-lts.Need-loop-again (check-message-claims t) (check-message-at t) check-message.Post check-message-Inv-loop check-message-μ-loop
   check-message-loop-again c = rw (c .before .before .before .with-met .ensures) (whole (c .before .before .before .before .before .before .before .before .before .before .loop .inv) (search (passes, on-verdict, on-checked, c .enum-told2 .given .1, c .before .before .judged .ensures, c .before .before .before .with-met .ensures, c .before .before .before .before .was-met .ensures, c .before .before .before .before .before .class-of .ensures, c .before .before .before .before .before .before .before .f .given .1, c .before .before .before .before .before .before .before .before .before .read-step .ensures) depth 16))
 
-  -- src/lib.rt:139:37
   check-message-enum-told-3 : check-message-lts.Need-enum-told-3 (check-message-claims t) (check-message-at t) check-message.Post check-message-Inv-loop check-message-μ-loop
   check-message-enum-told-3 c = search needs
 
-  -- src/lib.rt:139:37
   check-message-add-place-2 : check-message-lts.Need-add-place-2 (check-message-claims t) (check-message-at t) check-message.Post check-message-Inv-loop check-message-μ-loop
   check-message-add-place-2 c = search rooms
 
-  -- src/lib.rt:140:25
   check-message-returns-3 : check-message-lts.Need-returns-3 (check-message-claims t) (check-message-at t) check-message.Post check-message-Inv-loop check-message-μ-loop
   check-message-returns-3 c = whole (c .before .before .before .before .before .before .before .before .before .before .before .loop .inv) (search (passes, on-verdict, on-checked, c .before .enum-told3 .given .1, c .before .before .before .judged .ensures, c .before .before .before .before .with-met .ensures, c .before .before .before .before .before .was-met .ensures, c .before .before .before .before .before .before .class-of .ensures, c .before .before .before .before .before .before .before .before .f .given .1, c .before .before .before .before .before .before .before .before .before .before .read-step .ensures) depth 16)
 
-  -- src/lib.rt:142:37
   check-message-enum-known-inner : check-message-lts.Need-enum-known-inner (check-message-claims t) (check-message-at t) check-message.Post check-message-Inv-loop check-message-μ-loop
   check-message-enum-known-inner c = search needs
 
-  -- src/lib.rt:145:36
   check-message-add-from : check-message-lts.Need-add-from (check-message-claims t) (check-message-at t) check-message.Post check-message-Inv-loop check-message-μ-loop
   check-message-add-from c = search rooms
 
-  -- src/lib.rt:146:37
   check-message-sub-fewer : check-message-lts.Need-sub-fewer (check-message-claims t) (check-message-at t) check-message.Post check-message-Inv-loop check-message-μ-loop
   check-message-sub-fewer c = search some-left
 
-  -- src/lib.rt:147:45
   check-message-sub-check-message : check-message-lts.Need-sub-check-message (check-message-claims t) (check-message-at t) check-message.Post check-message-Inv-loop check-message-μ-loop
   check-message-sub-check-message c = search places
 
-  -- src/lib.rt:147:45
   check-message-part-check-message-start : check-message-lts.Need-part-check-message-start (check-message-claims t) (check-message-at t) check-message.Post check-message-Inv-loop check-message-μ-loop
   check-message-part-check-message-start c = search places
 
-  -- src/lib.rt:147:45
   check-message-part-check-message-end : check-message-lts.Need-part-check-message-end (check-message-claims t) (check-message-at t) check-message.Post check-message-Inv-loop check-message-μ-loop
   check-message-part-check-message-end c = search places
 
-  -- src/lib.rt:147:31
   check-message-check-message-requires : check-message-lts.Need-check-message-requires (check-message-claims t) (check-message-at t) check-message.Post check-message-Inv-loop check-message-μ-loop
   check-message-check-message-requires c κs = let l : 1 ≤ c .before .before .before .before .before .before .before .before .before .before .before .before .before .before .args .left = search some-left in (omega arith, search rooms)
 
-  -- src/lib.rt:148:44
   check-message-enum-known-place : check-message-lts.Need-enum-known-place (check-message-claims t) (check-message-at t) check-message.Post check-message-Inv-loop check-message-μ-loop
   check-message-enum-known-place c = search needs
 
-  -- src/lib.rt:148:54
   check-message-returns-4 : check-message-lts.Need-returns-4 (check-message-claims t) (check-message-at t) check-message.Post check-message-Inv-loop check-message-μ-loop
   check-message-returns-4 c = whole (c .before .before .before .before .before .before .before .before .before .before .before .before .before .before .before .before .loop .inv) (search (passes, on-verdict, on-checked, c .before .place .given .1, c .before .before .before .check-message .ensures, c .before .before .before .before .before .before .inner .given .1, c .before .before .before .before .before .before .before .before .judged .ensures, c .before .before .before .before .before .before .before .before .before .with-met .ensures, c .before .before .before .before .before .before .before .before .before .before .was-met .ensures, c .before .before .before .before .before .before .before .before .before .before .before .class-of .ensures, c .before .before .before .before .before .before .before .before .before .before .before .before .before .f .given .1, c .before .before .before .before .before .before .before .before .before .before .before .before .before .before .before .read-step .ensures) depth 16)
 
-  -- src/lib.rt:150:33
   check-message-enum-told-4 : check-message-lts.Need-enum-told-4 (check-message-claims t) (check-message-at t) check-message.Post check-message-Inv-loop check-message-μ-loop
   check-message-enum-told-4 c = search needs
 
-  -- src/lib.rt:123:5
   check-message-loop-less-2 : check-message-lts.Need-loop-less-2 (check-message-claims t) (check-message-at t) check-message.Post check-message-Inv-loop check-message-μ-loop
   check-message-loop-less-2 c = search places
 
-  -- src/lib.rt:123:5
   check-message-loop-again-2 : check-message-lts.Need-loop-again-2 (check-message-claims t) (check-message-at t) check-message.Post check-message-Inv-loop check-message-μ-loop
   check-message-loop-again-2 c = rw (c .before .before .before .before .before .before .before .before .with-met .ensures) (whole (c .before .before .before .before .before .before .before .before .before .before .before .before .before .before .before .loop .inv) (search (passes, on-verdict, on-checked, c .enum-told4 .given .1, c .before .before .check-message .ensures, c .before .before .before .before .before .inner .given .1, c .before .before .before .before .before .before .before .judged .ensures, c .before .before .before .before .before .before .before .before .with-met .ensures, c .before .before .before .before .before .before .before .before .before .was-met .ensures, c .before .before .before .before .before .before .before .before .before .before .class-of .ensures, c .before .before .before .before .before .before .before .before .before .before .before .before .f .given .1, c .before .before .before .before .before .before .before .before .before .before .before .before .before .before .read-step .ensures) depth 16))
 

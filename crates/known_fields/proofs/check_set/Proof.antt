@@ -2,15 +2,10 @@ use Rattle.known_fields.specs.Check.{check-set}
 use borrow.Author.Needs.{needs}
 use Rattle.known_fields.proofs.check_set.Statement.{statement}
 use Rattle.known_fields.proofs.check_set.Tie as tie
-use Rattle.known_fields.proofs.check_set.Reads as reads
-use Rattle.known_fields.proofs.check_set.Lts as lts
-use Rattle.known_fields.proofs.check_message.Reads as check-message-reads
 
--- src/lib.rt:164:5
 check-message-requires : tie.Need-check-message-requires
 check-message-requires c κs = search needs
 
--- src/lib.rt:161:1
 returns : tie.Need-returns
 unfolding check-set
 returns c = search needs

@@ -3,30 +3,22 @@ use native.Mathlib.Omega.{arith}
 use borrow.Author.Needs.{needs}
 use Rattle.known_fields.proofs.class_of.Statement.{statement}
 use Rattle.known_fields.proofs.class_of.Tie as tie
-use Rattle.known_fields.proofs.class_of.Reads as reads
-use Rattle.known_fields.proofs.class_of.Lts as lts
 
--- src/lib.rt:30:19
 mul-row : tie.Need-mul-row
 mul-row c = search needs
 
--- src/lib.rt:31:17
 add-i : tie.Need-add-i
 add-i c = search needs
 
--- src/lib.rt:33:20
 array-read-result : tie.Need-array-read-result
 array-read-result c = search needs
 
--- src/lib.rt:33:13
 returns : tie.Need-returns
 returns c = class-is _ _ (c .before .if1 .taken) (c .if2 .taken)
 
--- src/lib.rt:35:9
 returns-2 : tie.Need-returns-2
 returns-2 c = class-none _ _ (λ p q. omega arith)
 
--- src/lib.rt:26:1
 returns-3 : tie.Need-returns-3
 returns-3 c = class-none _ _ (λ p q. omega arith)
 

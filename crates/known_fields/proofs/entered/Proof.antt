@@ -3,20 +3,14 @@ use Rattle.base.specs.Choose.{choices}
 use borrow.Author.Needs.{needs}
 use Rattle.known_fields.proofs.entered.Statement.{statement}
 use Rattle.known_fields.proofs.entered.Tie as tie
-use Rattle.known_fields.proofs.entered.Reads as reads
-use Rattle.known_fields.proofs.entered.Lts as lts
-use Rattle.known_fields.proofs.levels_for.Reads as levels-for-reads
 
--- src/lib.rt:49:15
 levels-for-requires : tie.Need-levels-for-requires
 levels-for-requires c κs = search needs
 
--- src/lib.rt:50:9
 returns : tie.Need-returns
 unfolding enter
 returns c = rw (← c .before .levels-for .ensures) (search choices depth 9)
 
--- src/lib.rt:46:1
 returns-2 : tie.Need-returns-2
 unfolding enter
 returns-2 c = rw (← c .before .levels-for .ensures) (search choices depth 9)

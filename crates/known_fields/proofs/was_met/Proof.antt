@@ -6,18 +6,13 @@ use native.Mathlib.Omega.{arith}
 use borrow.Author.Needs.{needs}
 use Rattle.known_fields.proofs.was_met.Statement.{statement}
 use Rattle.known_fields.proofs.was_met.Tie as tie
-use Rattle.known_fields.proofs.was_met.Reads as reads
-use Rattle.known_fields.proofs.was_met.Lts as lts
 
--- src/lib.rt:98:16
 element-copy-out-result : tie.Need-element-copy-out-result
 element-copy-out-result c = search needs
 
--- src/lib.rt:98:9
 returns : tie.Need-returns
 returns c = search needs
 
--- src/lib.rt:93:1
 returns-2 : tie.Need-returns-2
 returns-2 c = let l : length (c .before .args .t1 .marks) ≡ 18 = search needs in sym (List·getD-eq-default (c .before .args .t1 .marks) false (let h : length (c .before .args .t1 .marks) ≤ c .before .args .number = omega arith in h))
 

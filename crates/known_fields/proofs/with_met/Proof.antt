@@ -9,19 +9,14 @@ use Prim.Native.Nat.{_≤_}
 use borrow.Author.Needs.{needs}
 use Rattle.known_fields.proofs.with_met.Statement.{statement}
 use Rattle.known_fields.proofs.with_met.Tie as tie
-use Rattle.known_fields.proofs.with_met.Reads as reads
-use Rattle.known_fields.proofs.with_met.Lts as lts
 
--- src/lib.rt:109:9
 element-write-m : tie.Need-element-write-m
 element-write-m c = search needs
 
--- src/lib.rt:110:9
 returns : tie.Need-returns
 unfolding meet
 returns c = search needs
 
--- src/lib.rt:103:1
 returns-2 : tie.Need-returns-2
 unfolding meet
 returns-2 c = let l : length (c .before .args .met .marks) ≡ 18 = search needs in let h : length (c .before .args .met .marks) ≤ c .before .args .number = omega arith in ap (λ (m : List Bool). record { marks = m }) (sym (set-out (c .before .args .met .marks) (c .before .args .number) true h))
