@@ -1,3 +1,4 @@
+use Rattle.index.proofs.made_row.Reads as made-row-reads
 use Rattle.wire.proofs.RecordsLaws.{places, length-part}
 use Rattle.wire.proofs.StepLaws.{Lies, lies}
 use native.Mathlib.Omega.{arith}
@@ -34,7 +35,7 @@ index-in-below t =
     and 2 index-in-kinds.ps (falls 2 index-in-kinds.ps _<_ μ-index-in t) index-in.Pre
 
 abbrev index-in-claims : ℕ → index-in-lts.Claims
-index-in-claims t = (read-step-reads.Asked, read-step-reads.Learnt, end-of-reads.Asked, end-of-reads.Learnt, count-in-reads.Asked, count-in-reads.Learnt, short-reads.Asked, short-reads.Learnt, put-row-reads.Asked, put-row-reads.Learnt, index-in-below t, index-in.Post)
+index-in-claims t = (read-step-reads.Asked, read-step-reads.Learnt, end-of-reads.Asked, end-of-reads.Learnt, count-in-reads.Asked, count-in-reads.Learnt, made-row-reads.Asked, made-row-reads.Learnt, put-row-reads.Asked, put-row-reads.Learnt, short-reads.Asked, short-reads.Learnt, index-in-below t, index-in.Post)
 
 abbrev index-in-Inv-loop : index-in-lts.InvT-loop
 index-in-Inv-loop s base number left file up t₀ i fewer at₀ k₀ t at k = Going left number s base file up t₀ i t at k
@@ -107,20 +108,19 @@ module _ (t : ℕ) where
       let g : c .before .before .before .before .before .before .before .before .before .loop .at + 1 + c .count-in .result ≤ c .before .before .before .before .before .before .f .given .0 .0 .next = grown _ _ _ _ (c .before .before .before .before .before .before .before .before .read-step .ensures) (c .before .before .before .before .before .before .f .given .1) _ _ _ (c .before .before .end-of .ensures .1) (c .before .before .end-of .ensures .2) (le-refl (c .before .before .before .before .before .before .before .before .before .loop .at)) (c .count-in .ensures .1) in
       omega (arith, c .before .before .before .before .before .before .before .before .before .loop .inv .room, c .before .before .before .before .before .before .before .before .before .before .before .before .before .pre .1 .1)
 
-  index-in-short-requires : index-in-lts.Need-short-requires (index-in-claims t) (index-in-at t) index-in.Post index-in-Inv-loop index-in-μ-loop
-  index-in-short-requires c κs = let l = lies _ _ _ _ (c .before .before .before .before .before .before .before .before .read-step .ensures) (c .before .before .before .before .before .before .f .given .1) in omega (arith, c .before .before .before .before .before .before .before .before .before .before .before .before .before .pre .1 .0)
-
-  index-in-short-requires-2 : index-in-lts.Need-short-requires-2 (index-in-claims t) (index-in-at t) index-in.Post index-in-Inv-loop index-in-μ-loop
-  index-in-short-requires-2 c κs = let l = lies _ _ _ _ (c .before .before .before .before .before .before .before .before .before .read-step .ensures) (c .before .before .before .before .before .before .before .f .given .1) in omega (arith, c .before .before .before .before .before .before .before .before .before .before .before .before .before .before .pre .1 .0, c .before .before .before .end-of .ensures .2)
-
-  index-in-short-requires-3 : index-in-lts.Need-short-requires-3 (index-in-claims t) (index-in-at t) index-in.Post index-in-Inv-loop index-in-μ-loop
-  index-in-short-requires-3 c κs =
-      let l = lies _ _ _ _ (c .before .before .before .before .before .before .before .before .before .before .read-step .ensures) (c .before .before .before .before .before .before .before .before .f .given .1) in
-      let g : c .before .before .before .before .before .before .before .before .before .before .before .loop .at + 1 + c .before .before .count-in .result ≤ c .before .before .before .before .before .before .before .before .f .given .0 .0 .next = grown _ _ _ _ (c .before .before .before .before .before .before .before .before .before .before .read-step .ensures) (c .before .before .before .before .before .before .before .before .f .given .1) _ _ _ (c .before .before .before .before .end-of .ensures .1) (c .before .before .before .before .end-of .ensures .2) (le-refl (c .before .before .before .before .before .before .before .before .before .before .before .loop .at)) (c .before .before .count-in .ensures .1) in
-      omega (arith, c .before .before .before .before .before .before .before .before .before .before .before .loop .inv .room, c .before .before .before .before .before .before .before .before .before .before .before .before .before .before .before .pre .1 .1)
+  -- src/lib.rt:130:35
+  index-in-made-row-requires : index-in-lts.Need-made-row-requires (index-in-claims t) (index-in-at t) index-in.Post index-in-Inv-loop index-in-μ-loop
+  index-in-made-row-requires c κs =
+      let l = lies _ _ _ _ (c .before .before .before .before .before .before .before .before .before .read-step .ensures) (c .before .before .before .before .before .before .before .f .given .1) in
+      let g : c .before .before .before .before .before .before .before .before .before .before .loop .at + 1 + c .before .count-in .result ≤ c .before .before .before .before .before .before .before .f .given .0 .0 .next = grown _ _ _ _ (c .before .before .before .before .before .before .before .before .before .read-step .ensures) (c .before .before .before .before .before .before .before .f .given .1) _ _ _ (c .before .before .before .end-of .ensures .1) (c .before .before .before .end-of .ensures .2) (le-refl (c .before .before .before .before .before .before .before .before .before .before .loop .at)) (c .before .count-in .ensures .1) in
+      let r = c .before .before .before .before .before .before .before .before .before .before .loop .inv .room in
+      let p = c .before .before .before .before .before .before .before .before .before .before .before .before .before .before .pre .1 .0 in
+      let q = c .before .before .before .before .before .before .before .before .before .before .before .before .before .before .pre .1 .1 in
+      let e = c .before .before .before .end-of .ensures .2 in
+      (omega arith, omega arith, omega arith)
 
   index-in-put-row-requires : index-in-lts.Need-put-row-requires (index-in-claims t) (index-in-at t) index-in.Post index-in-Inv-loop index-in-μ-loop
-  index-in-put-row-requires c κs = omega (arith, c .before .before .before .before .before .before .before .before .before .before .before .before .before .loop .inv .room, c .before .before .before .before .before .before .before .before .before .before .before .before .before .before .before .before .before .pre .1 .1)
+  index-in-put-row-requires c κs = omega (arith, c .before .before .before .before .before .before .before .before .before .before .before .loop .inv .room, c .before .before .before .before .before .before .before .before .before .before .before .before .before .before .before .pre .1 .1)
 
   index-in-sub-index-in : index-in-lts.Need-sub-index-in (index-in-claims t) (index-in-at t) index-in.Post index-in-Inv-loop index-in-μ-loop
   index-in-sub-index-in c = search needs
@@ -129,27 +129,27 @@ module _ (t : ℕ) where
   index-in-part-index-in-start c = search needs
 
   index-in-part-index-in-end : index-in-lts.Need-part-index-in-end (index-in-claims t) (index-in-at t) index-in.Post index-in-Inv-loop index-in-μ-loop
-  index-in-part-index-in-end c = ends-in _ _ _ _ (c .before .before .before .before .before .before .before .before .before .before .before .before .before .before .before .read-step .ensures) (c .before .before .before .before .before .before .before .before .before .before .before .before .before .f .given .1) _ (c .before .before .before .before .before .before .before .before .before .end-of .ensures .2)
+  index-in-part-index-in-end c = ends-in _ _ _ _ (c .before .before .before .before .before .before .before .before .before .before .before .before .before .read-step .ensures) (c .before .before .before .before .before .before .before .before .before .before .before .f .given .1) _ (c .before .before .before .before .before .before .before .end-of .ensures .2)
 
-  index-in-short-requires-4 : index-in-lts.Need-short-requires-4 (index-in-claims t) (index-in-at t) index-in.Post index-in-Inv-loop index-in-μ-loop
-  index-in-short-requires-4 c κs = let l = lies _ _ _ _ (c .before .before .before .before .before .before .before .before .before .before .before .before .before .before .before .before .read-step .ensures) (c .before .before .before .before .before .before .before .before .before .before .before .before .before .before .f .given .1) in omega (arith, c .before .before .before .before .before .before .before .before .before .before .before .before .before .before .before .before .before .loop .inv .room, c .before .before .before .before .before .before .before .before .before .before .before .before .before .before .before .before .before .before .before .before .before .pre .1 .1)
+  index-in-short-requires : index-in-lts.Need-short-requires (index-in-claims t) (index-in-at t) index-in.Post index-in-Inv-loop index-in-μ-loop
+  index-in-short-requires c κs = let l = lies _ _ _ _ (c .before .before .before .before .before .before .before .before .before .before .before .before .before .before .read-step .ensures) (c .before .before .before .before .before .before .before .before .before .before .before .before .f .given .1) in omega (arith, c .before .before .before .before .before .before .before .before .before .before .before .before .before .before .before .loop .inv .room, c .before .before .before .before .before .before .before .before .before .before .before .before .before .before .before .before .before .before .before .pre .1 .1)
 
   index-in-index-in-requires : index-in-lts.Need-index-in-requires (index-in-claims t) (index-in-at t) index-in.Post index-in-Inv-loop index-in-μ-loop
   index-in-index-in-requires c κs =
-      let l = lies _ _ _ _ (c .before .before .before .before .before .before .before .before .before .before .before .before .before .before .before .before .before .before .read-step .ensures) (c .before .before .before .before .before .before .before .before .before .before .before .before .before .before .before .before .f .given .1) in
-      let m = length-part (c .before .before .before .before .before .before .before .before .before .before .before .before .before .before .before .before .before .before .before .before .before .before .before .args .s .now) (c .before .before .before .before .before .before .before .before .before .before .before .before .before .before .before .before .f .given .0 .0 .start) (c .before .before .before .before .before .before .before .before .before .before .before .before .end-of .result) (ends-in _ _ _ _ (c .before .before .before .before .before .before .before .before .before .before .before .before .before .before .before .before .before .before .read-step .ensures) (c .before .before .before .before .before .before .before .before .before .before .before .before .before .before .before .before .f .given .1) _ (c .before .before .before .before .before .before .before .before .before .before .before .before .end-of .ensures .2)) in
-      let a = c .before .before .before .before .before .before .before .before .before .before .before .before .before .before .before .before .before .before .before .before .before .before .before .pre .1 .0 in
-      let b = c .before .before .before .before .before .before .before .before .before .before .before .before .end-of .ensures .2 in
-      let d = c .before .before .before .before .before .before .before .before .before .before .before .before .end-of .ensures .1 in
-      let r = c .before .before .before .before .before .before .before .before .before .before .before .before .before .before .before .before .before .before .before .loop .inv .room in
-      let q = c .before .before .before .before .before .before .before .before .before .before .before .before .before .before .before .before .before .before .before .before .before .before .before .pre .1 .1 in
-      (omega (arith, c .before .before .before .before .before .before .before .before .before .before .before .before .before .before .before .before .before .before .before .before .if1 .left), (omega arith, omega arith))
+      let l = lies _ _ _ _ (c .before .before .before .before .before .before .before .before .before .before .before .before .before .before .before .before .read-step .ensures) (c .before .before .before .before .before .before .before .before .before .before .before .before .before .before .f .given .1) in
+      let m = length-part (c .before .before .before .before .before .before .before .before .before .before .before .before .before .before .before .before .before .before .before .before .before .args .s .now) (c .before .before .before .before .before .before .before .before .before .before .before .before .before .before .f .given .0 .0 .start) (c .before .before .before .before .before .before .before .before .before .before .end-of .result) (ends-in _ _ _ _ (c .before .before .before .before .before .before .before .before .before .before .before .before .before .before .before .before .read-step .ensures) (c .before .before .before .before .before .before .before .before .before .before .before .before .before .before .f .given .1) _ (c .before .before .before .before .before .before .before .before .before .before .end-of .ensures .2)) in
+      let a = c .before .before .before .before .before .before .before .before .before .before .before .before .before .before .before .before .before .before .before .before .before .pre .1 .0 in
+      let b = c .before .before .before .before .before .before .before .before .before .before .end-of .ensures .2 in
+      let d = c .before .before .before .before .before .before .before .before .before .before .end-of .ensures .1 in
+      let r = c .before .before .before .before .before .before .before .before .before .before .before .before .before .before .before .before .before .loop .inv .room in
+      let q = c .before .before .before .before .before .before .before .before .before .before .before .before .before .before .before .before .before .before .before .before .before .pre .1 .1 in
+      (omega (arith, c .before .before .before .before .before .before .before .before .before .before .before .before .before .before .before .before .before .before .if1 .left, c .before .before .before .before .before .before .before .before .before .before .before .before .before .before .before .before .before .before .before .before .before .pre .0), (omega arith, omega arith))
 
   index-in-loop-less : index-in-lts.Need-loop-less (index-in-claims t) (index-in-at t) index-in.Post index-in-Inv-loop index-in-μ-loop
   index-in-loop-less c = search places
 
   index-in-loop-again : index-in-lts.Need-loop-again (index-in-claims t) (index-in-at t) index-in.Post index-in-Inv-loop index-in-μ-loop
-  index-in-loop-again c = going-node _ _ _ _ _ _ _ _ _ _ _ (c .before .before .before .before .before .before .before .before .before .before .before .before .before .before .before .before .before .before .before .before .before .before .loop .inv) _ (c .before .before .before .before .before .before .before .before .before .before .before .before .before .before .before .before .before .before .before .before .before .read-step .ensures) _ (c .before .before .before .before .before .before .before .before .before .before .before .before .before .before .before .before .before .before .before .f .given .1) (c .before .before .before .before .before .before .before .before .before .before .before .before .before .before .before .before .if2 .taken) _ _ (c .before .before .before .before .before .before .before .before .before .before .before .before .before .before .before .end-of .ensures .0) (c .before .before .before .before .before .before .before .before .before .before .before .before .before .before .before .end-of .ensures .1) (c .before .before .before .before .before .before .before .before .before .before .before .before .before .before .before .end-of .ensures .2) (c .before .before .before .before .before .before .before .before .before .before .before .before .before .count-in .ensures .0) (c .before .before .before .before .before .before .before .before .before .before .before .before .before .count-in .ensures .1) _ (rw (c .before .before .before .before .before .before .before .before .before .before .before .before .short .ensures, c .before .before .before .before .before .before .before .before .before .before .before .short2 .ensures, c .before .before .before .before .before .before .before .before .before .before .short3 .ensures)) _ _ _ _ (c .before .before .before .before .before .before .before .before .put-row .ensures) (c .before .before .before .before .short4 .ensures) (c .before .before .index-in .ensures .0)
+  index-in-loop-again c = going-node _ _ _ _ _ _ _ _ _ _ _ (c .before .before .before .before .before .before .before .before .before .before .before .before .before .before .before .before .before .before .before .before .loop .inv) _ (c .before .before .before .before .before .before .before .before .before .before .before .before .before .before .before .before .before .before .before .read-step .ensures) _ (c .before .before .before .before .before .before .before .before .before .before .before .before .before .before .before .before .before .f .given .1) (c .before .before .before .before .before .before .before .before .before .before .before .before .before .before .if2 .taken) _ _ (c .before .before .before .before .before .before .before .before .before .before .before .before .before .end-of .ensures .0) (c .before .before .before .before .before .before .before .before .before .before .before .before .before .end-of .ensures .1) (c .before .before .before .before .before .before .before .before .before .before .before .before .before .end-of .ensures .2) (c .before .before .before .before .before .before .before .before .before .before .before .count-in .ensures .0) (c .before .before .before .before .before .before .before .before .before .before .before .count-in .ensures .1) _ (c .before .before .before .before .before .before .before .before .before .made-row .ensures) _ _ _ _ (c .before .before .before .before .before .before .before .before .put-row .ensures) (c .before .before .before .before .short .ensures) (c .before .before .index-in .ensures .0)
 
   index-in-loop-less-2 : index-in-lts.Need-loop-less-2 (index-in-claims t) (index-in-at t) index-in.Post index-in-Inv-loop index-in-μ-loop
   index-in-loop-less-2 c = search places
@@ -183,14 +183,12 @@ pub +index-in-spec : {M : Type 1} → statement M
     (index-in-part-count-in-end t)
     (index-in-count-in-requires t)
     (index-in-add-after t)
-    (index-in-short-requires t)
-    (index-in-short-requires-2 t)
-    (index-in-short-requires-3 t)
+    (index-in-made-row-requires t)
     (index-in-put-row-requires t)
     (index-in-sub-index-in t)
     (index-in-part-index-in-start t)
     (index-in-part-index-in-end t)
-    (index-in-short-requires-4 t)
+    (index-in-short-requires t)
     (index-in-index-in-requires t)
     (index-in-loop-less t)
     (index-in-loop-again t)
