@@ -80,6 +80,19 @@ fn short(n: usize) -> u16
     n as u16
 }
 
+fn made_row(from: usize, to: usize, file: u16, up: u16, after: usize) -> Row
+    requires { ⌜ (from < 65536) × (to < 65536) × (after < 65536) ⌝ }
+    ensures { λ r. ⌜ r ≡ record { start = from; end = to; file = file; up = up; after = after } ⌝ }
+{
+    Row {
+        start: from as u16,
+        end: to as u16,
+        file,
+        up,
+        after: after as u16,
+    }
+}
+
 // The rows of the embedded messages with this field number, and of those nested in them, from row `i` on.
 fn index_in(
     s: &[u8],
@@ -114,14 +127,7 @@ fn index_in(
                     let one = k + 1;
                     let inner = count_in(&s[start..end], 3, fewer);
                     let after = one + inner;
-                    let row = Row {
-                        start: short(from),
-                        end: short(to),
-                        file,
-                        up,
-                        after: short(after),
-                    };
-                    put_row(t, k, row);
+                    put_row(t, k, made_row(from, to, file, up, after));
                     k = index_in(&s[start..end], from, 3, fewer, file, short(one), t, one);
                 }
             }

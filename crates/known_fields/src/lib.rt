@@ -132,9 +132,7 @@ fn check_message(s: &[u8], base: usize, sort: u8, left: usize) -> Checked
                 let before = was_met(met, f.number);
                 met = with_met(met, f.number);
                 match judged(class, left, f.wiretype, before) {
-                    Verdict::Pass => {
-                        at = f.next;
-                    }
+                    Verdict::Pass => at = f.next,
                     Verdict::Wrong => {
                         let place = base + f.key;
                         return Checked::Fault(place);
@@ -146,9 +144,7 @@ fn check_message(s: &[u8], base: usize, sort: u8, left: usize) -> Checked
                         let fewer = left - 1;
                         match check_message(&s[start..next], from, inner, fewer) {
                             Checked::Fault(place) => return Checked::Fault(place),
-                            Checked::Fine => {
-                                at = next;
-                            }
+                            Checked::Fine => at = next,
                         }
                     }
                 }

@@ -6,10 +6,6 @@ use mathlib.Core.Path.{_≡_, refl}
 use Rattle.descriptor.specs.Latest.{latest}
 use Rattle.descriptor.proofs.latest_from.Statement.{statement}
 use Rattle.descriptor.proofs.latest_from.Tie as tie
-use Rattle.descriptor.proofs.latest_from.Reads as reads
-use Rattle.descriptor.proofs.latest_from.Lts as lts
-use Rattle.descriptor.proofs.with_record.Reads as with-record-reads
-use Rattle.wire.proofs.read_step.Reads as read-step-reads
 
 abbrev Inv-loop : tie.InvT-loop
 Inv-loop s at₀ y₀ at y = latest s at y ≡ latest s 0 y₀
@@ -17,43 +13,33 @@ Inv-loop s at₀ y₀ at y = latest s at y ≡ latest s 0 y₀
 abbrev μ-loop : tie.MeasureT-loop
 μ-loop s at₀ y₀ at y = length s - at
 
--- src/lib.rt:80:5
 loop-holds : tie.Need-loop-holds Inv-loop μ-loop
 loop-holds c = refl
 
--- src/lib.rt:81:15
 read-step-requires : tie.Need-read-step-requires Inv-loop μ-loop
 read-step-requires c κs = search needs
 
--- src/lib.rt:82:26
 enum-told : tie.Need-enum-told Inv-loop μ-loop
 enum-told c = search needs
 
--- src/lib.rt:82:26
 returns : tie.Need-returns Inv-loop μ-loop
 returns c = whole (c .before .before .before .loop .inv) (search (passes, c .enum-told .given .1, c .before .before .read-step .ensures) depth 16)
 
--- src/lib.rt:83:31
 enum-told-2 : tie.Need-enum-told-2 Inv-loop μ-loop
 enum-told-2 c = search needs
 
--- src/lib.rt:83:31
 returns-2 : tie.Need-returns-2 Inv-loop μ-loop
 returns-2 c = whole (c .before .before .before .loop .inv) (search (passes, c .enum-told2 .given .1, c .before .before .read-step .ensures) depth 16)
 
--- src/lib.rt:84:25
 enum-known-f : tie.Need-enum-known-f Inv-loop μ-loop
 enum-known-f c = search needs
 
--- src/lib.rt:86:17
 with-record-requires : tie.Need-with-record-requires Inv-loop μ-loop
 with-record-requires c κs = search needs
 
--- src/lib.rt:80:5
 loop-less : tie.Need-loop-less Inv-loop μ-loop
 loop-less c = search places
 
--- src/lib.rt:80:5
 loop-again : tie.Need-loop-again Inv-loop μ-loop
 loop-again c = rw (c .with-record .ensures) (whole (c .before .before .before .before .before .loop .inv) (search (passes, c .before .before .f .given .1, c .before .before .before .before .read-step .ensures) depth 16))
 

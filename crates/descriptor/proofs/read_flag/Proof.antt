@@ -3,32 +3,23 @@ use Rattle.base.specs.Choose.{flags}
 use borrow.Author.Needs.{needs}
 use Rattle.descriptor.proofs.read_flag.Statement.{statement}
 use Rattle.descriptor.proofs.read_flag.Tie as tie
-use Rattle.descriptor.proofs.read_flag.Reads as reads
-use Rattle.descriptor.proofs.read_flag.Lts as lts
-use Rattle.descriptor.proofs.read_value.Reads as read-value-reads
 
--- src/lib.rt:200:8
 element-copy-out-if1 : tie.Need-element-copy-out-if1
 element-copy-out-if1 c = search needs
 
--- src/lib.rt:201:17
 mul-f : tie.Need-mul-f
 mul-f c = search needs
 
--- src/lib.rt:201:17
 element-copy-out-f : tie.Need-element-copy-out-f
 element-copy-out-f c = search needs
 
--- src/lib.rt:202:13
 read-value-requires : tie.Need-read-value-requires
 read-value-requires c κs = search needs
 
--- src/lib.rt:203:9
 returns : tie.Need-returns
 unfolding flag-at
 returns c = rw (c .read-value .ensures) (search (flags, c .before .before .if1 .taken) depth 9)
 
--- src/lib.rt:196:1
 returns-2 : tie.Need-returns-2
 unfolding flag-at
 returns-2 c = search (flags, c .if1 .left) depth 9

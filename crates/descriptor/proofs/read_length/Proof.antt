@@ -3,19 +3,14 @@ use Rattle.descriptor.specs.Views.{length-in}
 use Rattle.base.specs.Choose.{choices}
 use Rattle.descriptor.proofs.read_length.Statement.{statement}
 use Rattle.descriptor.proofs.read_length.Tie as tie
-use Rattle.descriptor.proofs.read_length.Reads as reads
-use Rattle.descriptor.proofs.read_length.Lts as lts
 
--- src/lib.rt:145:16
 sub-result : tie.Need-sub-result
 sub-result c = search needs
 
--- src/lib.rt:145:9
 returns : tie.Need-returns
 unfolding length-in
 returns c = search choices depth 9
 
--- src/lib.rt:140:1
 returns-2 : tie.Need-returns-2
 unfolding length-in
 returns-2 c = search choices depth 9

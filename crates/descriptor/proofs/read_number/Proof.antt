@@ -3,36 +3,26 @@ use Rattle.base.specs.Choose.{flags}
 use borrow.Author.Needs.{needs}
 use Rattle.descriptor.proofs.read_number.Statement.{statement}
 use Rattle.descriptor.proofs.read_number.Tie as tie
-use Rattle.descriptor.proofs.read_number.Reads as reads
-use Rattle.descriptor.proofs.read_number.Lts as lts
-use Rattle.descriptor.proofs.read_value.Reads as read-value-reads
 
--- src/lib.rt:181:8
 element-copy-out-if1 : tie.Need-element-copy-out-if1
 element-copy-out-if1 c = search needs
 
--- src/lib.rt:182:17
 mul-f : tie.Need-mul-f
 mul-f c = search needs
 
--- src/lib.rt:182:17
 element-copy-out-f : tie.Need-element-copy-out-f
 element-copy-out-f c = search needs
 
--- src/lib.rt:183:13
 read-value-requires : tie.Need-read-value-requires
 read-value-requires c κs = search needs
 
--- src/lib.rt:187:20
 cast-t15 : tie.Need-cast-t15
 cast-t15 c = search needs
 
--- src/lib.rt:185:9
 returns : tie.Need-returns
 unfolding number-at
 returns c = rw (c .read-value .ensures) (search (flags, c .before .before .if1 .taken) depth 9)
 
--- src/lib.rt:177:1
 returns-2 : tie.Need-returns-2
 unfolding number-at
 returns-2 c = search (flags, c .if1 .left) depth 9

@@ -3,36 +3,26 @@ use Rattle.base.specs.Choose.{flags}
 use borrow.Author.Needs.{needs}
 use Rattle.descriptor.proofs.read_text.Statement.{statement}
 use Rattle.descriptor.proofs.read_text.Tie as tie
-use Rattle.descriptor.proofs.read_text.Reads as reads
-use Rattle.descriptor.proofs.read_text.Lts as lts
-use Rattle.descriptor.proofs.read_length.Reads as read-length-reads
 
--- src/lib.rt:163:8
 element-copy-out-if1 : tie.Need-element-copy-out-if1
 element-copy-out-if1 c = search needs
 
--- src/lib.rt:164:17
 mul-f : tie.Need-mul-f
 mul-f c = search needs
 
--- src/lib.rt:164:17
 element-copy-out-f : tie.Need-element-copy-out-f
 element-copy-out-f c = search needs
 
--- src/lib.rt:165:21
 add-start : tie.Need-add-start
 add-start c = search needs
 
--- src/lib.rt:166:13
 read-length-requires : tie.Need-read-length-requires
 read-length-requires c κs = search needs
 
--- src/lib.rt:167:9
 returns : tie.Need-returns
 unfolding text-at
 returns c = rw (c .read-length .ensures) (search (flags, c .before .before .before .if1 .taken) depth 9)
 
--- src/lib.rt:159:1
 returns-2 : tie.Need-returns-2
 unfolding text-at
 returns-2 c = search (flags, c .if1 .left) depth 9

@@ -2,15 +2,11 @@ use Rattle.descriptor.specs.Views.{value-in}
 use Rattle.base.specs.Choose.{choices}
 use Rattle.descriptor.proofs.read_value.Statement.{statement}
 use Rattle.descriptor.proofs.read_value.Tie as tie
-use Rattle.descriptor.proofs.read_value.Reads as reads
-use Rattle.descriptor.proofs.read_value.Lts as lts
 
--- src/lib.rt:151:9
 returns : tie.Need-returns
 unfolding value-in
 returns c = search choices depth 9
 
--- src/lib.rt:147:1
 returns-2 : tie.Need-returns-2
 unfolding value-in
 returns-2 c = search choices depth 9

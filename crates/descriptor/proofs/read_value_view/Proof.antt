@@ -3,35 +3,22 @@ use Rattle.descriptor.proofs.LatestLaws.{text-asks}
 use borrow.Author.Needs.{needs}
 use Rattle.descriptor.proofs.read_value_view.Statement.{statement}
 use Rattle.descriptor.proofs.read_value_view.Tie as tie
-use Rattle.descriptor.proofs.read_value_view.Reads as reads
-use Rattle.descriptor.proofs.read_value_view.Lts as lts
-use Rattle.descriptor.proofs.latest_in.Reads as latest-in-reads
-use Rattle.descriptor.proofs.merged_in.Reads as merged-in-reads
-use Rattle.descriptor.proofs.read_flag.Reads as read-flag-reads
-use Rattle.descriptor.proofs.read_number.Reads as read-number-reads
-use Rattle.descriptor.proofs.read_text.Reads as read-text-reads
 
--- src/lib.rt:259:9
 latest-in-requires : tie.Need-latest-in-requires
 latest-in-requires c κs = search needs
 
--- src/lib.rt:260:9
 merged-in-requires : tie.Need-merged-in-requires
 merged-in-requires c κs = search needs
 
--- src/lib.rt:261:9
 read-text-requires : tie.Need-read-text-requires
 read-text-requires c κs = text-asks _ _ _ _ (c .before .latest-in .ensures) (c .before .before .before .pre) (search needs)
 
--- src/lib.rt:262:9
 read-number-requires : tie.Need-read-number-requires
 read-number-requires c κs = search needs
 
--- src/lib.rt:263:9
 read-flag-requires : tie.Need-read-flag-requires
 read-flag-requires c κs = search needs
 
--- src/lib.rt:255:1
 returns : tie.Need-returns
 unfolding value-view-in
 returns c = cc

@@ -39,87 +39,67 @@ abbrev count-in-μ-loop : count-in-lts.MeasureT-loop
 count-in-μ-loop s number left fewer at₀ n₀ at n = length s - at
 
 module _ (t : ℕ) where
-  -- src/lib.rt:26:9
   count-in-returns : count-in-lts.Need-returns (count-in-claims t) (count-in-at t) count-in.Post count-in-Inv-loop count-in-μ-loop
   unfolding size-in
   count-in-returns c = (rw (c .if1 .taken), omega arith)
 
-  -- src/lib.rt:28:17
   count-in-sub-fewer : count-in-lts.Need-sub-fewer (count-in-claims t) (count-in-at t) count-in.Post count-in-Inv-loop count-in-μ-loop
   count-in-sub-fewer c = search needs
 
-  -- src/lib.rt:31:5
   count-in-loop-holds : count-in-lts.Need-loop-holds (count-in-claims t) (count-in-at t) count-in.Post count-in-Inv-loop count-in-μ-loop
   count-in-loop-holds c = (omega arith, omega arith, size-is _ _ _ (c .if1 .left))
 
-  -- src/lib.rt:32:15
   count-in-read-step-requires : count-in-lts.Need-read-step-requires (count-in-claims t) (count-in-at t) count-in.Post count-in-Inv-loop count-in-μ-loop
   count-in-read-step-requires c κs = search needs
 
-  -- src/lib.rt:33:26
   count-in-enum-told : count-in-lts.Need-enum-told (count-in-claims t) (count-in-at t) count-in.Post count-in-Inv-loop count-in-μ-loop
   count-in-enum-told c = search needs
 
-  -- src/lib.rt:33:26
   count-in-returns-2 : count-in-lts.Need-returns-2 (count-in-claims t) (count-in-at t) count-in.Post count-in-Inv-loop count-in-μ-loop
   count-in-returns-2 c = (whole (c .before .before .before .loop .inv .2) (search (passes, c .enum-told .given .1, c .before .before .read-step .ensures) depth 16), omega arith)
 
-  -- src/lib.rt:34:31
   count-in-enum-told-2 : count-in-lts.Need-enum-told-2 (count-in-claims t) (count-in-at t) count-in.Post count-in-Inv-loop count-in-μ-loop
   count-in-enum-told-2 c = search needs
 
-  -- src/lib.rt:34:31
   count-in-returns-3 : count-in-lts.Need-returns-3 (count-in-claims t) (count-in-at t) count-in.Post count-in-Inv-loop count-in-μ-loop
   count-in-returns-3 c = (whole (c .before .before .before .loop .inv .2) (search (passes, c .enum-told2 .given .1, c .before .before .read-step .ensures) depth 16), omega arith)
 
-  -- src/lib.rt:35:25
   count-in-enum-known-f : count-in-lts.Need-enum-known-f (count-in-claims t) (count-in-at t) count-in.Post count-in-Inv-loop count-in-μ-loop
   count-in-enum-known-f c = search needs
 
-  -- src/lib.rt:39:25
   count-in-end-of-requires : count-in-lts.Need-end-of-requires (count-in-claims t) (count-in-at t) count-in.Post count-in-Inv-loop count-in-μ-loop
   count-in-end-of-requires c κs = search places
 
-  -- src/lib.rt:40:42
   count-in-sub-count-in : count-in-lts.Need-sub-count-in (count-in-claims t) (count-in-at t) count-in.Post count-in-Inv-loop count-in-μ-loop
   count-in-sub-count-in c = search needs
 
-  -- src/lib.rt:40:42
   count-in-part-count-in-start : count-in-lts.Need-part-count-in-start (count-in-claims t) (count-in-at t) count-in.Post count-in-Inv-loop count-in-μ-loop
   count-in-part-count-in-start c = search needs
 
-  -- src/lib.rt:40:42
   count-in-part-count-in-end : count-in-lts.Need-part-count-in-end (count-in-claims t) (count-in-at t) count-in.Post count-in-Inv-loop count-in-μ-loop
   count-in-part-count-in-end c = ends-in _ _ _ _ (c .before .before .before .before .before .before .read-step .ensures) (c .before .before .before .before .f .given .1) _ (c .end-of .ensures .2)
 
-  -- src/lib.rt:40:25
   count-in-count-in-requires : count-in-lts.Need-count-in-requires (count-in-claims t) (count-in-at t) count-in.Post count-in-Inv-loop count-in-μ-loop
   count-in-count-in-requires c κs = (omega arith, tt)
 
-  -- src/lib.rt:41:31
   count-in-add-one : count-in-lts.Need-add-one (count-in-claims t) (count-in-at t) count-in.Post count-in-Inv-loop count-in-μ-loop
   count-in-add-one c = search needs
 
-  -- src/lib.rt:42:25
   count-in-add-n : count-in-lts.Need-add-n (count-in-claims t) (count-in-at t) count-in.Post count-in-Inv-loop count-in-μ-loop
   count-in-add-n c =
       let g : c .before .before .before .before .before .before .before .before .before .loop .n + 1 + c .count-in .result ≤ c .before .before .before .before .before .before .f .given .0 .0 .next = grown _ _ _ _ (c .before .before .before .before .before .before .before .before .read-step .ensures) (c .before .before .before .before .before .before .f .given .1) _ _ _ (c .before .before .end-of .ensures .1) (c .before .before .end-of .ensures .2) (c .before .before .before .before .before .before .before .before .before .loop .inv .0) (c .count-in .ensures .1) in
       let l = lies _ _ _ _ (c .before .before .before .before .before .before .before .before .read-step .ensures) (c .before .before .before .before .before .before .f .given .1) in
       omega arith
 
-  -- src/lib.rt:31:5
   count-in-loop-less : count-in-lts.Need-loop-less (count-in-claims t) (count-in-at t) count-in.Post count-in-Inv-loop count-in-μ-loop
   count-in-loop-less c = search places
 
-  -- src/lib.rt:31:5
   count-in-loop-again : count-in-lts.Need-loop-again (count-in-claims t) (count-in-at t) count-in.Post count-in-Inv-loop count-in-μ-loop
   count-in-loop-again c = (grown _ _ _ _ (c .before .before .before .before .before .before .before .before .read-step .ensures) (c .before .before .before .before .before .before .f .given .1) _ _ _ (c .before .before .end-of .ensures .1) (c .before .before .end-of .ensures .2) (c .before .before .before .before .before .before .before .before .before .loop .inv .0) (c .count-in .ensures .1), search places, rw (c .count-in .ensures .0, c .before .before .end-of .ensures .0) (whole (c .before .before .before .before .before .before .before .before .before .loop .inv .2) (search (passes, choices, c .count-in .ensures .0, c .count-in .ensures .1, c .before .before .end-of .ensures .0, c .before .before .end-of .ensures .1, c .before .before .before .if2 .taken, c .before .before .before .before .before .before .f .given .1, c .before .before .before .before .before .before .before .before .read-step .ensures) depth 16)))
 
-  -- src/lib.rt:31:5
   count-in-loop-less-2 : count-in-lts.Need-loop-less-2 (count-in-claims t) (count-in-at t) count-in.Post count-in-Inv-loop count-in-μ-loop
   count-in-loop-less-2 c = search places
 
-  -- src/lib.rt:31:5
   count-in-loop-again-2 : count-in-lts.Need-loop-again-2 (count-in-claims t) (count-in-at t) count-in.Post count-in-Inv-loop count-in-μ-loop
   count-in-loop-again-2 c = (search places, search places, whole (c .before .before .before .before .before .before .loop .inv .2) (search (passes, choices, c .if2 .left, c .before .before .before .f .given .1, c .before .before .before .before .before .read-step .ensures) depth 16))
 

@@ -1,3 +1,4 @@
+use Rattle.index.proofs.made_row.Reads as made-row-reads
 use Rattle.wire.proofs.RecordsLaws.{places, length-part}
 use Rattle.wire.proofs.StepLaws.{Lies, lies}
 use native.Mathlib.Omega.{arith}
@@ -34,7 +35,7 @@ index-in-below t =
     and 2 index-in-kinds.ps (falls 2 index-in-kinds.ps _<_ μ-index-in t) index-in.Pre
 
 abbrev index-in-claims : ℕ → index-in-lts.Claims
-index-in-claims t = (read-step-reads.Asked, read-step-reads.Learnt, end-of-reads.Asked, end-of-reads.Learnt, count-in-reads.Asked, count-in-reads.Learnt, short-reads.Asked, short-reads.Learnt, put-row-reads.Asked, put-row-reads.Learnt, index-in-below t, index-in.Post)
+index-in-claims t = (read-step-reads.Asked, read-step-reads.Learnt, end-of-reads.Asked, end-of-reads.Learnt, count-in-reads.Asked, count-in-reads.Learnt, made-row-reads.Asked, made-row-reads.Learnt, put-row-reads.Asked, put-row-reads.Learnt, short-reads.Asked, short-reads.Learnt, index-in-below t, index-in.Post)
 
 abbrev index-in-Inv-loop : index-in-lts.InvT-loop
 index-in-Inv-loop s base number left file up t₀ i fewer at₀ k₀ t at k = Going left number s base file up t₀ i t at k
@@ -43,150 +44,116 @@ abbrev index-in-μ-loop : index-in-lts.MeasureT-loop
 index-in-μ-loop s base number left file up t₀ i fewer at₀ k₀ t at k = length s - at
 
 module _ (t : ℕ) where
-  -- src/lib.rt:98:9
   index-in-returns : index-in-lts.Need-returns (index-in-claims t) (index-in-at t) index-in.Post index-in-Inv-loop index-in-μ-loop
   unfolding forest-in rows fill size
   index-in-returns c = (rw (c .if1 .taken) (record { table = refl; counted = omega arith }), omega arith)
 
-  -- src/lib.rt:100:17
   index-in-sub-fewer : index-in-lts.Need-sub-fewer (index-in-claims t) (index-in-at t) index-in.Post index-in-Inv-loop index-in-μ-loop
   index-in-sub-fewer c = search needs
 
-  -- src/lib.rt:103:5
   index-in-loop-holds : index-in-lts.Need-loop-holds (index-in-claims t) (index-in-at t) index-in.Post index-in-Inv-loop index-in-μ-loop
   index-in-loop-holds c = going-start _ _ _ _ _ _ _ _ (c .if1 .left)
 
-  -- src/lib.rt:104:15
   index-in-read-step-requires : index-in-lts.Need-read-step-requires (index-in-claims t) (index-in-at t) index-in.Post index-in-Inv-loop index-in-μ-loop
   index-in-read-step-requires c κs = search needs
 
-  -- src/lib.rt:105:26
   index-in-enum-told : index-in-lts.Need-enum-told (index-in-claims t) (index-in-at t) index-in.Post index-in-Inv-loop index-in-μ-loop
   index-in-enum-told c = search needs
 
-  -- src/lib.rt:105:26
   index-in-same-length : index-in-lts.Need-same-length (index-in-claims t) (index-in-at t) index-in.Post index-in-Inv-loop index-in-μ-loop
   index-in-same-length c = c .before .before .before .loop .inv .long
 
-  -- src/lib.rt:105:26
   index-in-returns-2 : index-in-lts.Need-returns-2 (index-in-claims t) (index-in-at t) index-in.Post index-in-Inv-loop index-in-μ-loop
   index-in-returns-2 c = (going-end _ _ _ _ _ _ _ _ _ _ _ (c .before .before .before .loop .inv) (forest-end (forest-in (c .before .before .before .before .before .before .before .args .left - 1) 3) _ _ _ _ _ (c .before .before .read-step .ensures) (c .enum-told .given .1)), omega (arith, c .before .before .before .loop .inv .room))
 
-  -- src/lib.rt:106:31
   index-in-enum-told-2 : index-in-lts.Need-enum-told-2 (index-in-claims t) (index-in-at t) index-in.Post index-in-Inv-loop index-in-μ-loop
   index-in-enum-told-2 c = search needs
 
-  -- src/lib.rt:106:31
   index-in-same-length-2 : index-in-lts.Need-same-length-2 (index-in-claims t) (index-in-at t) index-in.Post index-in-Inv-loop index-in-μ-loop
   index-in-same-length-2 c = c .before .before .before .loop .inv .long
 
-  -- src/lib.rt:106:31
   index-in-returns-3 : index-in-lts.Need-returns-3 (index-in-claims t) (index-in-at t) index-in.Post index-in-Inv-loop index-in-μ-loop
   index-in-returns-3 c = (going-end _ _ _ _ _ _ _ _ _ _ _ (c .before .before .before .loop .inv) (forest-fault (forest-in (c .before .before .before .before .before .before .before .args .left - 1) 3) _ _ _ _ _ (c .before .before .read-step .ensures) _ (c .enum-told2 .given .1)), omega (arith, c .before .before .before .loop .inv .room))
 
-  -- src/lib.rt:107:25
   index-in-enum-known-f : index-in-lts.Need-enum-known-f (index-in-claims t) (index-in-at t) index-in.Post index-in-Inv-loop index-in-μ-loop
   index-in-enum-known-f c = search needs
 
-  -- src/lib.rt:111:25
   index-in-end-of-requires : index-in-lts.Need-end-of-requires (index-in-claims t) (index-in-at t) index-in.Post index-in-Inv-loop index-in-μ-loop
   index-in-end-of-requires c κs = search places
 
-  -- src/lib.rt:112:32
   index-in-add-from : index-in-lts.Need-add-from (index-in-claims t) (index-in-at t) index-in.Post index-in-Inv-loop index-in-μ-loop
   index-in-add-from c = let l = lies _ _ _ _ (c .before .before .before .before .before .before .read-step .ensures) (c .before .before .before .before .f .given .1) in omega (arith, c .before .before .before .before .before .before .before .before .before .before .before .pre .1 .0)
 
-  -- src/lib.rt:113:30
   index-in-add-to : index-in-lts.Need-add-to (index-in-claims t) (index-in-at t) index-in.Post index-in-Inv-loop index-in-μ-loop
   index-in-add-to c = let l = lies _ _ _ _ (c .before .before .before .before .before .before .read-step .ensures) (c .before .before .before .before .f .given .1) in omega (arith, c .before .before .before .before .before .before .before .before .before .before .before .pre .1 .0, c .end-of .ensures .2)
 
-  -- src/lib.rt:114:31
   index-in-add-one : index-in-lts.Need-add-one (index-in-claims t) (index-in-at t) index-in.Post index-in-Inv-loop index-in-μ-loop
   index-in-add-one c = let l = lies _ _ _ _ (c .before .before .before .before .before .before .read-step .ensures) (c .before .before .before .before .f .given .1) in omega (arith, c .before .before .before .before .before .before .before .loop .inv .room, c .before .before .before .before .before .before .before .before .before .before .before .pre .1 .1)
 
-  -- src/lib.rt:115:42
   index-in-sub-count-in : index-in-lts.Need-sub-count-in (index-in-claims t) (index-in-at t) index-in.Post index-in-Inv-loop index-in-μ-loop
   index-in-sub-count-in c = search needs
 
-  -- src/lib.rt:115:42
   index-in-part-count-in-start : index-in-lts.Need-part-count-in-start (index-in-claims t) (index-in-at t) index-in.Post index-in-Inv-loop index-in-μ-loop
   index-in-part-count-in-start c = search needs
 
-  -- src/lib.rt:115:42
   index-in-part-count-in-end : index-in-lts.Need-part-count-in-end (index-in-claims t) (index-in-at t) index-in.Post index-in-Inv-loop index-in-μ-loop
   index-in-part-count-in-end c = ends-in _ _ _ _ (c .before .before .before .before .before .before .read-step .ensures) (c .before .before .before .before .f .given .1) _ (c .end-of .ensures .2)
 
-  -- src/lib.rt:115:25
   index-in-count-in-requires : index-in-lts.Need-count-in-requires (index-in-claims t) (index-in-at t) index-in.Post index-in-Inv-loop index-in-μ-loop
   index-in-count-in-requires c κs = search needs
 
-  -- src/lib.rt:116:33
   index-in-add-after : index-in-lts.Need-add-after (index-in-claims t) (index-in-at t) index-in.Post index-in-Inv-loop index-in-μ-loop
   index-in-add-after c =
       let l = lies _ _ _ _ (c .before .before .before .before .before .before .before .before .read-step .ensures) (c .before .before .before .before .before .before .f .given .1) in
       let g : c .before .before .before .before .before .before .before .before .before .loop .at + 1 + c .count-in .result ≤ c .before .before .before .before .before .before .f .given .0 .0 .next = grown _ _ _ _ (c .before .before .before .before .before .before .before .before .read-step .ensures) (c .before .before .before .before .before .before .f .given .1) _ _ _ (c .before .before .end-of .ensures .1) (c .before .before .end-of .ensures .2) (le-refl (c .before .before .before .before .before .before .before .before .before .loop .at)) (c .count-in .ensures .1) in
       omega (arith, c .before .before .before .before .before .before .before .before .before .loop .inv .room, c .before .before .before .before .before .before .before .before .before .before .before .before .before .pre .1 .1)
 
-  -- src/lib.rt:118:32
-  index-in-short-requires : index-in-lts.Need-short-requires (index-in-claims t) (index-in-at t) index-in.Post index-in-Inv-loop index-in-μ-loop
-  index-in-short-requires c κs = let l = lies _ _ _ _ (c .before .before .before .before .before .before .before .before .read-step .ensures) (c .before .before .before .before .before .before .f .given .1) in omega (arith, c .before .before .before .before .before .before .before .before .before .before .before .before .before .pre .1 .0)
+  -- src/lib.rt:130:35
+  index-in-made-row-requires : index-in-lts.Need-made-row-requires (index-in-claims t) (index-in-at t) index-in.Post index-in-Inv-loop index-in-μ-loop
+  index-in-made-row-requires c κs =
+      let l = lies _ _ _ _ (c .before .before .before .before .before .before .before .before .before .read-step .ensures) (c .before .before .before .before .before .before .before .f .given .1) in
+      let g : c .before .before .before .before .before .before .before .before .before .before .loop .at + 1 + c .before .count-in .result ≤ c .before .before .before .before .before .before .before .f .given .0 .0 .next = grown _ _ _ _ (c .before .before .before .before .before .before .before .before .before .read-step .ensures) (c .before .before .before .before .before .before .before .f .given .1) _ _ _ (c .before .before .before .end-of .ensures .1) (c .before .before .before .end-of .ensures .2) (le-refl (c .before .before .before .before .before .before .before .before .before .before .loop .at)) (c .before .count-in .ensures .1) in
+      let r = c .before .before .before .before .before .before .before .before .before .before .loop .inv .room in
+      let p = c .before .before .before .before .before .before .before .before .before .before .before .before .before .before .pre .1 .0 in
+      let q = c .before .before .before .before .before .before .before .before .before .before .before .before .before .before .pre .1 .1 in
+      let e = c .before .before .before .end-of .ensures .2 in
+      (omega arith, omega arith, omega arith)
 
-  -- src/lib.rt:119:30
-  index-in-short-requires-2 : index-in-lts.Need-short-requires-2 (index-in-claims t) (index-in-at t) index-in.Post index-in-Inv-loop index-in-μ-loop
-  index-in-short-requires-2 c κs = let l = lies _ _ _ _ (c .before .before .before .before .before .before .before .before .before .read-step .ensures) (c .before .before .before .before .before .before .before .f .given .1) in omega (arith, c .before .before .before .before .before .before .before .before .before .before .before .before .before .before .pre .1 .0, c .before .before .before .end-of .ensures .2)
-
-  -- src/lib.rt:122:32
-  index-in-short-requires-3 : index-in-lts.Need-short-requires-3 (index-in-claims t) (index-in-at t) index-in.Post index-in-Inv-loop index-in-μ-loop
-  index-in-short-requires-3 c κs =
-      let l = lies _ _ _ _ (c .before .before .before .before .before .before .before .before .before .before .read-step .ensures) (c .before .before .before .before .before .before .before .before .f .given .1) in
-      let g : c .before .before .before .before .before .before .before .before .before .before .before .loop .at + 1 + c .before .before .count-in .result ≤ c .before .before .before .before .before .before .before .before .f .given .0 .0 .next = grown _ _ _ _ (c .before .before .before .before .before .before .before .before .before .before .read-step .ensures) (c .before .before .before .before .before .before .before .before .f .given .1) _ _ _ (c .before .before .before .before .end-of .ensures .1) (c .before .before .before .before .end-of .ensures .2) (le-refl (c .before .before .before .before .before .before .before .before .before .before .before .loop .at)) (c .before .before .count-in .ensures .1) in
-      omega (arith, c .before .before .before .before .before .before .before .before .before .before .before .loop .inv .room, c .before .before .before .before .before .before .before .before .before .before .before .before .before .before .before .pre .1 .1)
-
-  -- src/lib.rt:124:21
   index-in-put-row-requires : index-in-lts.Need-put-row-requires (index-in-claims t) (index-in-at t) index-in.Post index-in-Inv-loop index-in-μ-loop
-  index-in-put-row-requires c κs = omega (arith, c .before .before .before .before .before .before .before .before .before .before .before .before .before .loop .inv .room, c .before .before .before .before .before .before .before .before .before .before .before .before .before .before .before .before .before .pre .1 .1)
+  index-in-put-row-requires c κs = omega (arith, c .before .before .before .before .before .before .before .before .before .before .before .loop .inv .room, c .before .before .before .before .before .before .before .before .before .before .before .before .before .before .before .pre .1 .1)
 
-  -- src/lib.rt:125:34
   index-in-sub-index-in : index-in-lts.Need-sub-index-in (index-in-claims t) (index-in-at t) index-in.Post index-in-Inv-loop index-in-μ-loop
   index-in-sub-index-in c = search needs
 
-  -- src/lib.rt:125:34
   index-in-part-index-in-start : index-in-lts.Need-part-index-in-start (index-in-claims t) (index-in-at t) index-in.Post index-in-Inv-loop index-in-μ-loop
   index-in-part-index-in-start c = search needs
 
-  -- src/lib.rt:125:34
   index-in-part-index-in-end : index-in-lts.Need-part-index-in-end (index-in-claims t) (index-in-at t) index-in.Post index-in-Inv-loop index-in-μ-loop
-  index-in-part-index-in-end c = ends-in _ _ _ _ (c .before .before .before .before .before .before .before .before .before .before .before .before .before .before .before .read-step .ensures) (c .before .before .before .before .before .before .before .before .before .before .before .before .before .f .given .1) _ (c .before .before .before .before .before .before .before .before .before .end-of .ensures .2)
+  index-in-part-index-in-end c = ends-in _ _ _ _ (c .before .before .before .before .before .before .before .before .before .before .before .before .before .read-step .ensures) (c .before .before .before .before .before .before .before .before .before .before .before .f .given .1) _ (c .before .before .before .before .before .before .before .end-of .ensures .2)
 
-  -- src/lib.rt:125:72
-  index-in-short-requires-4 : index-in-lts.Need-short-requires-4 (index-in-claims t) (index-in-at t) index-in.Post index-in-Inv-loop index-in-μ-loop
-  index-in-short-requires-4 c κs = let l = lies _ _ _ _ (c .before .before .before .before .before .before .before .before .before .before .before .before .before .before .before .before .read-step .ensures) (c .before .before .before .before .before .before .before .before .before .before .before .before .before .before .f .given .1) in omega (arith, c .before .before .before .before .before .before .before .before .before .before .before .before .before .before .before .before .before .loop .inv .room, c .before .before .before .before .before .before .before .before .before .before .before .before .before .before .before .before .before .before .before .before .before .pre .1 .1)
+  index-in-short-requires : index-in-lts.Need-short-requires (index-in-claims t) (index-in-at t) index-in.Post index-in-Inv-loop index-in-μ-loop
+  index-in-short-requires c κs = let l = lies _ _ _ _ (c .before .before .before .before .before .before .before .before .before .before .before .before .before .before .read-step .ensures) (c .before .before .before .before .before .before .before .before .before .before .before .before .f .given .1) in omega (arith, c .before .before .before .before .before .before .before .before .before .before .before .before .before .before .before .loop .inv .room, c .before .before .before .before .before .before .before .before .before .before .before .before .before .before .before .before .before .before .before .pre .1 .1)
 
-  -- src/lib.rt:125:21
   index-in-index-in-requires : index-in-lts.Need-index-in-requires (index-in-claims t) (index-in-at t) index-in.Post index-in-Inv-loop index-in-μ-loop
   index-in-index-in-requires c κs =
-      let l = lies _ _ _ _ (c .before .before .before .before .before .before .before .before .before .before .before .before .before .before .before .before .before .before .read-step .ensures) (c .before .before .before .before .before .before .before .before .before .before .before .before .before .before .before .before .f .given .1) in
-      let m = length-part (c .before .before .before .before .before .before .before .before .before .before .before .before .before .before .before .before .before .before .before .before .before .before .before .args .s .now) (c .before .before .before .before .before .before .before .before .before .before .before .before .before .before .before .before .f .given .0 .0 .start) (c .before .before .before .before .before .before .before .before .before .before .before .before .end-of .result) (ends-in _ _ _ _ (c .before .before .before .before .before .before .before .before .before .before .before .before .before .before .before .before .before .before .read-step .ensures) (c .before .before .before .before .before .before .before .before .before .before .before .before .before .before .before .before .f .given .1) _ (c .before .before .before .before .before .before .before .before .before .before .before .before .end-of .ensures .2)) in
-      let a = c .before .before .before .before .before .before .before .before .before .before .before .before .before .before .before .before .before .before .before .before .before .before .before .pre .1 .0 in
-      let b = c .before .before .before .before .before .before .before .before .before .before .before .before .end-of .ensures .2 in
-      let d = c .before .before .before .before .before .before .before .before .before .before .before .before .end-of .ensures .1 in
-      let r = c .before .before .before .before .before .before .before .before .before .before .before .before .before .before .before .before .before .before .before .loop .inv .room in
-      let q = c .before .before .before .before .before .before .before .before .before .before .before .before .before .before .before .before .before .before .before .before .before .before .before .pre .1 .1 in
-      (omega (arith, c .before .before .before .before .before .before .before .before .before .before .before .before .before .before .before .before .before .before .before .before .if1 .left), (omega arith, omega arith))
+      let l = lies _ _ _ _ (c .before .before .before .before .before .before .before .before .before .before .before .before .before .before .before .before .read-step .ensures) (c .before .before .before .before .before .before .before .before .before .before .before .before .before .before .f .given .1) in
+      let m = length-part (c .before .before .before .before .before .before .before .before .before .before .before .before .before .before .before .before .before .before .before .before .before .args .s .now) (c .before .before .before .before .before .before .before .before .before .before .before .before .before .before .f .given .0 .0 .start) (c .before .before .before .before .before .before .before .before .before .before .end-of .result) (ends-in _ _ _ _ (c .before .before .before .before .before .before .before .before .before .before .before .before .before .before .before .before .read-step .ensures) (c .before .before .before .before .before .before .before .before .before .before .before .before .before .before .f .given .1) _ (c .before .before .before .before .before .before .before .before .before .before .end-of .ensures .2)) in
+      let a = c .before .before .before .before .before .before .before .before .before .before .before .before .before .before .before .before .before .before .before .before .before .pre .1 .0 in
+      let b = c .before .before .before .before .before .before .before .before .before .before .end-of .ensures .2 in
+      let d = c .before .before .before .before .before .before .before .before .before .before .end-of .ensures .1 in
+      let r = c .before .before .before .before .before .before .before .before .before .before .before .before .before .before .before .before .before .loop .inv .room in
+      let q = c .before .before .before .before .before .before .before .before .before .before .before .before .before .before .before .before .before .before .before .before .before .pre .1 .1 in
+      (omega (arith, c .before .before .before .before .before .before .before .before .before .before .before .before .before .before .before .before .before .before .if1 .left, c .before .before .before .before .before .before .before .before .before .before .before .before .before .before .before .before .before .before .before .before .before .pre .0), (omega arith, omega arith))
 
-  -- src/lib.rt:103:5
   index-in-loop-less : index-in-lts.Need-loop-less (index-in-claims t) (index-in-at t) index-in.Post index-in-Inv-loop index-in-μ-loop
   index-in-loop-less c = search places
 
-  -- src/lib.rt:103:5
   index-in-loop-again : index-in-lts.Need-loop-again (index-in-claims t) (index-in-at t) index-in.Post index-in-Inv-loop index-in-μ-loop
-  index-in-loop-again c = going-node _ _ _ _ _ _ _ _ _ _ _ (c .before .before .before .before .before .before .before .before .before .before .before .before .before .before .before .before .before .before .before .before .before .before .loop .inv) _ (c .before .before .before .before .before .before .before .before .before .before .before .before .before .before .before .before .before .before .before .before .before .read-step .ensures) _ (c .before .before .before .before .before .before .before .before .before .before .before .before .before .before .before .before .before .before .before .f .given .1) (c .before .before .before .before .before .before .before .before .before .before .before .before .before .before .before .before .if2 .taken) _ _ (c .before .before .before .before .before .before .before .before .before .before .before .before .before .before .before .end-of .ensures .0) (c .before .before .before .before .before .before .before .before .before .before .before .before .before .before .before .end-of .ensures .1) (c .before .before .before .before .before .before .before .before .before .before .before .before .before .before .before .end-of .ensures .2) (c .before .before .before .before .before .before .before .before .before .before .before .before .before .count-in .ensures .0) (c .before .before .before .before .before .before .before .before .before .before .before .before .before .count-in .ensures .1) _ (rw (c .before .before .before .before .before .before .before .before .before .before .before .before .short .ensures, c .before .before .before .before .before .before .before .before .before .before .before .short2 .ensures, c .before .before .before .before .before .before .before .before .before .before .short3 .ensures)) _ _ _ _ (c .before .before .before .before .before .before .before .before .put-row .ensures) (c .before .before .before .before .short4 .ensures) (c .before .before .index-in .ensures .0)
+  index-in-loop-again c = going-node _ _ _ _ _ _ _ _ _ _ _ (c .before .before .before .before .before .before .before .before .before .before .before .before .before .before .before .before .before .before .before .before .loop .inv) _ (c .before .before .before .before .before .before .before .before .before .before .before .before .before .before .before .before .before .before .before .read-step .ensures) _ (c .before .before .before .before .before .before .before .before .before .before .before .before .before .before .before .before .before .f .given .1) (c .before .before .before .before .before .before .before .before .before .before .before .before .before .before .if2 .taken) _ _ (c .before .before .before .before .before .before .before .before .before .before .before .before .before .end-of .ensures .0) (c .before .before .before .before .before .before .before .before .before .before .before .before .before .end-of .ensures .1) (c .before .before .before .before .before .before .before .before .before .before .before .before .before .end-of .ensures .2) (c .before .before .before .before .before .before .before .before .before .before .before .count-in .ensures .0) (c .before .before .before .before .before .before .before .before .before .before .before .count-in .ensures .1) _ (c .before .before .before .before .before .before .before .before .before .made-row .ensures) _ _ _ _ (c .before .before .before .before .before .before .before .before .put-row .ensures) (c .before .before .before .before .short .ensures) (c .before .before .index-in .ensures .0)
 
-  -- src/lib.rt:103:5
   index-in-loop-less-2 : index-in-lts.Need-loop-less-2 (index-in-claims t) (index-in-at t) index-in.Post index-in-Inv-loop index-in-μ-loop
   index-in-loop-less-2 c = search places
 
-  -- src/lib.rt:103:5
   index-in-loop-again-2 : index-in-lts.Need-loop-again-2 (index-in-claims t) (index-in-at t) index-in.Post index-in-Inv-loop index-in-μ-loop
   index-in-loop-again-2 c = going-skip _ _ _ _ _ _ _ _ _ _ _ (c .before .before .before .before .before .before .loop .inv) _ (c .before .before .before .before .before .read-step .ensures) _ (c .before .before .before .f .given .1) (c .if2 .left)
 
@@ -216,14 +183,12 @@ pub +index-in-spec : {M : Type 1} → statement M
     (index-in-part-count-in-end t)
     (index-in-count-in-requires t)
     (index-in-add-after t)
-    (index-in-short-requires t)
-    (index-in-short-requires-2 t)
-    (index-in-short-requires-3 t)
+    (index-in-made-row-requires t)
     (index-in-put-row-requires t)
     (index-in-sub-index-in t)
     (index-in-part-index-in-start t)
     (index-in-part-index-in-end t)
-    (index-in-short-requires-4 t)
+    (index-in-short-requires t)
     (index-in-index-in-requires t)
     (index-in-loop-less t)
     (index-in-loop-again t)

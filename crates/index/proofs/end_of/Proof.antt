@@ -4,15 +4,11 @@ use borrow.Author.Needs.{needs}
 use native.Mathlib.Omega.{arith}
 use Rattle.index.proofs.end_of.Statement.{statement}
 use Rattle.index.proofs.end_of.Tie as tie
-use Rattle.index.proofs.end_of.Reads as reads
-use Rattle.index.proofs.end_of.Lts as lts
 
--- src/lib.rt:16:9
 returns : tie.Need-returns
 unfolding end-in
 returns c = (search choices depth 9, search needs, omega arith)
 
--- src/lib.rt:11:1
 returns-2 : tie.Need-returns-2
 unfolding end-in
 returns-2 c = (search choices depth 9, omega arith, search needs)

@@ -8,12 +8,6 @@ use Rattle.index.proofs.SizeLaws.{ends-in}
 use Rattle.index.proofs.FileLaws.{Going, going-start, going-large, going-end, going-skip, going-file, files-end, files-fault}
 use Rattle.index.proofs.index_files.Statement.{statement}
 use Rattle.index.proofs.index_files.Tie as tie
-use Rattle.index.proofs.index_files.Reads as reads
-use Rattle.index.proofs.index_files.Lts as lts
-use Rattle.index.proofs.end_of.Reads as end-of-reads
-use Rattle.index.proofs.index_in.Reads as index-in-reads
-use Rattle.index.proofs.short.Reads as short-reads
-use Rattle.wire.proofs.read_step.Reads as read-step-reads
 
 abbrev Inv-loop : tie.InvT-loop
 Inv-loop set number left t₀ at₀ n₀ file₀ t at n file = Going number left set t₀ t at n file
@@ -21,67 +15,51 @@ Inv-loop set number left t₀ at₀ n₀ file₀ t at n file = Going number left
 abbrev μ-loop : tie.MeasureT-loop
 μ-loop set number left t₀ at₀ n₀ file₀ t at n file = length set - at
 
--- src/lib.rt:138:9
 returns : tie.Need-returns Inv-loop μ-loop
 returns c = going-large _ _ _ _ (c .if1 .taken)
 
--- src/lib.rt:143:5
 loop-holds : tie.Need-loop-holds Inv-loop μ-loop
 loop-holds c = going-start _ _ _ _ (c .if1 .left)
 
--- src/lib.rt:144:15
 read-step-requires : tie.Need-read-step-requires Inv-loop μ-loop
 read-step-requires c κs = search needs
 
--- src/lib.rt:145:26
 enum-told : tie.Need-enum-told Inv-loop μ-loop
 enum-told c = search needs
 
--- src/lib.rt:145:26
 same-length : tie.Need-same-length Inv-loop μ-loop
 same-length c = c .before .before .before .loop .inv .long
 
--- src/lib.rt:145:26
 returns-2 : tie.Need-returns-2 Inv-loop μ-loop
 returns-2 c = going-end _ _ _ _ _ _ _ _ (c .before .before .before .loop .inv) (files-end _ _ _ _ _ (c .before .before .read-step .ensures) (c .enum-told .given .1))
 
--- src/lib.rt:146:31
 enum-told-2 : tie.Need-enum-told-2 Inv-loop μ-loop
 enum-told-2 c = search needs
 
--- src/lib.rt:146:31
 same-length-2 : tie.Need-same-length-2 Inv-loop μ-loop
 same-length-2 c = c .before .before .before .loop .inv .long
 
--- src/lib.rt:146:31
 returns-3 : tie.Need-returns-3 Inv-loop μ-loop
 returns-3 c = going-end _ _ _ _ _ _ _ _ (c .before .before .before .loop .inv) (files-fault _ _ _ _ _ (c .before .before .read-step .ensures) _ (c .enum-told2 .given .1))
 
--- src/lib.rt:147:25
 enum-known-f : tie.Need-enum-known-f Inv-loop μ-loop
 enum-known-f c = search needs
 
--- src/lib.rt:151:25
 end-of-requires : tie.Need-end-of-requires Inv-loop μ-loop
 end-of-requires c κs = search places
 
--- src/lib.rt:152:25
 short-requires : tie.Need-short-requires Inv-loop μ-loop
 short-requires c κs = omega (arith, c .before .before .before .before .before .before .before .loop .inv .files, c .before .before .before .before .before .before .before .loop .inv .in-part, c .before .before .before .before .before .before .before .loop .inv .small)
 
--- src/lib.rt:153:34
 sub-index-in : tie.Need-sub-index-in Inv-loop μ-loop
 sub-index-in c = search needs
 
--- src/lib.rt:153:34
 part-index-in-start : tie.Need-part-index-in-start Inv-loop μ-loop
 part-index-in-start c = search needs
 
--- src/lib.rt:153:34
 part-index-in-end : tie.Need-part-index-in-end Inv-loop μ-loop
 part-index-in-end c = ends-in _ _ _ _ (c .before .before .before .before .before .before .before .read-step .ensures) (c .before .before .before .before .before .f .given .1) _ (c .before .end-of .ensures .2)
 
--- src/lib.rt:153:21
 index-in-requires : tie.Need-index-in-requires Inv-loop μ-loop
 index-in-requires c κs =
     let l = lies _ _ _ _ (c .before .before .before .before .before .before .before .before .before .read-step .ensures) (c .before .before .before .before .before .before .before .f .given .1) in
@@ -92,23 +70,18 @@ index-in-requires c κs =
     let few = c .before .before .before .before .before .before .before .before .before .before .loop .inv .few in
     (omega arith, omega arith)
 
--- src/lib.rt:154:28
 add-file : tie.Need-add-file Inv-loop μ-loop
 add-file c = omega (arith, c .before .before .before .before .before .before .before .before .before .before .before .before .before .loop .inv .files, c .before .before .before .before .before .before .before .before .before .before .before .before .before .loop .inv .in-part, c .before .before .before .before .before .before .before .before .before .before .before .before .before .loop .inv .small)
 
--- src/lib.rt:143:5
 loop-less : tie.Need-loop-less Inv-loop μ-loop
 loop-less c = search places
 
--- src/lib.rt:143:5
 loop-again : tie.Need-loop-again Inv-loop μ-loop
 loop-again c = going-file _ _ _ _ _ _ _ _ (c .before .before .before .before .before .before .before .before .before .before .before .before .before .loop .inv) _ (c .before .before .before .before .before .before .before .before .before .before .before .before .read-step .ensures) _ (c .before .before .before .before .before .before .before .before .before .before .f .given .1) (c .before .before .before .before .before .before .before .if2 .taken) _ _ (c .before .before .before .before .before .before .end-of .ensures .0) (c .before .before .before .before .before .before .end-of .ensures .1) (c .before .before .before .before .before .before .end-of .ensures .2) (c .before .before .before .before .before .short .ensures) _ _ (c .before .before .index-in .ensures .0) (c .before .before .index-in .ensures .1)
 
--- src/lib.rt:143:5
 loop-less-2 : tie.Need-loop-less-2 Inv-loop μ-loop
 loop-less-2 c = search places
 
--- src/lib.rt:143:5
 loop-again-2 : tie.Need-loop-again-2 Inv-loop μ-loop
 loop-again-2 c = going-skip _ _ _ _ _ _ _ _ (c .before .before .before .before .before .before .loop .inv) _ (c .before .before .before .before .before .read-step .ensures) _ (c .before .before .before .f .given .1) (c .if2 .left)
 

@@ -5,79 +5,59 @@ use Rattle.index.specs.Tree.{put}
 use borrow.Author.Needs.{needs}
 use Rattle.index.proofs.put_row.Statement.{statement}
 use Rattle.index.proofs.put_row.Tie as tie
-use Rattle.index.proofs.put_row.Reads as reads
-use Rattle.index.proofs.put_row.Lts as lts
 
--- src/lib.rt:65:17
 mul-first : tie.Need-mul-first
 mul-first c = search needs
 
--- src/lib.rt:66:16
 add-last : tie.Need-add-last
 add-last c = search needs
 
--- src/lib.rt:68:9
 mul-t : tie.Need-mul-t
 mul-t c = search needs
 
--- src/lib.rt:68:9
 slice-write-t : tie.Need-slice-write-t
 slice-write-t c = search needs
 
--- src/lib.rt:69:11
 add-t : tie.Need-add-t
 add-t c = search needs
 
--- src/lib.rt:69:9
 mul-t-2 : tie.Need-mul-t-2
 mul-t-2 c = search needs
 
--- src/lib.rt:69:9
 slice-write-t-2 : tie.Need-slice-write-t-2
 slice-write-t-2 c = simp length-set (omega arith)
 
--- src/lib.rt:70:11
 add-t-2 : tie.Need-add-t-2
 add-t-2 c = search needs
 
--- src/lib.rt:70:9
 mul-t-3 : tie.Need-mul-t-3
 mul-t-3 c = search needs
 
--- src/lib.rt:70:9
 slice-write-t-3 : tie.Need-slice-write-t-3
 slice-write-t-3 c = simp length-set (omega arith)
 
--- src/lib.rt:71:11
 add-t-3 : tie.Need-add-t-3
 add-t-3 c = search needs
 
--- src/lib.rt:71:9
 mul-t-4 : tie.Need-mul-t-4
 mul-t-4 c = search needs
 
--- src/lib.rt:71:9
 slice-write-t-4 : tie.Need-slice-write-t-4
 slice-write-t-4 c = simp length-set (omega arith)
 
--- src/lib.rt:72:9
 mul-t-5 : tie.Need-mul-t-5
 mul-t-5 c = search needs
 
--- src/lib.rt:72:9
 slice-write-t-5 : tie.Need-slice-write-t-5
 slice-write-t-5 c = search needs
 
--- src/lib.rt:61:1
 same-length : tie.Need-same-length
 same-length c = search needs
 
--- src/lib.rt:61:1
 returns : tie.Need-returns
 unfolding put
 returns c = search choices depth 9
 
--- src/lib.rt:61:1
 returns-2 : tie.Need-returns-2
 unfolding put
 returns-2 c = search choices depth 9

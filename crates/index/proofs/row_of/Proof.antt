@@ -3,56 +3,41 @@ use Rattle.base.specs.Choose.{choices}
 use borrow.Author.Needs.{needs}
 use Rattle.index.proofs.row_of.Statement.{statement}
 use Rattle.index.proofs.row_of.Tie as tie
-use Rattle.index.proofs.row_of.Reads as reads
-use Rattle.index.proofs.row_of.Lts as lts
-use Rattle.index.proofs.word_at.Reads as word-at-reads
 
--- src/lib.rt:175:21
 mul-first : tie.Need-mul-first
 mul-first c = search needs
 
--- src/lib.rt:176:13
 word-at-requires : tie.Need-word-at-requires
 word-at-requires c κs = search needs
 
--- src/lib.rt:177:30
 add-word-at : tie.Need-add-word-at
 add-word-at c = search needs
 
--- src/lib.rt:177:13
 word-at-requires-2 : tie.Need-word-at-requires-2
 word-at-requires-2 c κs = search needs
 
--- src/lib.rt:178:31
 add-word-at-2 : tie.Need-add-word-at-2
 add-word-at-2 c = search needs
 
--- src/lib.rt:178:13
 word-at-requires-3 : tie.Need-word-at-requires-3
 word-at-requires-3 c κs = search needs
 
--- src/lib.rt:179:29
 add-word-at-3 : tie.Need-add-word-at-3
 add-word-at-3 c = search needs
 
--- src/lib.rt:179:13
 word-at-requires-4 : tie.Need-word-at-requires-4
 word-at-requires-4 c κs = search needs
 
--- src/lib.rt:180:32
 add-word-at-4 : tie.Need-add-word-at-4
 add-word-at-4 c = search needs
 
--- src/lib.rt:180:13
 word-at-requires-5 : tie.Need-word-at-requires-5
 word-at-requires-5 c κs = search needs
 
--- src/lib.rt:181:9
 returns : tie.Need-returns
 unfolding row-at row-in
 returns c = rw (c .before .before .before .before .word-at .ensures, c .before .before .before .word-at2 .ensures, c .before .before .word-at3 .ensures, c .before .word-at4 .ensures, c .word-at5 .ensures) (search choices depth 9)
 
--- src/lib.rt:171:1
 returns-2 : tie.Need-returns-2
 unfolding row-at row-in
 returns-2 c = search choices depth 9

@@ -3,22 +3,16 @@ use lib.ListN.{List·getD-eq-default}
 use borrow.Author.Needs.{needs}
 use Rattle.index.proofs.word_at.Statement.{statement}
 use Rattle.index.proofs.word_at.Tie as tie
-use Rattle.index.proofs.word_at.Reads as reads
-use Rattle.index.proofs.word_at.Lts as lts
 
--- src/lib.rt:165:16
 mul-result : tie.Need-mul-result
 mul-result c = search needs
 
--- src/lib.rt:165:16
 shared-slice-read-result : tie.Need-shared-slice-read-result
 shared-slice-read-result c = search needs
 
--- src/lib.rt:165:9
 returns : tie.Need-returns
 returns c = search needs
 
--- src/lib.rt:161:1
 returns-2 : tie.Need-returns-2
 returns-2 c = sym (List·getD-eq-default (c .before .args .t .now) 0 (c .if1 .left))
 
