@@ -1,6 +1,6 @@
 use mathlib.Core.Path.{_≡_, refl, sym, _∙_, ap}
 use Rattle.base.specs.Choose.{calls}
-use Rattle.derives.specs.RuleLaws.{turn}
+use Rattle.derives.specs.Rules.{turn}
 use borrow.Author.Needs.{needs}
 use Rattle.derives.proofs.turn_of.Statement.{statement}
 use Rattle.derives.proofs.turn_of.Tie as tie
