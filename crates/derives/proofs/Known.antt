@@ -13,8 +13,8 @@ use Rattle.message_graph.specs.Limit.{messages}
 use Rattle.message_graph.specs.Fields.{Fields, size, owner-of, target-of, kind-of, label-of, link}
 use Rattle.message_graph.specs.Leads.{leadsb}
 use Rattle.derives.specs.declared.Derive.{Derive}
-use Rattle.derives.specs.RuleLaws.{turn-at, shape, turn-cannot, turn-can, turn-type, ByType}
-use Rattle.derives.specs.Can.{every, field-can, entry-can, can-message-derive, can-field-derive}
+use Rattle.derives.specs.RuleLaws.{shape, turn-cannot, turn-can, turn-type, ByType}
+use Rattle.derives.specs.Can.{every, field-can, entry-can, can-message-derive, can-field-derive, turn-at}
 use Rattle.derives.specs.Depth.{rank, rank-falls, every-all, every-not, entry-other, entry-own, by-entries}
 use Rattle.derives.specs.Memo.{Memo}
 

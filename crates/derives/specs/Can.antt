@@ -9,7 +9,7 @@ use Rattle.message_graph.specs.Limit.{messages}
 use Rattle.message_graph.specs.Fields.{Fields, size, owner-of, target-of, kind-of, label-of}
 use Rattle.message_graph.specs.Leads.{leadsb}
 use Rattle.derives.specs.declared.Derive.{Derive}
-use Rattle.derives.specs.Rules.{rule}
+use Rattle.derives.specs.Rules.{rule, turn}
 
 -- p at each place below n
 unfoldable pub every : ℕ → (ℕ → Bool) → Bool
@@ -35,3 +35,8 @@ can-message-derive d f set x = message-can d f set messages x
 
 unfoldable pub can-field-derive : Derive → Fields → List Bool → ℕ → Bool
 can-field-derive d f set i = field-can d f set (can-message-derive d f set) i
+
+-- what the answer of the field i turns on
+unfoldable pub turn-at : Derive → Fields → List Bool → ℕ → ℕ
+turn-at d f set i =
+    turn (rule d (kind-of f i) (label-of f i) (leadsb f (target-of f i) (owner-of f i)) (getD set i false))

@@ -16,7 +16,8 @@ use Rattle.message_graph.specs.Boxes.{boxed-by-loop}
 use Rattle.message_graph.specs.BoxLaws.{boxed-link}
 use Rattle.derives.specs.declared.Derive.{Derive}
 use Rattle.derives.specs.declared.Derive.the-variants.{Copy, Eq}
-use Rattle.derives.specs.Rules.{rule, can-field-derive-copy, can-field-derive-eq, is-of, sort-float, sort-number, sort-string}
+use Rattle.derives.specs.Can.{turn-at}
+use Rattle.derives.specs.Rules.{rule, turn, can-field-derive-copy, can-field-derive-eq, is-of, sort-float, sort-number, sort-string}
 
 -- what `answer` does with the message's answer
 pub data Shape (answer : Bool → Bool) (is-link looped : Bool) : Type 0 where
@@ -69,10 +70,7 @@ loop-is-box d f i set c =
     (λ e. loop-free d (kind-of f i) (label-of f i) (boxed-by-loop f i) set c e ∙ sym (loop-free d (kind-of f i) (label-of f i) (leadsb f (target-of f i) (owner-of f i)) set c e))
     (bool-cases (link f i))
 
--- ---- what a field turns on: 0 it cannot, 1 it can, 2 as its type's message
-
-unfoldable pub turn : (Bool → Bool) → ℕ
-turn answer = choose (answer true) (choose (answer false) 1 2) 0
+-- ---- what a field turns on
 
 turn-fixed : (answer : Bool → Bool) (r : Bool) → ((c : Bool) → answer c ≡ r) → turn answer ≡ choose r 1 0
 unfolding turn choose
@@ -112,10 +110,6 @@ module _ {answer : Bool → Bool} {is-link looped : Bool} where
   pub shape-same : Shape answer is-link looped → (x y : Bool) → (is-link ≡ true → looped ≡ false → x ≡ y) → answer x ≡ answer y
   shape-same (fixed r h) x y e = h x ∙ sym (h y)
   shape-same (by-type h l o) x y e = h x ∙ e l o ∙ sym (h y)
-
--- of the field i
-unfoldable pub turn-at : Derive → Fields → List Bool → ℕ → ℕ
-turn-at d f set i = turn (rule d (kind-of f i) (label-of f i) (leadsb f (target-of f i) (owner-of f i)) (getD set i false))
 
 -- by the table of boxes
 pub turn-box : (d : Derive) (f : Fields) (set : List Bool) (i : ℕ) → turn (rule d (kind-of f i) (label-of f i) (boxed-by-loop f i) (getD set i false)) ≡ turn-at d f set i

@@ -43,3 +43,7 @@ can-field-derive-eq kind label looped can =
 unfoldable pub rule : Derive → (kind label : ℕ) (looped set can : Bool) → Bool
 rule Copy kind label looped set can = can-field-derive-copy kind label looped set can
 rule Eq kind label looped set can = can-field-derive-eq kind label looped can
+
+-- what an answer turns on, as a function of the answer of the field's type: 0 it cannot, 1 it can, 2 as the type
+unfoldable pub turn : (Bool → Bool) → ℕ
+turn answer = choose (answer true) (choose (answer false) 1 2) 0

@@ -15,12 +15,12 @@ may-loop kind label = (eqb kind type-message || eqb kind type-group) && not (eqb
 unfoldable pub boxed-by-loop : Fields → ℕ → Bool
 boxed-by-loop f i = may-loop (kind-of f i) (label-of f i) && leadsb f (target-of f i) (owner-of f i)
 
--- from a to b by the links of a list, in order
-pub data Walk (f : Fields) : ℕ → ℕ → List ℕ → Type 0 where
-  stay : {a : ℕ} → Walk f a a []
-  go : {b : ℕ} {is : List ℕ} (a i : ℕ) → i < size f → link f i ≡ true → owner-of f i ≡ a → Walk f (target-of f i) b is → Walk f a b (i ∷ is)
+-- a chain of links from a to b: the fields in order
+pub data Chain (f : Fields) : ℕ → ℕ → List ℕ → Type 0 where
+  stay : {a : ℕ} → Chain f a a []
+  go : {b : ℕ} {is : List ℕ} (a i : ℕ) → i < size f → link f i ≡ true → owner-of f i ≡ a → Chain f (target-of f i) b is → Chain f a b (i ∷ is)
 
--- where links come back to the message that they started from, each of them is boxed; and a link that is boxed starts such a round
+-- where a chain comes back to the message that it started from, each of its links is boxed; and a link that is boxed starts such a chain
 pub record Boxing (f : Fields) : Type 0 where
-  pub all : (a : ℕ) (is : List ℕ) → Walk f a a is → (i : ℕ) → List·Memᴰ i is → boxed-by-loop f i ≡ true
-  pub only : (i : ℕ) → i < size f → link f i ≡ true → boxed-by-loop f i ≡ true → (is : List ℕ) × Walk f (owner-of f i) (owner-of f i) (i ∷ is)
+  pub all : (a : ℕ) (is : List ℕ) → Chain f a a is → (i : ℕ) → List·Memᴰ i is → boxed-by-loop f i ≡ true
+  pub only : (i : ℕ) → i < size f → link f i ≡ true → boxed-by-loop f i ≡ true → (is : List ℕ) × Chain f (owner-of f i) (owner-of f i) (i ∷ is)

@@ -1,3 +1,4 @@
+-- `derives::field_can`, `derives::fields_can` and `derives::message_can` meet their contracts. The depth falls from a field to its type's message. Assumes nothing.
 use borrow.Author.Needs.{needs}
 use borrow.Author.Tests.{not-true, not-false}
 use mathlib.Core.Path.{_≡_, refl, sym, _∙_, ap, subst}
@@ -73,30 +74,24 @@ abbrev fields-can-μ-loop : fields-can-lts.MeasureT-loop
 fields-can-μ-loop derive owner target kind label set boxed memo₀ x depth i₀ memo i = length owner - i
 
 module _ (t : ℕ) where
-  -- src/lib.rt:277:9
   field-can-turn-at-requires : field-can-lts.Need-turn-at-requires (field-can-claims t) (field-can-at t) field-can.Post
   field-can-turn-at-requires c κs = c .before .before .before .before .before .before .before .pre .1 .0
 
-  -- src/lib.rt:279:9
   field-can-returns : field-can-lts.Need-returns (field-can-claims t) (field-can-at t) field-can.Post
   field-can-returns c = (sym (field-cannot _ _ _ _ _ (c .before .turn-at .ensures) (c .if1 .taken)), c .before .before .before .before .before .before .before .before .before .pre .1 .1 .0)
 
-  -- src/lib.rt:282:9
   field-can-returns-2 : field-can-lts.Need-returns-2 (field-can-claims t) (field-can-at t) field-can.Post
   field-can-returns-2 c = (sym (field-can-all _ _ _ _ _ (c .before .before .turn-at .ensures) (c .if2 .taken)), c .before .before .before .before .before .before .before .before .before .before .pre .1 .1 .0)
 
-  -- src/lib.rt:284:9
   field-can-message-at-requires : field-can-lts.Need-message-at-requires (field-can-claims t) (field-can-at t) field-can.Post
   field-can-message-at-requires c κs = search needs
 
-  -- src/lib.rt:295:9
   field-can-sub-message-can : field-can-lts.Need-sub-message-can (field-can-claims t) (field-can-at t) field-can.Post
   field-can-sub-message-can c =
       let s = c .before .before .before .before .before .before .before .before .before .before .before .before in
       let less = field-falls _ _ _ _ _ (c .before .before .before .before .turn-at .ensures) (c .before .before .before .if1 .left) (c .before .before .if2 .left) (s .pre .1 .1 .1 .0) in
       omega (arith, s .pre .1 .1 .1 .1)
 
-  -- src/lib.rt:285:5
   field-can-message-can-requires : field-can-lts.Need-message-can-requires (field-can-claims t) (field-can-at t) field-can.Post
   field-can-message-can-requires c κs =
       let s = c .before .before .before .before .before .before .before .before .before .before .before .before in
@@ -107,101 +102,80 @@ module _ (t : ℕ) where
       let is = c .before .message-at .ensures in
       (omega (arith, s .pre .0, s .pre .1 .1 .1 .1), (s .pre .1 .0, (s .pre .1 .1 .0, (omega (arith, message-at-below (a .target .now) (a .i)), rw is bound))))
 
-  -- src/lib.rt:259:1
   field-can-same-length : field-can-lts.Need-same-length (field-can-claims t) (field-can-at t) field-can.Post
   field-can-same-length c = c .before .before .message-can .kept .1 .1 .1 .1 .1 .1 .1 .0
 
-  -- src/lib.rt:259:1
   field-can-returns-3 : field-can-lts.Need-returns-3 (field-can-claims t) (field-can-at t) field-can.Post
   field-can-returns-3 c =
       let r = c .before .before .message-can .ensures in
       (r .0 ∙ ap (can-message-derive _ _ _) (c .before .before .before .before .message-at .ensures) ∙ sym (field-by-type _ _ _ _ _ (c .before .before .before .before .before .before .before .turn-at .ensures) (c .before .before .before .before .before .before .if1 .left) (c .before .before .before .before .before .if2 .left)), r .1)
 
-  -- src/lib.rt:235:5
   fields-can-loop-holds : fields-can-lts.Need-loop-holds (fields-can-claims t) (fields-can-at t) fields-can.Post fields-can-Inv-loop fields-can-μ-loop
   fields-can-loop-holds c = scan-none (c .before .before .before .before .before .before .before .pre .1 .1 .0) _
 
-  -- src/lib.rt:236:20
   fields-can-add-next : fields-can-lts.Need-add-next (fields-can-claims t) (fields-can-at t) fields-can.Post fields-can-Inv-loop fields-can-μ-loop
   fields-can-add-next c = search needs
 
-  -- src/lib.rt:237:12
   fields-can-message-at-requires : fields-can-lts.Need-message-at-requires (fields-can-claims t) (fields-can-at t) fields-can.Post fields-can-Inv-loop fields-can-μ-loop
   fields-can-message-at-requires c κs = search needs
 
-  -- src/lib.rt:238:17
   fields-can-field-can-requires : fields-can-lts.Need-field-can-requires (fields-can-claims t) (fields-can-at t) fields-can.Post fields-can-Inv-loop fields-can-μ-loop
   fields-can-field-can-requires c κs =
       let s = c .before .before .before .before .before .before .before .before .before .before .before .before in
       let own = sym (c .before .before .message-at .ensures) ∙ c .before .if1 .taken in
       (omega (arith, s .pre .0), (s .pre .1 .0, (c .before .before .before .before .loop .inv .memo, (c .before .before .before .loop-test .taken, rw own (s .pre .1 .1 .1 .1)))))
 
-  -- src/lib.rt:250:17
   fields-can-same-length : fields-can-lts.Need-same-length (fields-can-claims t) (fields-can-at t) fields-can.Post fields-can-Inv-loop fields-can-μ-loop
   fields-can-same-length c = same-size (c .before .before .before .field-can .ensures .1) (c .before .before .before .before .before .before .before .before .before .before .before .before .before .before .before .before .pre .1 .1 .0)
 
-  -- src/lib.rt:250:17
   fields-can-returns : fields-can-lts.Need-returns (fields-can-claims t) (fields-can-at t) fields-can.Post fields-can-Inv-loop fields-can-μ-loop
   fields-can-returns c =
       let r = c .before .before .before .field-can .ensures in
       let own = sym (c .before .before .before .before .before .before .message-at .ensures) ∙ c .before .before .before .before .before .if1 .taken in
       (sym (scan-not _ _ _ (c .before .before .before .before .before .before .before .before .before .before .before .before .before .before .before .before .args .x) (c .before .before .before .before .before .before .before .before .loop .i) (c .before .before .before .before .before .before .before .loop-test .taken) own (sym (r .0) ∙ not-true _ (c .if2 .taken))), r .1)
 
-  -- src/lib.rt:235:5
   fields-can-loop-less : fields-can-lts.Need-loop-less (fields-can-claims t) (fields-can-at t) fields-can.Post fields-can-Inv-loop fields-can-μ-loop
   fields-can-loop-less c = search needs
 
-  -- src/lib.rt:235:5
   fields-can-loop-again : fields-can-lts.Need-loop-again (fields-can-claims t) (fields-can-at t) fields-can.Post fields-can-Inv-loop fields-can-μ-loop
   fields-can-loop-again c =
       let r = c .before .before .before .field-can .ensures in
       scan-can (c .before .before .before .before .before .before .before .before .loop .inv) (c .before .before .before .before .before .before .before .loop-test .taken) (sym (c .before .before .before .before .before .before .message-at .ensures) ∙ c .before .before .before .before .before .if1 .taken) (r .1) (sym (r .0) ∙ not-false _ (c .if2 .left))
 
-  -- src/lib.rt:235:5
   fields-can-loop-less-2 : fields-can-lts.Need-loop-less-2 (fields-can-claims t) (fields-can-at t) fields-can.Post fields-can-Inv-loop fields-can-μ-loop
   fields-can-loop-less-2 c = search needs
 
-  -- src/lib.rt:235:5
   fields-can-loop-again-2 : fields-can-lts.Need-loop-again-2 (fields-can-claims t) (fields-can-at t) fields-can.Post fields-can-Inv-loop fields-can-μ-loop
   fields-can-loop-again-2 c = scan-other (c .before .before .before .loop .inv) (c .before .before .loop-test .taken) (λ e. c .if1 .left (c .before .message-at .ensures ∙ e))
 
-  -- src/lib.rt:216:1
   fields-can-same-length-2 : fields-can-lts.Need-same-length-2 (fields-can-claims t) (fields-can-at t) fields-can.Post fields-can-Inv-loop fields-can-μ-loop
   fields-can-same-length-2 c = same-size (c .before .loop .inv .memo) (c .before .before .before .before .before .before .before .before .before .pre .1 .1 .0)
 
-  -- src/lib.rt:216:1
   fields-can-returns-2 : fields-can-lts.Need-returns-2 (fields-can-claims t) (fields-can-at t) fields-can.Post fields-can-Inv-loop fields-can-μ-loop
   fields-can-returns-2 c = (sym (scan-all (c .before .loop .inv) (c .loop-test .left)), c .before .loop .inv .memo)
 
-  -- src/lib.rt:189:17
   message-can-slice-read-known : message-can-lts.Need-slice-read-known (message-can-claims t) (message-can-at t) message-can.Post
   message-can-slice-read-known c = let s = c .before .before .before .before .before .before .before .before in omega (arith, s .pre .1 .1 .0 .size, s .pre .1 .1 .1 .0)
 
-  -- src/lib.rt:191:9
   message-can-returns : message-can-lts.Need-returns (message-can-claims t) (message-can-at t) message-can.Post
   message-can-returns c =
       let s = c .before .before .before .before .before .before .before .before .before in
       (sym (s .pre .1 .1 .0 .can (s .args .x) (c .if1 .taken)), s .pre .1 .1 .0)
 
-  -- src/lib.rt:194:9
   message-can-returns-2 : message-can-lts.Need-returns-2 (message-can-claims t) (message-can-at t) message-can.Post
   message-can-returns-2 c =
       let s = c .before .before .before .before .before .before .before .before .before .before in
       (sym (s .pre .1 .1 .0 .cannot (s .args .x) (c .if2 .taken)), s .pre .1 .1 .0)
 
-  -- src/lib.rt:196:8
   message-can-fields-can-requires : message-can-lts.Need-fields-can-requires (message-can-claims t) (message-can-at t) message-can.Post
   message-can-fields-can-requires c κs = (omega (arith, c .before .before .before .before .before .before .before .before .before .before .before .pre .0), c .before .before .before .before .before .before .before .before .before .before .before .pre .1)
 
-  -- src/lib.rt:208:9
   message-can-slice-write-memo : message-can-lts.Need-slice-write-memo (message-can-claims t) (message-can-at t) message-can.Post
   message-can-slice-write-memo c = omega (arith, c .before .before .before .fields-can .ensures .1 .size, c .before .before .before .before .before .before .before .before .before .before .before .before .before .before .before .pre .1 .1 .1 .0)
 
-  -- src/lib.rt:209:9
   message-can-same-length : message-can-lts.Need-same-length (message-can-claims t) (message-can-at t) message-can.Post
   message-can-same-length c = kept-size (c .before .before .before .fields-can .ensures .1) (c .before .before .before .before .before .before .before .before .before .before .before .before .before .before .before .pre .1 .1 .0) (c .before .before .before .before .before .before .before .before .before .before .before .before .before .before .before .args .x) 1
 
-  -- src/lib.rt:209:9
   message-can-returns-3 : message-can-lts.Need-returns-3 (message-can-claims t) (message-can-at t) message-can.Post
   message-can-returns-3 c =
       let s = c .before .before .before .before .before .before .before .before .before .before .before .before .before .before .before in
@@ -209,15 +183,12 @@ module _ (t : ℕ) where
       let can = sym (r .0) ∙ c .if3 .taken in
       (sym can, memo-set (r .1) (s .args .x) 1 (s .pre .1 .1 .1 .0) (λ e. can) (λ e. absurd (omega arith)))
 
-  -- src/lib.rt:211:5
   message-can-slice-write-memo-2 : message-can-lts.Need-slice-write-memo-2 (message-can-claims t) (message-can-at t) message-can.Post
   message-can-slice-write-memo-2 c = omega (arith, c .before .before .before .fields-can .ensures .1 .size, c .before .before .before .before .before .before .before .before .before .before .before .before .before .before .before .pre .1 .1 .1 .0)
 
-  -- src/lib.rt:171:1
   message-can-same-length-2 : message-can-lts.Need-same-length-2 (message-can-claims t) (message-can-at t) message-can.Post
   message-can-same-length-2 c = kept-size (c .before .before .before .fields-can .ensures .1) (c .before .before .before .before .before .before .before .before .before .before .before .before .before .before .before .pre .1 .1 .0) (c .before .before .before .before .before .before .before .before .before .before .before .before .before .before .before .args .x) 2
 
-  -- src/lib.rt:171:1
   message-can-returns-4 : message-can-lts.Need-returns-4 (message-can-claims t) (message-can-at t) message-can.Post
   message-can-returns-4 c =
       let s = c .before .before .before .before .before .before .before .before .before .before .before .before .before .before .before in

@@ -1,3 +1,4 @@
+-- `derives::can_derive` meets its contract. Assumes nothing.
 use mathlib.Core.Path.{_≡_, refl, sym, _∙_, ap}
 use Rattle.message_graph.specs.Tab.{tab-whole}
 use borrow.Author.Needs.{needs}

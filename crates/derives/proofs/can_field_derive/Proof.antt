@@ -1,3 +1,4 @@
+-- `derives::can_field_derive` meets its contract. Assumes nothing.
 use mathlib.Core.Path.{_≡_, refl, sym, _∙_}
 use Rattle.derives.specs.Rules.{rule}
 use borrow.Author.Needs.{needs}

@@ -1,3 +1,4 @@
+-- `derives::can_field_derive_copy` meets its contract. Assumes nothing.
 use mathlib.Core.Path.{_≡_, refl, sym, _∙_}
 use Rattle.base.specs.Choose.{choices, flags, choose}
 use Rattle.derives.specs.Rules.{can-field-derive-copy, can-field-derive-eq}

@@ -1,3 +1,4 @@
+-- `derives::flag_at` meets its contract. Assumes nothing.
 use mathlib.Core.Path.{sym}
 use lib.ListN.{List·getD-eq-default}
 use mathlib.Core.Bool.{false}

@@ -1,3 +1,4 @@
+-- `derives::is_looped` meets its contract. Assumes nothing.
 use mathlib.Core.Path.{_≡_, refl, sym, _∙_, ap}
 use mathlib.Core.Bool.{Bool, false}
 use mathlib.Core.List.{List}

@@ -1,3 +1,4 @@
+-- `derives::is_of` meets its contract. Assumes nothing.
 use mathlib.Core.Path.{_≡_, refl, sym, _∙_}
 use borrow.Author.Tests.{eq-eqb, ne-eqb}
 use Rattle.derives.specs.Rules.{is-of}

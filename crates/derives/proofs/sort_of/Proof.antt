@@ -1,3 +1,4 @@
+-- `derives::sort_of` meets its contract. Assumes nothing.
 use mathlib.Core.Path.{_≡_, refl, sym, _∙_}
 use Rattle.derives.specs.Rules.{sort-of}
 use borrow.Author.Needs.{needs}

@@ -1,3 +1,4 @@
+-- `derives::turn_at` meets its contract. Assumes nothing.
 use mathlib.Core.Path.{_≡_, refl, sym, _∙_}
 use Rattle.derives.specs.RuleLaws.{turn-box}
 use borrow.Author.Needs.{needs}

@@ -1,6 +1,7 @@
+-- `derives::turn_of` meets its contract. Assumes nothing.
 use mathlib.Core.Path.{_≡_, refl, sym, _∙_, ap}
 use Rattle.base.specs.Choose.{calls}
-use Rattle.derives.specs.RuleLaws.{turn}
+use Rattle.derives.specs.Rules.{turn}
 use borrow.Author.Needs.{needs}
 use Rattle.derives.proofs.turn_of.Statement.{statement}
 use Rattle.derives.proofs.turn_of.Tie as tie

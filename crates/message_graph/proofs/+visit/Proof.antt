@@ -1,3 +1,4 @@
+-- `message_graph::visit` meets its contract. Assumes nothing.
 use borrow.Author.Needs.{needs}
 use borrow.Author.Tests.{not-true, not-false}
 use mathlib.Core.Path.{_≡_, refl, sym, _∙_, ap}

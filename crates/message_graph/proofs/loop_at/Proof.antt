@@ -1,3 +1,4 @@
+-- `message_graph::loop_at` meets its contract. Assumes nothing.
 use borrow.Author.Tests.{not-true, not-false}
 use mathlib.Core.Path.{_≡_, refl, sym, _∙_, ap}
 use Rattle.message_graph.specs.Boxes.{boxed-by-loop}

@@ -1,3 +1,4 @@
+-- `message_graph::message_at` meets its contract. Assumes nothing.
 use mathlib.Core.Path.{_≡_, refl, sym, _∙_}
 use lib.ListN.{List·getD-eq-default}
 use Rattle.base.specs.Choose.{choices, choose}

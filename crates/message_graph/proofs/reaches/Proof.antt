@@ -1,3 +1,4 @@
+-- `message_graph::reaches` meets its contract. Assumes nothing.
 use mathlib.Core.Bool.{false}
 use mathlib.Core.Path.{_≡_, refl, sym, _∙_, ap}
 use lib.ListN.{length-replicate}
