@@ -111,7 +111,8 @@ pub fn put_byte(t: &mut [u8], at: usize, x: u8) -> usize
     let c = x as u32;
     let l = letter(c);
     if l != 0 {
-        return put_pair(t, at, l as u32);
+        let d = l as u32;
+        return put_pair(t, at, d);
     }
     if c < 0x20 {
         return put_byte_escape(t, at, c);

@@ -1,3 +1,4 @@
+-- `c_escaping::byte_of` meets its contract. Assumes nothing.
 use Rattle.base.specs.Choose.{choices}
 use Rattle.c_escaping.specs.Unescape.{byte-of}
 use borrow.Author.Needs.{needs}

@@ -1,3 +1,4 @@
+-- `c_escaping::escape_at` meets its contract. Assumes nothing.
 use Rattle.base.specs.Choose.{calls, choices}
 use Rattle.c_escaping.specs.Unescape.{escape-at}
 use borrow.Author.Needs.{needs}

@@ -1,3 +1,4 @@
+-- `c_escaping::hex_at` meets its contract. Assumes nothing.
 use Rattle.base.specs.Choose.{calls}
 use Rattle.c_escaping.specs.Unescape.{hex-at}
 use borrow.Author.Needs.{needs}

@@ -1,3 +1,4 @@
+-- `c_escaping::hex_value` meets its contract. Assumes nothing.
 use Rattle.base.specs.Choose.{choices}
 use Rattle.c_escaping.specs.Unescape.{hex-value}
 use borrow.Author.Needs.{needs}

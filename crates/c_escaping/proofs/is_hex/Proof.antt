@@ -1,3 +1,4 @@
+-- `c_escaping::is_hex` meets its contract. Assumes nothing.
 use Rattle.base.specs.Choose.{calls}
 use Rattle.c_escaping.specs.Unescape.{is-hex}
 use borrow.Author.Needs.{needs}

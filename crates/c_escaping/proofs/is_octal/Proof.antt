@@ -1,3 +1,4 @@
+-- `c_escaping::is_octal` meets its contract. Assumes nothing.
 use Rattle.c_escaping.specs.Unescape.{is-octal}
 use borrow.Author.Needs.{needs}
 use Rattle.c_escaping.proofs.is_octal.Statement.{statement}

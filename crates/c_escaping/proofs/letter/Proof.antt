@@ -1,3 +1,4 @@
+-- `c_escaping::letter` meets its contract. Assumes nothing.
 use Rattle.base.specs.Choose.{choices}
 use Rattle.c_escaping.specs.Unescape.{letter}
 use Rattle.c_escaping.proofs.letter.Statement.{statement}

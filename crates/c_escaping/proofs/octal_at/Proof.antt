@@ -1,3 +1,4 @@
+-- `c_escaping::octal_at` meets its contract. Assumes nothing.
 use Rattle.base.specs.Choose.{calls}
 use Rattle.c_escaping.specs.Unescape.{octal-at}
 use borrow.Author.Needs.{needs}

@@ -1,3 +1,4 @@
+-- `c_escaping::put_unescaped` meets its contract. The loop's invariant: what is left are the bytes from p on. Assumes nothing.
 use Rattle.c_escaping.specs.Unescaping.{unescape-end, unescape-fault, unescape-next, byte-forward}
 use Rattle.c_escaping.specs.Unescape.{unescape-from, unescaped}
 use Rattle.base.specs.Each.{each, each-each}

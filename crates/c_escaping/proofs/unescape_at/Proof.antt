@@ -1,3 +1,4 @@
+-- `c_escaping::unescape_at` meets its contract. Assumes nothing.
 use Rattle.base.specs.Choose.{choices}
 use Rattle.c_escaping.specs.Unescape.{unescape-at}
 use borrow.Author.Needs.{needs}

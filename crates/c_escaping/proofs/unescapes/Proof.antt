@@ -1,3 +1,4 @@
+-- `c_escaping::unescapes` meets its contract. The loop's invariant: the bytes from p on decide as all do. Assumes nothing.
 use Rattle.base.specs.Steps.{whole}
 use Rattle.c_escaping.specs.Unescaping.{unescape-end, unescape-fault, unescape-next, byte-forward}
 use Rattle.c_escaping.specs.Unescape.{unescape-from}

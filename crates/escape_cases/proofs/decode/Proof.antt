@@ -1,3 +1,4 @@
+-- `escape_cases::decode` meets its contract. Assumes nothing.
 use Prim.Native.Nat.{_≤_, _-_}
 use mathlib.Core.Path.{_≡_, sym}
 use lib.ListN.{length, length-set}

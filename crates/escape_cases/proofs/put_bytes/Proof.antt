@@ -1,3 +1,4 @@
+-- `escape_cases::put_bytes` meets its contract. Assumes nothing.
 use Prim.Native.Nat.{_≤_, _-_}
 use mathlib.Core.Path.{_≡_, _∙_}
 use lib.ListN.{length}

@@ -1,3 +1,4 @@
+-- `literal::put_hex` meets its contract. The measure is k. Assumes nothing.
 use borrow.Author.Needs.{needs}
 use mathlib.Core.Path.{ap, sym}
 use mathlib.Core.List.{List, _∷_, []}

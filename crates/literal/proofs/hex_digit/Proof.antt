@@ -1,3 +1,4 @@
+-- `literal::hex_digit` meets its contract. Assumes nothing.
 use Rattle.base.specs.Choose.{choices}
 use Rattle.literal.specs.Escape.{hex-digit}
 use borrow.Author.Needs.{needs}

@@ -1,3 +1,4 @@
+-- `literal::letter` meets its contract. Assumes nothing.
 use Rattle.base.specs.Choose.{choices}
 use Rattle.literal.specs.Escape.{letter}
 use Rattle.literal.proofs.letter.Statement.{statement}

@@ -1,3 +1,4 @@
+-- `literal::put_byte` meets its contract. Assumes nothing.
 use Rattle.base.specs.Choose.{choices}
 use Rattle.base.specs.Each.{each}
 use mathlib.Core.Path.{ap, sym, _∙_}
@@ -11,8 +12,8 @@ use Rattle.literal.proofs.put_byte.Tie as tie
 letter-requires : tie.Need-letter-requires
 letter-requires c κs = search needs
 
-cast-put-pair : tie.Need-cast-put-pair
-cast-put-pair c = search needs
+cast-d : tie.Need-cast-d
+cast-d c = search needs
 
 put-pair-requires : tie.Need-put-pair-requires
 put-pair-requires c κs = search needs
@@ -59,7 +60,7 @@ put-byte-spec =
     tie.close
     (tie.spec
     letter-requires
-    cast-put-pair
+    cast-d
     put-pair-requires
     same-length
     returns

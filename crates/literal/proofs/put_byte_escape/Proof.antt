@@ -1,3 +1,4 @@
+-- `literal::put_byte_escape` meets its contract. Assumes nothing.
 use Rattle.literal.specs.Escape.{byte-escape}
 use Rattle.writer.specs.Wrote.{_►_, kept, none, still}
 use borrow.Author.Needs.{needs}

@@ -1,3 +1,4 @@
+-- `literal::put_char` meets its contract. Assumes nothing.
 use Rattle.base.specs.Choose.{choices}
 use Rattle.literal.specs.Escape.{escape, escape-char}
 use Rattle.writer.specs.Wrote.{named, kept, _►_}

@@ -1,3 +1,4 @@
+-- `literal::put_pair` meets its contract. Assumes nothing.
 use Rattle.writer.specs.Wrote.{_►_, kept, none, still}
 use borrow.Author.Needs.{needs}
 use Rattle.literal.proofs.put_pair.Statement.{statement}

@@ -1,3 +1,4 @@
+-- `literal::put_text` meets its contract. The loop's invariant: what is left are the characters from i on. Assumes nothing.
 use Rattle.literal.specs.Escape.{escape-char, escape-text}
 use Rattle.literal.specs.Passes.{Left, left-all, left-more, left-end, left-broken}
 use Rattle.utf8.specs.Chars.{chars-end, chars-fault, chars-next, char-forward}

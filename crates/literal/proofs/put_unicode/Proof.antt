@@ -1,3 +1,4 @@
+-- `literal::put_unicode` meets its contract. Assumes nothing.
 use Rattle.literal.specs.Escape.{unicode-escape}
 use Rattle.writer.specs.Wrote.{_►_, kept}
 use borrow.Author.Needs.{needs}

@@ -1,3 +1,4 @@
+-- `utf8::between` meets its contract. Assumes nothing.
 use Rattle.base.specs.Choose.{choices}
 use Rattle.utf8.specs.Utf8.{between}
 use Rattle.utf8.proofs.between.Statement.{statement}

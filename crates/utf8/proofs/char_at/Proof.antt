@@ -1,3 +1,4 @@
+-- `utf8::char_at` meets its contract. Assumes nothing.
 use Rattle.base.specs.Choose.{choices}
 use Rattle.utf8.specs.Utf8.{charAt}
 use borrow.Author.Needs.{needs}

@@ -1,3 +1,4 @@
+-- `utf8::is_utf8` meets its contract. The loop's invariant: the characters from i on decide as all do. Assumes nothing.
 use Rattle.base.specs.Steps.{whole}
 use Rattle.utf8.specs.Chars.{chars-end, chars-fault, chars-next, char-forward}
 use Rattle.utf8.specs.Utf8.{chars-from}

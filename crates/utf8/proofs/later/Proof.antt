@@ -1,3 +1,4 @@
+-- `utf8::later` meets its contract. Assumes nothing.
 use Rattle.utf8.specs.Utf8.{later}
 use borrow.Author.Needs.{needs}
 use Rattle.utf8.proofs.later.Statement.{statement}

@@ -1,3 +1,4 @@
+-- `utf8::second` meets its contract. Assumes nothing.
 use Rattle.utf8.specs.Utf8.{second}
 use borrow.Author.Needs.{needs}
 use Rattle.utf8.proofs.second.Statement.{statement}

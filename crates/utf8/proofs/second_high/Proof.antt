@@ -1,3 +1,4 @@
+-- `utf8::second_high` meets its contract. Assumes nothing.
 use Rattle.base.specs.Choose.{choices}
 use Rattle.utf8.specs.Utf8.{second-high}
 use Rattle.utf8.proofs.second_high.Statement.{statement}

@@ -1,3 +1,4 @@
+-- `utf8::second_low` meets its contract. Assumes nothing.
 use Rattle.base.specs.Choose.{choices}
 use Rattle.utf8.specs.Utf8.{second-low}
 use Rattle.utf8.proofs.second_low.Statement.{statement}

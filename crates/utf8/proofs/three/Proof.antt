@@ -1,3 +1,4 @@
+-- `utf8::three` meets its contract. Assumes nothing.
 use Rattle.base.specs.Choose.{choices, calls}
 use Rattle.utf8.specs.Utf8.{three}
 use borrow.Author.Needs.{needs}
