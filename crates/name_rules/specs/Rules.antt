@@ -13,10 +13,12 @@ use Rattle.utf8.specs.Utf8.{is-utf8}
 use Rattle.syntax.specs.Syntax.{syntax-of}
 use Rattle.syntax.specs.declared.Syntax.{Syntax}
 use Rattle.syntax.specs.declared.Syntax.the-variants.{Proto2, Proto3, Unknown}
-use Rattle.field_types.specs.Types.{sort-of, integer, boolean} 
+use Rattle.field_types.specs.Types.{sort-of, integer, boolean}
 use Rattle.field_types.specs.Types as types
 use Rattle.descriptor.specs.Descriptor.{Bytes, Forest, done, node, FieldDescriptor, ValueDescriptor, EnumDescriptor, MessageDescriptor, FileDescriptor}
 use Rattle.name_rules.specs.Lists.{all, is-empty}
+use Rattle.name_rules.specs.declared.Judged.{Judged}
+use Rattle.name_rules.specs.declared.Judged.the-variants.{Good, Refused}
 
 -- a name: `[A-Za-z_][A-Za-z0-9_]*`, and not of underscores only
 unfoldable pub good-name : Bytes → Bool
@@ -76,6 +78,11 @@ oneof-index-good oneofs label (some i) = ltb i (2 ^ 31) && (ltb i oneofs && is-n
 abbrev pub default-good : Option ℕ → Option Bytes → Bool
 default-good type none = true
 default-good type (some d) = is-utf8 d && (not (is-number 14 type) || good-name d)
+
+-- what is made of that test
+unfoldable pub judged : Bool → Judged
+judged true = Good
+judged false = Refused 6
 
 -- a field of a message with so many oneofs
 unfoldable pub field-good : ℕ → FieldDescriptor → Bool
