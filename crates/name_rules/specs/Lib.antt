@@ -1,0 +1,6 @@
+pub mod Lists
+pub mod Accessors
+pub mod Rules
+pub mod FullNames
+pub mod MapEntries
+pub mod Answer
