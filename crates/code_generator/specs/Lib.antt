@@ -1,0 +1,10 @@
+pub mod Piece
+pub mod Resolve
+pub mod Attributes
+pub mod Fields
+pub mod MapFields
+pub mod Oneofs
+pub mod Enums
+pub mod Generate
+pub mod Refusals
+pub mod Examples

@@ -1,0 +1,2 @@
+pub mod MessageGraph
+pub mod Context

@@ -1,0 +1,3 @@
+pub mod Split
+pub mod ExternPaths
+pub mod Doubles
