@@ -9,7 +9,7 @@ use wire::Record;
 use wire::Step;
 
 // The bytes of an embedded message; one of another wire type has none.
-fn embedded(s: &[u8], f: Record) -> &[u8]
+pub fn embedded(s: &[u8], f: Record) -> &[u8]
     ensures { λ r. ⌜ now r ≡ bytes-in (value-of (now (s .entry)) f) ⌝ }
 {
     let start = f.start;
@@ -21,7 +21,7 @@ fn embedded(s: &[u8], f: Record) -> &[u8]
 }
 
 // How many embedded messages with this field number there are.
-fn count_parts(s: &[u8], number: u64) -> usize
+pub fn count_parts(s: &[u8], number: u64) -> usize
     ensures { λ r. ⌜ r ≡ length (parts number (entries (now (s .entry)))) ⌝ }
 {
     let mut at: usize = 0;
