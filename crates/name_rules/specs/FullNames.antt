@@ -12,7 +12,6 @@ use Rattle.name_rules.specs.Accessors.{text, is-message, is-group, is-en
 
 -- a name in a scope: `.a.b` and T is `.a.b.T`
 infixl 65 _·_
-
 abbrev pub _·_ : Bytes → Bytes → Bytes
 scope · name = scope ++ (46 ∷ name)
 
