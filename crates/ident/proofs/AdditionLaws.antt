@@ -1,13 +1,12 @@
 -- What sanitising adds is seen from the first nine bytes of a name, since no listed word is as long. Assumes nothing.
 use mathlib.Core.Path.{_≡_, refl, sym, ap, _∙_}
 use mathlib.Core.Bool.{Bool, true, false, _&&_, _||_}
-use mathlib.Core.List.{List, [], _∷_, _++_}
+use mathlib.Core.List.{List, [], _∷_}
 use Prim.Native.Nat.{ℕ, zero, suc, _+_, _-_, _^_, _<_, _≤_, min}
 use native.Mathlib.Omega.{arith}
-use native.Mathlib.Nat.{zero-add}
 use native.Mathlib.Decide.{decLe}
 use lib.Dec.{ltb, eqb}
-use lib.ListN.{length, getD, take, drop, length-take, take-append-drop}
+use lib.ListN.{length, take, drop, length-take, take-append-drop}
 use lib.Seq.{sets-eq, take-all, take-at, getD-take}
 use borrow.Author.Tests.{ltb-true}
 use Rattle.base.specs.Choose.{choose}

@@ -1,9 +1,9 @@
 -- How long a written name is: of a name of 64 bytes, at most 106 bytes in snake case and 64 in camel case. Assumes nothing.
-use mathlib.Core.Path.{_≡_, refl, sym, ap, subst, _∙_}
+use mathlib.Core.Path.{_≡_, refl, ap, _∙_}
 use mathlib.Core.Bool.{Bool, true, false, _||_, _&&_}
 use mathlib.Core.Logic.{_⊎_, inl, inr}
 use mathlib.Core.List.{List, [], _∷_, _++_}
-use Prim.Native.Nat.{ℕ, zero, suc, _+_, _-_, _*_, _^_, _≤_, _<_, min}
+use Prim.Native.Nat.{ℕ, zero, suc, _-_, _^_, _≤_, _<_}
 use native.Mathlib.Omega.{arith}
 use native.Mathlib.Nat.{zero-add}
 use lib.Dec.{leb, eqb}
@@ -14,22 +14,19 @@ use Rattle.base.specs.Choose.{choose, choose-case}
 use Rattle.base.specs.Tests.{bool-cases, both-ways, and-left, and-right, or-cases}
 use Rattle.base.specs.Bytes.{b, same}
 use Rattle.writer.specs.Wrote.{Wrote, over, after}
-use Rattle.heck.specs.Case.{between, is-lower, is-upper, is-digit, class, in-word, lowered, raised, lower-first, parts, words, to-snake-case, to-upper-camel-case}
+use Rattle.heck.specs.Case.{between, is-lower, is-upper, is-digit, class, lowered, raised, lower-first, parts, words, to-snake-case}
 use Rattle.heck.specs.Pass.{next, separated, spelt, character, piece, cased}
 use Rattle.heck.specs.declared.Class.{Class}
 use Rattle.heck.specs.declared.Class.the-variants.{Other, Digit, Lower, Upper}
 use Rattle.heck.specs.declared.State.the-variants.{Start}
-use Rattle.heck.proofs.Characters.{from-low, to-high, above}
+use Rattle.heck.proofs.Characters.{from-low, above}
 use Rattle.heck.proofs.Spelling.{snake-cased, camel-cased}
 use Rattle.heck.proofs.Lengths.{snake-length, camel-length}
 use Rattle.ident.specs.Name.{name-start, name-part, every, is-name, has-word}
 use Rattle.ident.specs.Ident.{among, raw-words, kept-words, addition, with-addition, sanitize-identifier, to-snake, to-upper-camel}
 use Rattle.ident.specs.Convert.{padded, convertible, converted}
 use Rattle.ident.specs.declared.Converted.{Converted}
-use Rattle.ident.specs.declared.keywords.Addition.{Addition}
-use Rattle.ident.specs.declared.keywords.Addition.the-variants.{Nothing, Raw, Trailing, Leading}
 use Rattle.ident.proofs.EveryLaws.{all, all-among}
-use Rattle.ident.proofs.Spelled.{alphanumeric}
 
 -- ---- what sanitising adds to the length
 at-most-eight : List ℕ → Bool

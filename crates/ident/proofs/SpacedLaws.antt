@@ -1,28 +1,20 @@
 -- Words with a space between two of them, from an index on. Assumes nothing.
 use mathlib.Core.Path.{_≡_, refl, sym, ap, _∙_}
-use mathlib.Core.Bool.{Bool, true, false, _||_, or-false}
+use mathlib.Core.Bool.{Bool, true, false, or-false}
 use mathlib.Core.List.{List, [], _∷_, _++_, append-nil}
 use Prim.Native.Nat.{ℕ, suc, _+_, _-_, _<_, _≤_}
 use native.Mathlib.Numerals.{add-one}
 use native.Mathlib.Omega.{arith}
 use lib.Dec.{eqb}
 use lib.ListN.{length, getD, take, drop, length-drop, drop-of-length-le}
-use lib.Seq.{drop-cons, take-suc, getD-drop, append-snoc}
+use lib.Seq.{drop-cons, take-suc, getD-drop}
 use borrow.Author.Tests.{eq-eqb, ne-eqb}
 use Rattle.base.specs.Choose.{choose}
 use Rattle.base.specs.Bytes.{same}
 use Rattle.heck.specs.Case.{push}
+use Rattle.heck.proofs.WordLaws.{onto, onto-push}
 use Rattle.ident.specs.Ident.{among}
 use Rattle.ident.specs.Spaced.{spaced}
-
--- u in front of the first word
-abbrev pub onto : List ℕ → List (List ℕ) → List (List ℕ)
-onto u [] = u ∷ []
-onto u (w ∷ ws) = (u ++ w) ∷ ws
-
-onto-push : (u : List ℕ) (c : ℕ) (ws : List (List ℕ)) → onto u (push c ws) ≡ onto (u ++ (c ∷ [])) ws
-onto-push u c [] = refl
-onto-push u c (w ∷ ws) = ap (λ (l : List ℕ). l ∷ ws) (sym (append-snoc u c w))
 
 onto-nil : (s : List ℕ) → onto [] (spaced s) ≡ spaced s
 unfolding spaced choose

@@ -1,24 +1,22 @@
 -- What the case rule spells, before sanitising: letters and digits, in snake case lowercase ones with `_` between words. Assumes nothing.
-use mathlib.Core.Path.{_≡_, refl, sym, ap, subst, _∙_}
+use mathlib.Core.Path.{_≡_, refl, ap}
 use mathlib.Core.Bool.{Bool, true, false, _&&_, _||_}
 use mathlib.Core.Logic.{_⊎_, inl, inr}
 use mathlib.Core.List.{List, [], _∷_, _++_}
-use Prim.Native.Nat.{ℕ, _+_, _-_, _≤_, _<_}
+use Prim.Native.Nat.{ℕ, _+_, _-_}
 use native.Mathlib.Omega.{arith}
-use lib.Dec.{leb, eqb}
-use lib.ListN.{length, getD}
-use borrow.Author.Tests.{leb-true, lt-leb, ne-eqb}
+use lib.Dec.{eqb}
+use lib.ListN.{getD}
 use Rattle.base.specs.Choose.{choose, choose-case}
 use Rattle.base.specs.Tests.{bool-cases, both-ways, or-left, or-right}
-use Rattle.heck.specs.Case.{between, is-lower, is-upper, is-digit, class, in-word, lowered, raised, lower-first, to-snake-case, to-upper-camel-case}
-use Rattle.heck.specs.Pass.{next, first, at-start, separated, spelt, character, piece, cased}
+use Rattle.heck.specs.Case.{between, is-lower, is-upper, is-digit, class, in-word, lowered, raised, lower-first}
+use Rattle.heck.specs.Pass.{next, first, separated, spelt, character, piece, cased}
 use Rattle.heck.specs.declared.Class.{Class}
 use Rattle.heck.specs.declared.Class.the-variants.{Other, Digit, Lower, Upper}
 use Rattle.heck.specs.declared.State.{State}
-use Rattle.heck.specs.declared.State.the-variants.{Start, Between, Digits, Lower as In-lower, Upper as In-upper}
-use Rattle.heck.proofs.Characters.{from-low, to-high, within, under}
-use Rattle.heck.proofs.Spelling.{snake-cased, camel-cased}
-use Rattle.ident.specs.Name.{every, has-word, name-start, name-part}
+use Rattle.heck.specs.declared.State.the-variants.{Start}
+use Rattle.heck.proofs.Characters.{to-high, under, lower-of-upper, upper-of-lower}
+use Rattle.ident.specs.Name.{every, has-word}
 use Rattle.ident.proofs.EveryLaws.{every-cons, every-append}
 
 -- ---- characters
@@ -55,19 +53,13 @@ module _ (c : ℕ) where
       on (inr p) (inr q) (inr r) = both-ways h (rw (p, q, r))
 
 module _ (c : ℕ) where
-  lower-of-upper : is-upper c ≡ true → is-lower (c + 32) ≡ true
-  lower-of-upper e = let h = from-low 65 90 c e in let k = to-high 65 90 c e in within 97 122 (c + 32) (omega arith) (omega arith)
-
-  upper-of-lower : is-lower c ≡ true → is-upper (c - 32) ≡ true
-  upper-of-lower e = let h = from-low 97 122 c e in let k = to-high 97 122 c e in within 65 90 (c - 32) (omega arith) (omega arith)
-
   pub lowered-alphanumeric : alphanumeric c ≡ true → alphanumeric (lowered c) ≡ true
   unfolding lowered
-  lowered-alphanumeric h = choose-case (λ x. alphanumeric x ≡ true) (is-upper c) (λ e. lower-alphanumeric (c + 32) (lower-of-upper e)) (λ e. h)
+  lowered-alphanumeric h = choose-case (λ x. alphanumeric x ≡ true) (is-upper c) (λ e. lower-alphanumeric (c + 32) (lower-of-upper c e)) (λ e. h)
 
   pub raised-alphanumeric : alphanumeric c ≡ true → alphanumeric (raised c) ≡ true
   unfolding raised
-  raised-alphanumeric h = choose-case (λ x. alphanumeric x ≡ true) (is-lower c) (λ e. upper-alphanumeric (c - 32) (upper-of-lower e)) (λ e. h)
+  raised-alphanumeric h = choose-case (λ x. alphanumeric x ≡ true) (is-lower c) (λ e. upper-alphanumeric (c - 32) (upper-of-lower c e)) (λ e. h)
 
   pub raised-no-lower : is-lower (raised c) ≡ false
   unfolding raised
@@ -78,7 +70,7 @@ module _ (c : ℕ) where
   pub lowered-in-snake : alphanumeric c ≡ true → in-snake (lowered c) ≡ true
   unfolding lowered
   lowered-in-snake h =
-      choose-case (λ x. in-snake x ≡ true) (is-upper c) (λ e. or-left (is-digit (c + 32) || eqb (c + 32) 95) (lower-of-upper e)) (λ e. on e (alphanumeric-cases c h))
+      choose-case (λ x. in-snake x ≡ true) (is-upper c) (λ e. or-left (is-digit (c + 32) || eqb (c + 32) 95) (lower-of-upper c e)) (λ e. on e (alphanumeric-cases c h))
     where
       on : is-upper c ≡ false → (is-lower c ≡ true) ⊎ ((is-upper c ≡ true) ⊎ (is-digit c ≡ true)) → in-snake c ≡ true
       on e (inl p) = or-left (is-digit c || eqb c 95) p

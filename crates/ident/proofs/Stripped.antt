@@ -4,7 +4,7 @@ use mathlib.Core.Bool.{Bool, true, false, not, _||_}
 use mathlib.Core.Logic.{_⊎_, inl, inr}
 use mathlib.Core.Option.{Option, some, none}
 use mathlib.Core.List.{List, [], _∷_, _++_}
-use Prim.Native.Nat.{ℕ, _≤_, _<_}
+use Prim.Native.Nat.{ℕ}
 use native.Mathlib.Omega.{arith}
 use lib.Dec.{eqb}
 use lib.ListN.{getD}
@@ -12,15 +12,15 @@ use borrow.Author.Tests.{ne-eqb, not-true}
 use Rattle.base.specs.Choose.{choose, choose-case}
 use Rattle.base.specs.Bytes.{b, same, same-sound}
 use Rattle.base.specs.Tests.{bool-cases, both-ways, or-cases}
-use Rattle.heck.specs.Case.{between, is-lower, is-upper, is-digit, class, in-word, to-upper-camel-case}
+use Rattle.heck.specs.Case.{between, is-lower, is-upper, is-digit, class, to-upper-camel-case}
 use Rattle.heck.specs.Pass.{cased}
 use Rattle.heck.specs.declared.State.the-variants.{Start}
-use Rattle.heck.proofs.Characters.{from-low, to-high, under}
+use Rattle.heck.proofs.Characters.{to-high, under}
 use Rattle.heck.proofs.Spelling.{camel-cased}
 use Rattle.ident.specs.Name.{every}
 use Rattle.ident.specs.Ident.{among, raw-words, kept-words, addition, is-trailing, with-addition, sanitize-identifier, to-upper-camel, strip-prefix, true-prefix, strip-enum-prefix}
 use Rattle.ident.specs.declared.keywords.Addition.{Addition}
-use Rattle.ident.specs.declared.keywords.Addition.the-variants.{Nothing, Raw, Trailing, Leading}
+use Rattle.ident.specs.declared.keywords.Addition.the-variants.{Nothing, Trailing, Leading}
 use Rattle.ident.proofs.EveryLaws.{every-head, every-tail, all, all-among, none-among}
 use Rattle.ident.proofs.Spelled.{alphanumeric, cased-alphanumeric, camel-first}
 
@@ -43,7 +43,7 @@ plain-first [] h = refl
 plain-first (c ∷ s) h = ne-eqb c 95 (plain-head c s h)
 
 -- ---- what sanitising adds to a camel name
-lower-word : List ℕ → Bool
+unfoldable pub lower-word : List ℕ → Bool
 lower-word w = is-lower (getD w 0 0)
 
 -- of the words that gain `_`, only `Self` is one

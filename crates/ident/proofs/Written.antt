@@ -1,17 +1,17 @@
 -- What is written for a name is an identifier by the Rust Reference, and never a word that may not stand there. Assumes nothing.
-use mathlib.Core.Path.{_≡_, refl, sym, ap, subst, _∙_}
-use mathlib.Core.Bool.{Bool, true, false, _||_, _&&_, not, or-false}
+use mathlib.Core.Path.{_≡_, refl, ap}
+use mathlib.Core.Bool.{Bool, true, false, _||_, not}
 use mathlib.Core.Logic.{_⊎_, inl, inr}
 use mathlib.Core.Option.{Option, some, none}
 use mathlib.Core.List.{List, [], _∷_, _++_}
 use Prim.Native.Nat.{ℕ}
 use lib.Dec.{eqb}
-use lib.ListN.{getD, take, drop}
+use lib.ListN.{getD}
 use borrow.Author.Tests.{not-true}
 use Rattle.base.specs.Choose.{choose, choose-case}
 use Rattle.base.specs.Tests.{bool-cases, both-ways, and-both, or-left, or-right, or-cases}
 use Rattle.base.specs.Bytes.{b, same}
-use Rattle.heck.specs.Case.{between, is-lower, is-upper, is-digit, class, in-word, to-snake-case, to-upper-camel-case}
+use Rattle.heck.specs.Case.{between, is-lower, is-upper, is-digit, class, to-snake-case, to-upper-camel-case}
 use Rattle.heck.specs.Pass.{cased}
 use Rattle.heck.specs.declared.State.the-variants.{Start}
 use Rattle.heck.proofs.Spelling.{snake-cased, camel-cased}
@@ -19,8 +19,8 @@ use Rattle.ident.specs.Name.{name-start, name-part, every, is-name, has-
 use Rattle.ident.specs.Ident.{among, raw-words, kept-words, addition, is-trailing, with-addition, sanitize-identifier, to-snake, to-upper-camel, strip-prefix, true-prefix, strip-enum-prefix}
 use Rattle.ident.specs.Reference.{strict-keywords, reserved-keywords, keywords, never-raw, non-keyword-identifier, raw-identifier, identifier, primitive-types}
 use Rattle.ident.proofs.EveryLaws.{every-append, every-head, every-tail, every-also, all, all-among, none-among}
-use Rattle.ident.proofs.Spelled.{alphanumeric, in-snake, alphanumeric-cases, upper-alphanumeric, cased-alphanumeric, cased-in-snake, cased-first}
-use Rattle.ident.proofs.Stripped.{no-raw, camel, strip-cased}
+use Rattle.ident.proofs.Spelled.{alphanumeric, in-snake, alphanumeric-cases, upper-alphanumeric, cased-in-snake, cased-first}
+use Rattle.ident.proofs.Stripped.{lower-word, no-raw, camel, strip-cased}
 
 -- ---- sanitising, by its four cases
 data Sanitized (y : List ℕ) : List ℕ → Type 0 where
@@ -218,11 +218,8 @@ unfolding strip-enum-prefix
 variant-free prefix name = sanitized-free (true-prefix (strip-prefix prefix name) name)
 
 -- ---- a camel name is no primitive type's name, whatever that begins with no lowercase letter stands behind it
-lower-first-word : List ℕ → Bool
-lower-first-word w = is-lower (getD w 0 0)
-
-primitives-low : all lower-first-word primitive-types ≡ true
-unfolding all lower-first-word primitive-types between
+primitives-low : all lower-word primitive-types ≡ true
+unfolding all lower-word primitive-types between
 primitives-low = refl
 
 high-append : (x t : List ℕ) → is-lower (getD x 0 0) ≡ false → is-lower (getD t 0 0) ≡ false → is-lower (getD (x ++ t) 0 0) ≡ false
@@ -241,5 +238,5 @@ unfolding to-upper-camel
 camel-high s = high-as (to-upper-camel-case s) (to-upper-camel s) (sanitized (to-upper-camel-case s)) (camel s .high)
 
 pub camel-no-primitive : (s t : List ℕ) → is-lower (getD t 0 0) ≡ false → among (to-upper-camel s ++ t) primitive-types ≡ false
-unfolding lower-first-word
-camel-no-primitive s t h = none-among lower-first-word (to-upper-camel s ++ t) primitive-types primitives-low (high-append (to-upper-camel s) t (camel-high s) h)
+unfolding lower-word
+camel-no-primitive s t h = none-among lower-word (to-upper-camel s ++ t) primitive-types primitives-low (high-append (to-upper-camel s) t (camel-high s) h)

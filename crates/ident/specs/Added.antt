@@ -1,6 +1,6 @@
 -- What sanitising adds, in front of a name and behind it.
 use mathlib.Core.Path.{_≡_, refl, ap, _∙_}
-use mathlib.Core.List.{List, [], _∷_, _++_, append-nil}
+use mathlib.Core.List.{List, [], _++_, append-nil}
 use Prim.Native.Nat.{ℕ}
 use Rattle.base.specs.Bytes.{b}
 use Rattle.ident.specs.Ident.{addition, with-addition, sanitize-identifier}

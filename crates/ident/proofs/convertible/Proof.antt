@@ -1,32 +1,24 @@
+-- `ident::convertible` meets its contract. Assumes nothing.
 use borrow.Author.Tests.{le-leb, lt-leb}
 use Rattle.ident.specs.Convert.{convertible}
 use borrow.Author.Needs.{needs}
 use Rattle.ident.proofs.convertible.Statement.{statement}
 use Rattle.ident.proofs.convertible.Tie as tie
-use Rattle.ident.proofs.convertible.Reads as reads
-use Rattle.ident.proofs.convertible.Lts as lts
-use Rattle.ident.proofs.names.has_word.Reads as has-word-reads
-use Rattle.ident.proofs.names.is_name.Reads as is-name-reads
 
--- src/names.rt:70:9
 is-name-requires : tie.Need-is-name-requires
 is-name-requires c κs = search needs
 
--- src/names.rt:73:13
 has-word-requires : tie.Need-has-word-requires
 has-word-requires c κs = search needs
 
--- src/names.rt:73:13
 returns : tie.Need-returns
 unfolding convertible
 returns c = rw (← c .before .before .before .is-name .ensures, c .before .before .if1 .taken, le-leb _ _ (c .before .if2 .taken)) (c .has-word .ensures)
 
--- src/names.rt:75:9
 returns-2 : tie.Need-returns-2
 unfolding convertible
 returns-2 c = rw (← c .before .before .is-name .ensures, c .before .if1 .taken, lt-leb _ _ (c .if2 .left))
 
--- src/names.rt:67:1
 returns-3 : tie.Need-returns-3
 unfolding convertible
 returns-3 c = rw (← c .before .is-name .ensures, c .if1 .left)

@@ -1,14 +1,9 @@
+-- `ident_cases::compare` meets its contract. Assumes nothing.
 use Prim.Native.Nat.{_-_, _≤_}
 use lib.ListN.{length}
-use native.Mathlib.Omega.{arith}
 use borrow.Author.Needs.{needs}
 use Rattle.ident_cases.proofs.compare.Statement.{statement}
 use Rattle.ident_cases.proofs.compare.Tie as tie
-use Rattle.ident_cases.proofs.compare.Reads as reads
-use Rattle.ident_cases.proofs.compare.Lts as lts
-use Rattle.ident_cases.proofs.agrees.Reads as agrees-reads
-use Rattle.ident_cases.proofs.counted.Reads as counted-reads
-use Rattle.ident_cases.proofs.line_at.Reads as line-at-reads
 
 abbrev Inv-loop : tie.InvT-loop
 Inv-loop s strip t₀ at₀ t at = at ≤ length s
@@ -16,67 +11,51 @@ Inv-loop s strip t₀ at₀ t at = at ≤ length s
 abbrev μ-loop : tie.MeasureT-loop
 μ-loop s strip t₀ at₀ t at = length s - at
 
--- src/main.rt:149:5
 loop-holds : tie.Need-loop-holds Inv-loop μ-loop
 loop-holds c = search needs
 
--- src/main.rt:150:13
 line-at-requires : tie.Need-line-at-requires Inv-loop μ-loop
 line-at-requires c κs = search needs
 
--- src/main.rt:158:13
 sub-agrees : tie.Need-sub-agrees Inv-loop μ-loop
 sub-agrees c = search needs
 
--- src/main.rt:158:13
 part-agrees-start : tie.Need-part-agrees-start Inv-loop μ-loop
 part-agrees-start c = search needs
 
--- src/main.rt:158:13
 part-agrees-end : tie.Need-part-agrees-end Inv-loop μ-loop
 part-agrees-end c = search needs
 
--- src/main.rt:159:13
 sub-agrees-2 : tie.Need-sub-agrees-2 Inv-loop μ-loop
 sub-agrees-2 c = search needs
 
--- src/main.rt:159:13
 part-agrees-start-2 : tie.Need-part-agrees-start-2 Inv-loop μ-loop
 part-agrees-start-2 c = search needs
 
--- src/main.rt:159:13
 part-agrees-end-2 : tie.Need-part-agrees-end-2 Inv-loop μ-loop
 part-agrees-end-2 c = search needs
 
--- src/main.rt:160:13
 sub-agrees-3 : tie.Need-sub-agrees-3 Inv-loop μ-loop
 sub-agrees-3 c = search needs
 
--- src/main.rt:160:13
 part-agrees-start-3 : tie.Need-part-agrees-start-3 Inv-loop μ-loop
 part-agrees-start-3 c = search needs
 
--- src/main.rt:160:13
 part-agrees-end-3 : tie.Need-part-agrees-end-3 Inv-loop μ-loop
 part-agrees-end-3 c = search needs
 
--- src/main.rt:156:13
 agrees-requires : tie.Need-agrees-requires Inv-loop μ-loop
 agrees-requires c κs = search needs
 
--- src/main.rt:162:9
 counted-requires : tie.Need-counted-requires Inv-loop μ-loop
 counted-requires c κs = search needs
 
--- src/main.rt:149:5
 loop-less : tie.Need-loop-less Inv-loop μ-loop
 loop-less c = search needs
 
--- src/main.rt:149:5
 loop-again : tie.Need-loop-again Inv-loop μ-loop
 loop-again c = search needs
 
--- src/main.rt:143:1
 returns : tie.Need-returns Inv-loop μ-loop
 returns c = search needs
 

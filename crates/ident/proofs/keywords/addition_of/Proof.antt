@@ -1,3 +1,4 @@
+-- `ident::keywords::addition_of` meets its contract. Assumes nothing.
 use mathlib.Core.Path.{_∙_, ap}
 use Rattle.base.specs.Choose.{choose}
 use Rattle.ident.specs.Ident.{addition, among}
@@ -5,52 +6,37 @@ use Rattle.ident.proofs.AdditionLaws.{raw-spaced, kept-spaced}
 use borrow.Author.Needs.{needs}
 use Rattle.ident.proofs.keywords.addition_of.Statement.{statement}
 use Rattle.ident.proofs.keywords.addition_of.Tie as tie
-use Rattle.ident.proofs.keywords.addition_of.Reads as reads
-use Rattle.ident.proofs.keywords.addition_of.Lts as lts
-use Rattle.base.proofs.byte_at.Reads as byte-at-reads
-use Rattle.heck.proofs.is_digit.Reads as is-digit-reads
-use Rattle.ident.proofs.keywords.listed.Reads as listed-reads
 
--- src/keywords.rt:41:9
 slice-aggregate-listed : tie.Need-slice-aggregate-listed
 slice-aggregate-listed c = search needs
 
--- src/keywords.rt:39:9
 listed-requires : tie.Need-listed-requires
 listed-requires c κs = search needs
 
--- src/keywords.rt:44:9
 returns : tie.Need-returns
 unfolding addition choose
 returns c = let raw = c .before .listed .ensures ∙ ap (among _) raw-spaced in rw (← raw, c .if1 .taken)
 
--- src/keywords.rt:46:26
 slice-aggregate-listed-2 : tie.Need-slice-aggregate-listed-2
 slice-aggregate-listed-2 c = search needs
 
--- src/keywords.rt:46:9
 listed-requires-2 : tie.Need-listed-requires-2
 listed-requires-2 c κs = search needs
 
--- src/keywords.rt:48:9
 returns-2 : tie.Need-returns-2
 unfolding addition choose
 returns-2 c = let raw = c .before .before .before .before .listed .ensures ∙ ap (among _) raw-spaced in let kept = c .before .listed2 .ensures ∙ ap (among _) kept-spaced in rw (← raw, c .before .before .before .if1 .left, ← kept, c .if2 .taken)
 
--- src/keywords.rt:50:32
 byte-at-requires : tie.Need-byte-at-requires
 byte-at-requires c κs = search needs
 
--- src/keywords.rt:50:9
 is-digit-requires : tie.Need-is-digit-requires
 is-digit-requires c κs = search needs
 
--- src/keywords.rt:52:9
 returns-3 : tie.Need-returns-3
 unfolding addition choose
 returns-3 c = let raw = c .before .before .before .before .before .before .before .listed .ensures ∙ ap (among _) raw-spaced in let kept = c .before .before .before .before .listed2 .ensures ∙ ap (among _) kept-spaced in rw (← raw, c .before .before .before .before .before .before .if1 .left, ← kept, c .before .before .before .if2 .left, ← c .before .before .byte-at .ensures, ← c .before .is-digit .ensures, c .if3 .taken)
 
--- src/keywords.rt:36:1
 returns-4 : tie.Need-returns-4
 unfolding addition choose
 returns-4 c = let raw = c .before .before .before .before .before .before .before .listed .ensures ∙ ap (among _) raw-spaced in let kept = c .before .before .before .before .listed2 .ensures ∙ ap (among _) kept-spaced in rw (← raw, c .before .before .before .before .before .before .if1 .left, ← kept, c .before .before .before .if2 .left, ← c .before .before .byte-at .ensures, ← c .before .is-digit .ensures, c .if3 .left)

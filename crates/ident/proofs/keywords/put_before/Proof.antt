@@ -1,64 +1,48 @@
+-- `ident::keywords::put_before` meets its contract. Assumes nothing.
 use Rattle.writer.specs.Wrote.{none}
 use borrow.Author.Needs.{needs}
 use Rattle.ident.proofs.keywords.put_before.Statement.{statement}
 use Rattle.ident.proofs.keywords.put_before.Tie as tie
-use Rattle.ident.proofs.keywords.put_before.Reads as reads
-use Rattle.ident.proofs.keywords.put_before.Lts as lts
-use Rattle.writer.proofs.put.Reads as put-reads
 
--- src/keywords.rt:75:30
 enum-told : tie.Need-enum-told
 enum-told c = search needs
 
--- src/keywords.rt:76:38
 enum-told-2 : tie.Need-enum-told-2
 enum-told-2 c = search needs
 
--- src/keywords.rt:76:45
 slice-aggregate-put : tie.Need-slice-aggregate-put
 slice-aggregate-put c = search needs
 
--- src/keywords.rt:76:26
 put-requires : tie.Need-put-requires
 put-requires c κs = search needs
 
--- src/keywords.rt:77:31
 enum-told-3 : tie.Need-enum-told-3
 enum-told-3 c = search needs
 
--- src/keywords.rt:78:42
 enum-told-4 : tie.Need-enum-told-4
 enum-told-4 c = search needs
 
--- src/keywords.rt:78:49
 slice-aggregate-put-2 : tie.Need-slice-aggregate-put-2
 slice-aggregate-put-2 c = search needs
 
--- src/keywords.rt:78:30
 put-requires-2 : tie.Need-put-requires-2
 put-requires-2 c κs = search needs
 
--- src/keywords.rt:71:1
 returns : tie.Need-returns
 returns c = rw (c .enum-told .given .1) (none (search needs))
 
--- src/keywords.rt:71:1
 same-length : tie.Need-same-length
 same-length c = search needs
 
--- src/keywords.rt:71:1
 returns-2 : tie.Need-returns-2
 returns-2 c = rw (c .before .before .before .before .before .enum-told2 .given .1) (c .before .before .put .ensures)
 
--- src/keywords.rt:71:1
 returns-3 : tie.Need-returns-3
 returns-3 c = rw (c .enum-told3 .given .1) (none (search needs))
 
--- src/keywords.rt:71:1
 same-length-2 : tie.Need-same-length-2
 same-length-2 c = search needs
 
--- src/keywords.rt:71:1
 returns-4 : tie.Need-returns-4
 returns-4 c = rw (c .before .before .before .before .before .enum-told4 .given .1) (c .before .before .put2 .ensures)
 

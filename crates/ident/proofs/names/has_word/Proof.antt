@@ -1,15 +1,12 @@
-use Rattle.heck.proofs.is_alphanumeric.Reads as is-alphanumeric-reads
+-- `ident::names::has_word` meets its contract. The loop's invariant: what is left has a letter or digit where the whole has. Assumes nothing.
 use Prim.Native.Nat.{_-_}
 use lib.ListN.{length, drop}
-use mathlib.Core.Path.{_≡_, refl, sym, ap, _∙_}
+use mathlib.Core.Path.{_≡_, refl, _∙_}
 use borrow.Author.Needs.{needs}
-use Rattle.heck.specs.Case.{in-word}
 use Rattle.ident.specs.Name.{has-word}
 use Rattle.ident.proofs.NameLaws.{has-end, has-yes, has-no}
 use Rattle.ident.proofs.names.has_word.Statement.{statement}
 use Rattle.ident.proofs.names.has_word.Tie as tie
-use Rattle.ident.proofs.names.has_word.Reads as reads
-use Rattle.ident.proofs.names.has_word.Lts as lts
 
 abbrev Inv-loop : tie.InvT-loop
 Inv-loop s i₀ i = has-word (drop i s) ≡ has-word s
@@ -17,35 +14,27 @@ Inv-loop s i₀ i = has-word (drop i s) ≡ has-word s
 abbrev μ-loop : tie.MeasureT-loop
 μ-loop s i₀ i = length s - i
 
--- src/names.rt:56:5
 loop-holds : tie.Need-loop-holds Inv-loop μ-loop
 loop-holds c = refl
 
--- src/names.rt:57:42
 shared-slice-read-is-alphanumeric : tie.Need-shared-slice-read-is-alphanumeric Inv-loop μ-loop
 shared-slice-read-is-alphanumeric c = search needs
 
--- src/names.rt:57:13
 is-alphanumeric-requires : tie.Need-is-alphanumeric-requires Inv-loop μ-loop
 is-alphanumeric-requires c κs = search needs
 
--- src/names.rt:59:13
 returns : tie.Need-returns Inv-loop μ-loop
 returns c = has-yes _ _ (c .before .before .before .loop-test .taken) _ (c .before .is-alphanumeric .ensures) (c .if1 .taken) ∙ c .before .before .before .before .loop .inv
 
--- src/names.rt:61:9
 add-i : tie.Need-add-i Inv-loop μ-loop
 add-i c = search needs
 
--- src/names.rt:56:5
 loop-less : tie.Need-loop-less Inv-loop μ-loop
 loop-less c = search needs
 
--- src/names.rt:56:5
 loop-again : tie.Need-loop-again Inv-loop μ-loop
 loop-again c = has-no _ _ (c .before .before .before .loop-test .taken) _ (c .before .is-alphanumeric .ensures) (c .if1 .left) ∙ c .before .before .before .before .loop .inv
 
--- src/names.rt:52:1
 returns-2 : tie.Need-returns-2 Inv-loop μ-loop
 returns-2 c = has-end _ _ (c .loop-test .left) ∙ c .before .loop .inv
 

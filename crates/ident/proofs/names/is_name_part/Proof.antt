@@ -1,26 +1,19 @@
+-- `ident::names::is_name_part` meets its contract. Assumes nothing.
 use Rattle.ident.specs.Name.{name-part}
 use borrow.Author.Needs.{needs}
 use Rattle.ident.proofs.names.is_name_part.Statement.{statement}
 use Rattle.ident.proofs.names.is_name_part.Tie as tie
-use Rattle.ident.proofs.names.is_name_part.Reads as reads
-use Rattle.ident.proofs.names.is_name_part.Lts as lts
-use Rattle.heck.proofs.is_digit.Reads as is-digit-reads
-use Rattle.ident.proofs.names.is_name_start.Reads as is-name-start-reads
 
--- src/names.rt:23:9
 is-digit-requires : tie.Need-is-digit-requires
 is-digit-requires c κs = search needs
 
--- src/names.rt:25:9
 returns : tie.Need-returns
 unfolding name-part
 returns c = rw (← c .before .is-digit .ensures, c .if1 .taken)
 
--- src/names.rt:27:5
 is-name-start-requires : tie.Need-is-name-start-requires
 is-name-start-requires c κs = search needs
 
--- src/names.rt:20:1
 returns-2 : tie.Need-returns-2
 unfolding name-part
 returns-2 c = rw (← c .before .before .is-digit .ensures, c .before .if1 .left) (c .is-name-start .ensures)

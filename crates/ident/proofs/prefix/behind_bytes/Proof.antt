@@ -1,7 +1,8 @@
+-- `ident::prefix::behind_bytes` meets its contract. The loop's invariant: as that of `behind`, on bytes. Assumes nothing.
 use Prim.Native.Nat.{_-_}
 use lib.ListN.{length, drop, drop-of-length-le}
 use lib.Seq.{drop-cons}
-use mathlib.Core.Path.{_≡_, refl, sym, ap, _∙_}
+use mathlib.Core.Path.{_≡_, refl, sym, _∙_}
 use native.Mathlib.Numerals.{add-one}
 use native.Mathlib.Omega.{arith}
 use borrow.Author.Needs.{needs}
@@ -9,9 +10,6 @@ use Rattle.ident.specs.Ident.{strip-prefix}
 use Rattle.ident.proofs.PrefixLaws.{alike, unlike, capital-left, no-capital, none-left}
 use Rattle.ident.proofs.prefix.behind_bytes.Statement.{statement}
 use Rattle.ident.proofs.prefix.behind_bytes.Tie as tie
-use Rattle.ident.proofs.prefix.behind_bytes.Reads as reads
-use Rattle.ident.proofs.prefix.behind_bytes.Lts as lts
-use Rattle.heck.proofs.is_upper.Reads as is-upper-reads
 
 abbrev Inv-loop : tie.InvT-loop
 Inv-loop prefix name i₀ i = strip-prefix (drop i prefix) (drop i name) ≡ strip-prefix prefix name
@@ -19,55 +17,42 @@ Inv-loop prefix name i₀ i = strip-prefix (drop i prefix) (drop i name) ≡ str
 abbrev μ-loop : tie.MeasureT-loop
 μ-loop prefix name i₀ i = length prefix - i
 
--- src/prefix.rt:108:5
 loop-holds : tie.Need-loop-holds Inv-loop μ-loop
 loop-holds c = refl
 
--- src/prefix.rt:110:13
 returns : tie.Need-returns Inv-loop μ-loop
 returns c = record { rest = sym (none-left _ _ _ _ (c .before .before .loop .inv) (drop-of-length-le _ (c .if1 .taken))); inside = omega arith }
 
--- src/prefix.rt:112:12
 shared-slice-read-if2 : tie.Need-shared-slice-read-if2 Inv-loop μ-loop
 shared-slice-read-if2 c = search needs
 
--- src/prefix.rt:112:25
 shared-slice-read-if2-2 : tie.Need-shared-slice-read-if2-2 Inv-loop μ-loop
 shared-slice-read-if2-2 c = search needs
 
--- src/prefix.rt:113:13
 returns-2 : tie.Need-returns-2 Inv-loop μ-loop
 returns-2 c = record { rest = sym (unlike _ _ _ _ (c .before .before .before .before .before .loop .inv) (drop-cons _ _ 0 (c .before .before .before .before .loop-test .taken)) (drop-cons _ _ 0 (c .before .before .before .if1 .left)) (c .if2 .taken)); inside = omega arith }
 
--- src/prefix.rt:115:9
 add-i : tie.Need-add-i Inv-loop μ-loop
 add-i c = search needs
 
--- src/prefix.rt:108:5
 loop-less : tie.Need-loop-less Inv-loop μ-loop
 loop-less c = search needs
 
--- src/prefix.rt:108:5
 loop-again : tie.Need-loop-again Inv-loop μ-loop
 loop-again c = rw add-one (alike _ _ _ _ (c .before .before .before .before .before .loop .inv) (drop-cons _ _ 0 (c .before .before .before .before .loop-test .taken)) (drop-cons _ _ 0 (c .before .before .before .if1 .left)) (c .if2 .left))
 
--- src/prefix.rt:118:9
 returns-3 : tie.Need-returns-3 Inv-loop μ-loop
 returns-3 c = record { rest = sym (none-left _ _ _ _ (c .before .before .loop .inv) (drop-of-length-le _ (c .if3 .taken))); inside = omega arith }
 
--- src/prefix.rt:120:32
 shared-slice-read-is-upper : tie.Need-shared-slice-read-is-upper Inv-loop μ-loop
 shared-slice-read-is-upper c = search needs
 
--- src/prefix.rt:120:9
 is-upper-requires : tie.Need-is-upper-requires Inv-loop μ-loop
 is-upper-requires c κs = search needs
 
--- src/prefix.rt:122:9
 returns-4 : tie.Need-returns-4 Inv-loop μ-loop
 returns-4 c = record { rest = sym (capital-left _ _ _ _ (c .before .before .before .before .before .loop .inv) (drop-of-length-le _ (c .before .before .before .before .loop-test .left)) (drop-cons _ _ 0 (c .before .before .before .if3 .left)) (sym (c .before .is-upper .ensures) ∙ c .if4 .taken)); inside = omega arith }
 
--- src/prefix.rt:104:1
 returns-5 : tie.Need-returns-5 Inv-loop μ-loop
 returns-5 c = record { rest = sym (no-capital _ _ _ _ (c .before .before .before .before .before .loop .inv) (drop-of-length-le _ (c .before .before .before .before .loop-test .left)) (drop-cons _ _ 0 (c .before .before .before .if3 .left)) (sym (c .before .is-upper .ensures) ∙ c .if4 .left)); inside = omega arith }
 
