@@ -5,3 +5,4 @@ pub mod Given
 pub mod Each
 pub mod Steps
 pub mod Encoded
+pub mod Lists

@@ -5,6 +5,7 @@ use mathlib.Core.Option.{some, none}
 use mathlib.Core.List.{List, [], _∷_}
 use Rattle.base.specs.Bytes.{b, same}
 use Rattle.base.specs.Choose.{choose}
+use Rattle.base.specs.Lists.{all}
 use Rattle.writer.specs.Text.{indent}
 use Rattle.writer.specs.Decimal.{digits}
 use Rattle.heck.specs.Case.{between, class, lowered, raised, parts, words, to-snake-case, to-upper-camel-case}
@@ -19,7 +20,7 @@ use Rattle.extern_paths.specs.Split.{begins, split-behind, split}
 use Rattle.extern_paths.specs.ExternPaths.{extern-paths, taken}
 use Rattle.name_rules.specs.FullNames.{entries, set-entries}
 use Rattle.context.specs.MessageGraph.{fields-of}
-use Rattle.context.specs.Context.{all, type-eq, should-box, field-copy, field-eq, message-copy, message-eq, can-message-derive-copy, can-message-derive-eq}
+use Rattle.context.specs.Context.{type-eq, should-box, field-copy, field-eq, message-copy, message-eq, can-message-derive-copy, can-message-derive-eq}
 use Rattle.code_generator.specs.Piece.{through, way-text, flat}
 use Rattle.code_generator.specs.Resolve.{local-path, ident-path, ident-type, skip-common, way, prost, resolve-ident, resolve-type, field-type-tag}
 use Rattle.code_generator.specs.Attributes.{attributes, append-deprecated, append-type-attributes, append-message-attributes, append-field-attributes, derive, append-prost-path-attribute, append-skip-debug}

@@ -3,6 +3,7 @@ use Prim.Native.Nat.{ℕ, suc}
 use mathlib.Core.Bool.{Bool, true, false, _||_, not}
 use mathlib.Core.Option.{Option, some, none}
 use mathlib.Core.List.{List, [], _∷_}
+use Rattle.base.specs.Lists.{is-empty}
 use Rattle.syntax.specs.Syntax.{syntax-of}
 use Rattle.syntax.specs.declared.Syntax.{Syntax}
 use Rattle.syntax.specs.declared.Syntax.the-variants.{Proto2, Proto3, Unknown}
@@ -16,7 +17,7 @@ use Rattle.code_generator.specs.Piece.{Text, nothing, piece, _⟫_, when
 use Rattle.code_generator.specs.Attributes.{line, end, derive, append-type-attributes, append-message-attributes, append-prost-path-attribute, append-skip-debug}
 use Rattle.code_generator.specs.Fields.{append-field}
 use Rattle.code_generator.specs.MapFields.{MapEntry, map-entry-of, append-map-field}
-use Rattle.code_generator.specs.Oneofs.{plain-fields, oneof-fields, is-empty, append-oneof-fields, append-oneofs}
+use Rattle.code_generator.specs.Oneofs.{plain-fields, oneof-fields, append-oneof-fields, append-oneofs}
 use Rattle.code_generator.specs.Enums.{append-enums}
 
 -- nested_types: is a message nested that is no map entry?

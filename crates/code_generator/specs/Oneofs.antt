@@ -6,13 +6,14 @@ use mathlib.Core.List.{List, [], _∷_}
 use lib.Dec.{eqb}
 use Rattle.base.specs.Bytes.{same}
 use Rattle.base.specs.Choose.{choose}
+use Rattle.base.specs.Lists.{all, is-empty}
 use Rattle.writer.specs.Decimal.{decimal}
 use Rattle.ident.specs.Ident.{to-upper-camel}
 use Rattle.descriptor.specs.Descriptor.{Bytes, Forest, done, node, FieldDescriptor, EnumDescriptor, MessageDescriptor, FileDescriptor}
 use Rattle.options.specs.Settings.{Setting}
 use Rattle.name_rules.specs.Accessors.{text, number}
 use Rattle.name_rules.specs.FullNames.{_·_}
-use Rattle.context.specs.Context.{all, should-box-oneof-field, can-field-derive-copy, can-field-derive-eq}
+use Rattle.context.specs.Context.{should-box-oneof-field, can-field-derive-copy, can-field-derive-eq}
 use Rattle.code_generator.specs.Piece.{Text, nothing, piece, _⟫_, _▹_, _◃_, raw, decl-open, path, Way, Spelling, snake, camel, oneof-type, choice, opt, comma, tag-open, tag-close, wrap-open, wrap-close, lit, push-indent}
 use Rattle.code_generator.specs.Piece.{label as label-piece}
 use Rattle.code_generator.specs.Resolve.{resolve-type, field-type-tag}
@@ -59,10 +60,6 @@ enum-meets x (e ∷ es) = same (to-upper-camel (text (e .name))) x || enum-meets
 
 abbrev pub meets : MessageDescriptor → Forest MessageDescriptor → Bytes → Bool
 meets m nested name = nested-meets (to-upper-camel name) nested || enum-meets (to-upper-camel name) (m .enums)
-
-abbrev pub is-empty : {A : Type 0} → List A → Bool
-is-empty [] = true
-is-empty (x ∷ xs) = false
 
 -- the oneofs from the index i on: one left without fields is left out
 unfoldable pub oneofs-from : MessageDescriptor → Forest MessageDescriptor → ℕ → List (Option Bytes) → List OneofField

@@ -3,6 +3,7 @@ use mathlib.Core.Bool.{Bool, true, false, _||_, _&&_, not}
 use mathlib.Core.Option.{Option, some, none}
 use mathlib.Core.List.{List, [], _∷_, map}
 use lib.Dec.{eqb}
+use Rattle.base.specs.Lists.{any}
 use Rattle.path.specs.Forms.{among}
 use Rattle.c_escaping.specs.Unescape.{unescapes}
 use Rattle.field_types.specs.Types.{sort-of, bytes}
@@ -15,10 +16,6 @@ use Rattle.code_generator.specs.Piece.{spelt}
 use Rattle.code_generator.specs.MapFields.{MapEntry, map-entry-of}
 use Rattle.code_generator.specs.Oneofs.{plain-fields}
 use Rattle.code_generator.specs.Enums.{build-enum-value-mappings, generated-variant-name}
-
-unfoldable pub any : {A : Type 0} → (A → Bool) → List A → Bool
-any p [] = false
-any p (x ∷ xs) = p x || any p xs
 
 -- does the test hold of a written message? Of each it is given the full name, and what is nested in it
 unfoldable pub any-message : List Setting → (Bytes → MessageDescriptor → Forest MessageDescriptor → Bool) → Bytes → Forest MessageDescriptor → Bool

@@ -5,6 +5,7 @@ use mathlib.Core.List.{List, [], _∷_}
 use lib.Dec.{eqb}
 use lib.ListN.{length}
 use Rattle.base.specs.Choose.{choose}
+use Rattle.base.specs.Lists.{all}
 use Rattle.field_types.specs.Types.{sort-of, can-pack, text as string, boolean, bytes, integer, enumerated}
 use Rattle.descriptor.specs.Descriptor.{Bytes, FieldDescriptor, FileDescriptor}
 use Rattle.options.specs.Settings.{Setting}
@@ -17,10 +18,6 @@ use Rattle.context.specs.MessageGraph.{fields-of, is-nested}
 -- does a row of the kind match the path?
 abbrev pub has : List Setting → ℕ → Bytes → Bool
 has rs kind path = (get-first kind path rs) .found
-
-unfoldable pub all : {A : Type 0} → (A → Bool) → List A → Bool
-all p [] = true
-all p (x ∷ xs) = p x && all p xs
 
 -- ---- what the options say of a type or a field, by its full name
 module _ (rs : List Setting) where

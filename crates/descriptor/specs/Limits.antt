@@ -7,6 +7,7 @@ use mathlib.Core.Option.{Option, none, some}
 use lib.ListN.{length}
 use lib.Dec.{ltb, eqb}
 use Rattle.base.specs.Choose.{choose}
+use Rattle.base.specs.Lists.{any, all-of}
 use Rattle.descriptor.specs.Descriptor.{Forest, done, node, preorder, Bytes, FieldDescriptor, EnumDescriptor, MessageDescriptor, FileDescriptor}
 use Rattle.descriptor.specs.Decode.{entries, parts, decode-set, too-deep-file}
 
@@ -37,11 +38,6 @@ max-full-name = 255
 abbrev pub max-default : ℕ
 max-default = 255
 
--- one list of what each has, in order
-unfoldable pub all-of {ℓ κ} : {A : Type ℓ} {B : Type κ} → (A → List B) → List A → List B
-all-of f [] = []
-all-of f (a ∷ xs) = f a ++ all-of f xs
-
 -- over the whole set: files in turn, each message followed by those nested in it
 unfoldable pub messages-in : List FileDescriptor → List MessageDescriptor
 messages-in = all-of (λ f. preorder (f .messages))
@@ -51,11 +47,6 @@ fields-in fs = all-of (λ m. m .fields) (messages-in fs)
 
 unfoldable pub enums-in : List FileDescriptor → List EnumDescriptor
 enums-in fs = all-of (λ f. f .enums) fs ++ all-of (λ m. m .enums) (messages-in fs)
-
--- does the test pass at one of them?
-unfoldable pub some-is {ℓ} : {A : Type ℓ} → (A → Bool) → List A → Bool
-some-is t [] = false
-some-is t (a ∷ xs) = t a || some-is t xs
 
 abbrev pub length-of : Option Bytes → ℕ
 length-of none = 0
@@ -75,17 +66,17 @@ segments (c ∷ cs) = choose (eqb c 46) ([] ∷ segments cs) (on-first c (segmen
 
 abbrev pub long-package : Option Bytes → Bool
 long-package none = false
-long-package (some p) = some-is (λ s. ltb max-name (length s)) (segments p)
+long-package (some p) = any (λ s. ltb max-name (length s)) (segments p)
 
 -- limit 8: the name of a message, field, oneof, enum or value, or a segment of a package
 abbrev pub long-in-enum : EnumDescriptor → Bool
-long-in-enum e = long-name (e .name) || some-is (λ v. long-name (v .name)) (e .values)
+long-in-enum e = long-name (e .name) || any (λ v. long-name (v .name)) (e .values)
 
 abbrev pub long-in-message : MessageDescriptor → Bool
-long-in-message m = long-name (m .name) || some-is (λ f. long-name (f .name)) (m .fields) || some-is long-name (m .oneofs)
+long-in-message m = long-name (m .name) || any (λ f. long-name (f .name)) (m .fields) || any long-name (m .oneofs)
 
 unfoldable pub passes-8 : List FileDescriptor → Bool
-passes-8 fs = some-is (λ f. long-package (f .package-name)) fs || some-is long-in-message (messages-in fs) || some-is long-in-enum (enums-in fs)
+passes-8 fs = any (λ f. long-package (f .package-name)) fs || any long-in-message (messages-in fs) || any long-in-enum (enums-in fs)
 
 -- limit 9: the full name of a message or enum. A package adds its dot and bytes; an empty one adds nothing
 abbrev pub package-length : Option Bytes → ℕ
@@ -111,11 +102,11 @@ abbrev pub file-lengths : FileDescriptor → List ℕ
 file-lengths f = enum-lengths (package-length (f .package-name)) (f .enums) ++ full-lengths (package-length (f .package-name)) (f .messages)
 
 unfoldable pub passes-9 : List FileDescriptor → Bool
-passes-9 fs = some-is (λ n. ltb max-full-name n) (all-of file-lengths fs)
+passes-9 fs = any (λ n. ltb max-full-name n) (all-of file-lengths fs)
 
 -- limit 10: a default, an enum field's too
 unfoldable pub passes-10 : List FileDescriptor → Bool
-passes-10 fs = some-is (λ f. ltb max-default (length-of (f .default-value))) (fields-in fs)
+passes-10 fs = any (λ f. ltb max-default (length-of (f .default-value))) (fields-in fs)
 
 -- the lowest limit passed by a set with these files; 0 where none is. Limit 7: a message nested deeper than 16, the top level being 1
 unfoldable pub limit-of-files : List Bytes → List FileDescriptor → ℕ
@@ -124,8 +115,8 @@ limit-of-files bytes fs =
     (choose (ltb max-messages (length (messages-in fs))) 3
     (choose (ltb max-fields (length (fields-in fs))) 4
     (choose (ltb max-enums (length (enums-in fs))) 5
-    (choose (some-is (λ e. ltb max-values (length (e .values))) (enums-in fs)) 6
-    (choose (some-is too-deep-file bytes) 7 (choose (passes-8 fs) 8 (choose (passes-9 fs) 9 (choose (passes-10 fs) 10 0))))))))
+    (choose (any (λ e. ltb max-values (length (e .values))) (enums-in fs)) 6
+    (choose (any too-deep-file bytes) 7 (choose (passes-8 fs) 8 (choose (passes-9 fs) 9 (choose (passes-10 fs) 10 0))))))))
 
 -- limit 1 comes before refusal 3, the others after it
 abbrev pub passes-1 : Bytes → Bool

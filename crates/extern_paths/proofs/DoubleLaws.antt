@@ -17,7 +17,8 @@ use Rattle.options.proofs.RowLaws.{settings-step, settings-end}
 use Rattle.path.specs.Forms.{among}
 use Rattle.extern_paths.specs.Split.{begins, push, split-behind, split}
 use Rattle.extern_paths.specs.ExternPaths.{extern, prost-types}
-use Rattle.extern_paths.specs.Doubles.{some, is-empty, has-gap, valid-path, prost-type-paths, lists, doubled, at-fault, externs-from, externs}
+use Rattle.base.specs.Lists.{any, is-empty}
+use Rattle.extern_paths.specs.Doubles.{has-gap, valid-path, prost-type-paths, lists, doubled, at-fault, externs-from, externs}
 use Rattle.extern_paths.specs.declared.check.Externs.{Externs}
 use Rattle.extern_paths.specs.declared.check.Externs.the-variants.{Good, Bad}
 use Rattle.extern_paths.proofs.SplitLaws.{by-test, eqb-turned}
@@ -32,16 +33,16 @@ unfolding split split-behind begins choose prost-type-paths prost-types
 prost-words = refl
 
 -- they are valid
-prost-valid : some (λ (x : List ℕ). not (valid-path x)) prost-type-paths ≡ false
-unfolding some prost-type-paths prost-types valid-path has-gap split split-behind begins choose
+prost-valid : any (λ (x : List ℕ). not (valid-path x)) prost-type-paths ≡ false
+unfolding any prost-type-paths prost-types valid-path has-gap split split-behind begins choose
 prost-valid = refl
 
-prost-twice : some (λ (x : List ℕ). among x prost-type-paths) prost-type-paths ≡ true
-unfolding some prost-type-paths prost-types among same
+prost-twice : any (λ (x : List ℕ). among x prost-type-paths) prost-type-paths ≡ true
+unfolding any prost-type-paths prost-types among same
 prost-twice = refl
 
-prost-alone : some (λ (x : List ℕ). among x []) prost-type-paths ≡ false
-unfolding some prost-type-paths prost-types among
+prost-alone : any (λ (x : List ℕ). among x []) prost-type-paths ≡ false
+unfolding any prost-type-paths prost-types among
 prost-alone = refl
 
 same-turned : (x y : List ℕ) → same x y ≡ same y x
@@ -51,8 +52,8 @@ same-turned [] (y ∷ ys) = refl
 same-turned (x ∷ xs) [] = refl
 same-turned (x ∷ xs) (y ∷ ys) = rw (same-turned xs ys, eqb-turned x y) refl
 
-some-one : (y : List ℕ) (xs : List (List ℕ)) → some (λ (x : List ℕ). among x (y ∷ [])) xs ≡ among y xs
-unfolding some among
+some-one : (y : List ℕ) (xs : List (List ℕ)) → any (λ (x : List ℕ). among x (y ∷ [])) xs ≡ among y xs
+unfolding any among
 some-one y [] = refl
 some-one y (x ∷ xs) = rw (or-none (same x y), same-turned x y, some-one y xs) refl
 
@@ -63,19 +64,19 @@ module _ (r : Setting) where
     unfolding lists choose
     one-path = rw (eq-eqb (r .kind) 1 h) refl
 
-    pub invalid-one : (z : Bool) → z ≡ valid-path (r .path) → not z ≡ some (λ (x : List ℕ). not (valid-path x)) (lists r)
-    unfolding some
+    pub invalid-one : (z : Bool) → z ≡ valid-path (r .path) → not z ≡ any (λ (x : List ℕ). not (valid-path x)) (lists r)
+    unfolding any
     invalid-one z q = rw (one-path, q) (sym (or-none (not (valid-path (r .path)))))
 
     pub lists-one : (x : List ℕ) (z : Bool) → z ≡ same x (r .path) → z ≡ among x (lists r)
     unfolding among
     lists-one x z q = rw one-path (q ∙ sym (or-none (same x (r .path))))
 
-    pub prost-one : (z : Bool) → z ≡ among (r .path) prost-type-paths → z ≡ some (λ (x : List ℕ). among x (lists r)) prost-type-paths
+    pub prost-one : (z : Bool) → z ≡ among (r .path) prost-type-paths → z ≡ any (λ (x : List ℕ). among x (lists r)) prost-type-paths
     prost-one z q = rw one-path (q ∙ sym (some-one (r .path) prost-type-paths))
 
     pub doubled-one : (q : Setting) (z : Bool) → z ≡ among (r .path) (lists q) → z ≡ doubled r q
-    unfolding doubled some
+    unfolding doubled any
     doubled-one q z e = rw one-path (e ∙ sym (or-none (among (r .path) (lists q))))
 
   module _ (n : r .kind ≡ 1 → ⊥) where
@@ -83,13 +84,13 @@ module _ (r : Setting) where
     unfolding lists choose
     other = rw (ne-eqb (r .kind) 1 n) refl
 
-    pub invalid-none : false ≡ some (λ (x : List ℕ). not (valid-path x)) (lists r)
-    unfolding choose some
-    invalid-none = rw other (by-test (λ (t : Bool). false ≡ some (λ (x : List ℕ). not (valid-path x)) (choose t prost-type-paths [])) (eqb (r .kind) 12) (λ _. sym prost-valid) (λ _. refl))
+    pub invalid-none : false ≡ any (λ (x : List ℕ). not (valid-path x)) (lists r)
+    unfolding choose any
+    invalid-none = rw other (by-test (λ (t : Bool). false ≡ any (λ (x : List ℕ). not (valid-path x)) (choose t prost-type-paths [])) (eqb (r .kind) 12) (λ _. sym prost-valid) (λ _. refl))
 
-    pub prost-is : eqb (r .kind) 12 ≡ some (λ (x : List ℕ). among x (lists r)) prost-type-paths
+    pub prost-is : eqb (r .kind) 12 ≡ any (λ (x : List ℕ). among x (lists r)) prost-type-paths
     unfolding choose
-    prost-is = rw other (by-test (λ (t : Bool). t ≡ some (λ (x : List ℕ). among x (choose t prost-type-paths [])) prost-type-paths) (eqb (r .kind) 12) (λ _. sym prost-twice) (λ _. sym prost-alone))
+    prost-is = rw other (by-test (λ (t : Bool). t ≡ any (λ (x : List ℕ). among x (choose t prost-type-paths [])) prost-type-paths) (eqb (r .kind) 12) (λ _. sym prost-twice) (λ _. sym prost-alone))
 
     pub lists-prost : (x : List ℕ) (z : Bool) → r .kind ≡ 12 → z ≡ among x prost-type-paths → z ≡ among x (lists r)
     unfolding choose
@@ -99,30 +100,30 @@ module _ (r : Setting) where
     unfolding choose among
     lists-none x h = rw (other, ne-eqb (r .kind) 12 h) refl
 
-    pub doubled-prost : (q : Setting) (z : Bool) → r .kind ≡ 12 → z ≡ some (λ (x : List ℕ). among x (lists q)) prost-type-paths → z ≡ doubled r q
+    pub doubled-prost : (q : Setting) (z : Bool) → r .kind ≡ 12 → z ≡ any (λ (x : List ℕ). among x (lists q)) prost-type-paths → z ≡ doubled r q
     unfolding choose doubled
     doubled-prost q z h e = rw (other, eq-eqb (r .kind) 12 h) e
 
     pub doubled-none : (q : Setting) → (r .kind ≡ 12 → ⊥) → false ≡ doubled r q
-    unfolding choose doubled some
+    unfolding choose doubled any
     doubled-none q h = rw (other, ne-eqb (r .kind) 12 h) refl
 
 -- ---- the rows before a row
 module _ (p : Setting → Bool) (o : List ℕ) (i j at : ℕ) where
-  pub some-end : i ≤ j → some p (settings-from o (i - j) j at) ≡ false
-  unfolding some
+  pub some-end : i ≤ j → any p (settings-from o (i - j) j at) ≡ false
+  unfolding any
   some-end h = rw (settings-end o i j at h) refl
 
   module _ (h : j < i) (r : Row) (e : r ≡ row o j at) (z : Bool) (q : z ≡ p (setting-of o r)) where
-    step : some p (settings-from o (i - j) j at) ≡ (z || some p (settings-from o (i - (j + 1)) (j + 1) (r .end)))
-    unfolding some
+    step : any p (settings-from o (i - j) j at) ≡ (z || any p (settings-from o (i - (j + 1)) (j + 1) (r .end)))
+    unfolding any
     step = rw (settings-step o i j at h, q, e) refl
 
-    pub some-hit : z ≡ true → some p (settings-from o (i - j) j at) ≡ true
-    some-hit t = step ∙ ap (λ (u : Bool). u || some p (settings-from o (i - (j + 1)) (j + 1) (r .end))) t
+    pub some-hit : z ≡ true → any p (settings-from o (i - j) j at) ≡ true
+    some-hit t = step ∙ ap (λ (u : Bool). u || any p (settings-from o (i - (j + 1)) (j + 1) (r .end))) t
 
-    pub some-miss : z ≡ false → some p (settings-from o (i - (j + 1)) (j + 1) (r .end)) ≡ some p (settings-from o (i - j) j at)
-    some-miss t = sym (step ∙ ap (λ (u : Bool). u || some p (settings-from o (i - (j + 1)) (j + 1) (r .end))) t)
+    pub some-miss : z ≡ false → any p (settings-from o (i - (j + 1)) (j + 1) (r .end)) ≡ any p (settings-from o (i - j) j at)
+    some-miss t = sym (step ∙ ap (λ (u : Bool). u || any p (settings-from o (i - (j + 1)) (j + 1) (r .end))) t)
 
 -- ---- the rows in turn
 take-settings : (o : List ℕ) (k n i at : ℕ) → k ≤ n → take k (settings-from o n i at) ≡ settings-from o k i at

@@ -12,33 +12,34 @@ use borrow.Author.Tests.{eq-eqb, ne-eqb}
 use Rattle.base.specs.Choose.{choose}
 use Rattle.base.specs.Bytes.{b}
 use Rattle.extern_paths.specs.Split.{begins, push, split-behind, split}
-use Rattle.extern_paths.specs.Doubles.{some, is-empty, has-gap, at-gap, opens-gap}
+use Rattle.base.specs.Lists.{any, is-empty}
+use Rattle.extern_paths.specs.Doubles.{has-gap, at-gap, opens-gap}
 
 -- the parts of s, with c pushed onto the first
-head-gap : (s : List ℕ) → some is-empty (split (b ".") s) ≡ (at-gap s || some is-empty (drop 1 (split (b ".") s)))
-unfolding some split split-behind begins choose
+head-gap : (s : List ℕ) → any is-empty (split (b ".") s) ≡ (at-gap s || any is-empty (drop 1 (split (b ".") s)))
+unfolding any split split-behind begins choose
 head-gap [] = refl
 head-gap (c ∷ s) =
-    elim (eqb c 46) as (λ t. some is-empty (choose (t && true) ([] ∷ split (b ".") s) (push c (split (b ".") s))) ≡ (t || some is-empty (drop 1 (choose (t && true) ([] ∷ split (b ".") s) (push c (split (b ".") s))))))
+    elim (eqb c 46) as (λ t. any is-empty (choose (t && true) ([] ∷ split (b ".") s) (push c (split (b ".") s))) ≡ (t || any is-empty (drop 1 (choose (t && true) ([] ∷ split (b ".") s) (push c (split (b ".") s))))))
     [ true ↦ refl | false ↦ pushed c (split (b ".") s) ]
   where
-    pushed : (x : ℕ) (xs : List (List ℕ)) → some is-empty (push x xs) ≡ some is-empty (drop 1 (push x xs))
+    pushed : (x : ℕ) (xs : List (List ℕ)) → any is-empty (push x xs) ≡ any is-empty (drop 1 (push x xs))
     pushed x [] = refl
     pushed x (y ∷ ys) = refl
 
 gap-step : (c : ℕ) (s : List ℕ) → has-gap (c ∷ s) ≡ (opens-gap (c ∷ s) || has-gap s)
 unfolding has-gap opens-gap split split-behind begins choose
 gap-step c s =
-    elim (eqb c 46) as (λ t. some is-empty (drop 1 (choose (t && true) ([] ∷ split (b ".") s) (push c (split (b ".") s)))) ≡ ((t && at-gap s) || some is-empty (drop 1 (split (b ".") s))))
+    elim (eqb c 46) as (λ t. any is-empty (drop 1 (choose (t && true) ([] ∷ split (b ".") s) (push c (split (b ".") s)))) ≡ ((t && at-gap s) || any is-empty (drop 1 (split (b ".") s))))
     [ true ↦ head-gap s | false ↦ dropped c (split (b ".") s) ]
   where
-    dropped : (x : ℕ) (xs : List (List ℕ)) → some is-empty (drop 1 (push x xs)) ≡ some is-empty (drop 1 xs)
+    dropped : (x : ℕ) (xs : List (List ℕ)) → any is-empty (drop 1 (push x xs)) ≡ any is-empty (drop 1 xs)
     dropped x [] = refl
     dropped x (y ∷ ys) = refl
 
 module _ (s : List ℕ) (i : ℕ) where
   pub gap-end : length s ≤ i → has-gap (drop i s) ≡ false
-  unfolding has-gap split split-behind some
+  unfolding has-gap split split-behind any
   gap-end h = rw (drop-of-length-le s {i = i} h) refl
 
   module _ (h : i < length s) where

@@ -5,6 +5,7 @@ use Prim.Native.Nat.{ℕ, zero, suc, _+_}
 use lib.Dec.{eqb}
 use lib.ListN.{length, take, drop, getD}
 use Rattle.base.specs.Choose.{choose}
+use Rattle.base.specs.Lists.{any, is-empty}
 use Rattle.base.specs.Bytes.{b}
 use Rattle.options.specs.Settings.{Setting}
 use Rattle.path.specs.Forms.{among}
@@ -13,17 +14,9 @@ use Rattle.extern_paths.specs.ExternPaths.{extern, prost-types}
 use Rattle.extern_paths.specs.declared.check.Externs.{Externs}
 use Rattle.extern_paths.specs.declared.check.Externs.the-variants.{Good, Bad}
 
-unfoldable pub some : {A : Type 0} → (A → Bool) → List A → Bool
-some p [] = false
-some p (x ∷ xs) = p x || some p xs
-
-abbrev pub is-empty : List ℕ → Bool
-is-empty [] = true
-is-empty (c ∷ s) = false
-
 -- has the path an empty segment behind a `.`?
 unfoldable pub has-gap : List ℕ → Bool
-has-gap path = some is-empty (drop 1 (split (b ".") path))
+has-gap path = any is-empty (drop 1 (split (b ".") path))
 
 -- ---- the same, byte by byte
 -- does s stand at a `.`, or at its end?
@@ -50,11 +43,11 @@ lists r = choose (eqb (r .kind) 1) (r .path ∷ []) (choose (eqb (r .kind) 12) p
 
 -- have two rows a path in common?
 unfoldable pub doubled : Setting → Setting → Bool
-doubled r q = some (λ x. among x (lists q)) (lists r)
+doubled r q = any (λ x. among x (lists q)) (lists r)
 
 -- a row is at fault for an invalid path, or for a path that a row before it has
 unfoldable pub at-fault : List Setting → Setting → Bool
-at-fault before r = some (λ x. not (valid-path x)) (lists r) || some (doubled r) before
+at-fault before r = any (λ x. not (valid-path x)) (lists r) || any (doubled r) before
 
 -- the lowest row at fault, of k rows from row i on
 unfoldable pub externs-from : List Setting → ℕ → ℕ → Externs

@@ -10,7 +10,8 @@ ghost use lib.ListN.{length, drop, getD};
 ghost use Rattle.path.specs.Forms.{among};
 ghost use Rattle.options.specs.Settings.{settings, settings-from, setting-of, bodies, row-count};
 ghost use Rattle.options.proofs.RowLaws.{Lies};
-ghost use Rattle.extern_paths.specs.Doubles.{some, has-gap, opens-gap, valid-path, prost-type-paths, lists, doubled, at-fault, externs};
+ghost use Rattle.base.specs.Lists.{any};
+ghost use Rattle.extern_paths.specs.Doubles.{has-gap, opens-gap, valid-path, prost-type-paths, lists, doubled, at-fault, externs};
 
 // Are the extern paths valid and each listed once? If not, the place of refusal 2.
 pub enum Externs {
@@ -78,7 +79,7 @@ fn is_prost_type(x: &[u8]) -> bool
 // Has the row an invalid path?
 fn is_invalid(o: &[u8], row: Row) -> bool
     requires { ⌜ Lies (now o) row ⌝ }
-    ensures { λ r. ⌜ r ≡ some (λ x. not (valid-path x)) (lists (setting-of (now (o .entry)) row)) ⌝ }
+    ensures { λ r. ⌜ r ≡ any (λ x. not (valid-path x)) (lists (setting-of (now (o .entry)) row)) ⌝ }
 {
     if row.kind == 1 {
         let a = row.path;
@@ -108,7 +109,7 @@ fn lists_path(o: &[u8], row: Row, x: &[u8]) -> bool
 // Does the row list one of the paths of prost types?
 fn lists_prost_type(o: &[u8], row: Row) -> bool
     requires { ⌜ Lies (now o) row ⌝ }
-    ensures { λ r. ⌜ r ≡ some (λ x. among x (lists (setting-of (now (o .entry)) row))) prost-type-paths ⌝ }
+    ensures { λ r. ⌜ r ≡ any (λ x. among x (lists (setting-of (now (o .entry)) row))) prost-type-paths ⌝ }
 {
     if row.kind == 1 {
         let a = row.path;
@@ -137,7 +138,7 @@ fn is_doubled(o: &[u8], row: Row, other: Row) -> bool
 // Has one of the rows before row i a path in common with it?
 fn doubled_before(o: &[u8], i: u32, row: Row) -> bool
     requires { ⌜ Lies (now o) row ⌝ }
-    ensures { λ r. ⌜ r ≡ some (doubled (setting-of (now (o .entry)) row)) (settings-from (now (o .entry)) i 0 (bodies (now (o .entry)))) ⌝ }
+    ensures { λ r. ⌜ r ≡ any (doubled (setting-of (now (o .entry)) row)) (settings-from (now (o .entry)) i 0 (bodies (now (o .entry)))) ⌝ }
 {
     let mut at = options::bodies_at(o);
     let mut j: u32 = 0;

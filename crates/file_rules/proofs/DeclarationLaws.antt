@@ -2,22 +2,17 @@
 use mathlib.Core.Path.{_≡_, refl, sym, ap, ap₂, _∙_}
 use mathlib.Core.Bool.{Bool, _&&_}
 use mathlib.Core.List.{List, [], _∷_, map}
-use Prim.Native.Nat.{ℕ, suc, _-_}
+use Prim.Native.Nat.{ℕ, _-_}
 use lib.ListN.{length}
 use Rattle.base.specs.Choose.{choose}
 use Rattle.wire.specs.Records.{part}
 use Rattle.descriptor.specs.Decode.{entries, parts, decode-field, decode-value, decode-oneof, decode-enum, decode-message}
 use Rattle.descriptor.specs.Views.{text-of, name-in}
 use Rattle.descriptor.specs.declared.Text.{Text}
-use Rattle.name_rules.specs.Lists.{all}
+use Rattle.base.specs.Lists.{all, all-map, map-length}
 use Rattle.name_rules.specs.Rules.{has-name, field-good, value-good, enum-good, message-good}
 use Rattle.name_rules.proofs.ViewedLaws.{oneof-is}
 use Rattle.file_rules.specs.Walks.{leaf-good, enum-part-good, message-part-good}
-use Rattle.file_rules.proofs.PartLaws.{all-map}
-
-map-length : {A B : Type 0} (g : A → B) (xs : List A) → length (map g xs) ≡ length xs
-map-length g [] = refl
-map-length g (x ∷ xs) = ap suc (map-length g xs)
 
 module _ (s : List ℕ) (v : Text) (e : v ≡ name-in 0 (part s 0 (length s - 0))) where
   pub enum-is : enum-part-good s ≡ (has-name (text-of s v) && all (leaf-good 2 0) (parts 2 (entries s)))

@@ -13,7 +13,8 @@ use Rattle.wire.specs.declared.Step.{Step}
 use Rattle.wire.specs.declared.Step.the-variants.{End, Fault, Found}
 use Rattle.descriptor.specs.Descriptor.{Forest, done, node, preorder, MessageDescriptor, FileDescriptor}
 use Rattle.descriptor.specs.Decode.{entries, entries-of, parts, decode-set}
-use Rattle.descriptor.specs.Limits.{all-of, messages-in}
+use Rattle.base.specs.Lists.{all-of}
+use Rattle.descriptor.specs.Limits.{messages-in}
 use Rattle.index.specs.Sizes.{size-in, size-record}
 use Rattle.index.specs.Tree.{Place, size, file-forests, total}
 use Rattle.index.proofs.DecodedLaws.{messages-at, messages-of, file-messages, files-decoded}

@@ -11,7 +11,7 @@ use lib.Dec.{eqb}
 use borrow.Author.Tests.{eq-eqb, ne-eqb}
 use Rattle.base.specs.Choose.{choose}
 use Rattle.wire.specs.Records.{part}
-use Rattle.name_rules.specs.Lists.{all}
+use Rattle.base.specs.Lists.{all}
 use Rattle.name_rules.specs.Rules.{good-name, onto, segments}
 
 abbrev pub behind : List ℕ → List (List ℕ) → List (List ℕ)

@@ -6,7 +6,7 @@ use lib.Dec.{ltb}
 use lib.ListN.{length}
 use Rattle.base.specs.Choose.{choose}
 use Rattle.descriptor.specs.Descriptor.{FieldDescriptor, FileDescriptor}
-use Rattle.name_rules.specs.Lists.{first-failing}
+use Rattle.base.specs.Lists.{first-failing}
 use Rattle.name_rules.specs.Rules.{file-good}
 use Rattle.name_rules.specs.FullNames.{set-declarations, set-fields, first-undeclared}
 use Rattle.name_rules.specs.MapEntries.{map-entries-named}

@@ -7,7 +7,7 @@ use lib.Dec.{eqb}
 use Rattle.base.specs.Bytes.{same}
 use Rattle.base.specs.Choose.{choose}
 use Rattle.descriptor.specs.Descriptor.{Bytes, Forest, done, node, FieldDescriptor, EnumDescriptor, MessageDescriptor, FileDescriptor}
-use Rattle.name_rules.specs.Lists.{all}
+use Rattle.base.specs.Lists.{all}
 use Rattle.name_rules.specs.Accessors.{text, is-message, is-group, is-enum}
 
 -- a name in a scope: `.a.b` and T is `.a.b.T`

@@ -1,4 +1,3 @@
-pub mod Lists
 pub mod Accessors
 pub mod Rules
 pub mod FullNames

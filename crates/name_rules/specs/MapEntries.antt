@@ -5,7 +5,7 @@ use mathlib.Core.List.{List, []}
 use lib.Dec.{eqb, ltb}
 use Rattle.base.specs.Choose.{choose}
 use Rattle.descriptor.specs.Descriptor.{Bytes, Forest, done, node, FieldDescriptor, MessageDescriptor, FileDescriptor}
-use Rattle.name_rules.specs.Lists.{count}
+use Rattle.base.specs.Lists.{count}
 use Rattle.name_rules.specs.Accessors.{text, is-repeated, is-message}
 use Rattle.name_rules.specs.Rules.{is-text}
 use Rattle.name_rules.specs.FullNames.{_·_, package-scope}

@@ -16,7 +16,7 @@ use Rattle.syntax.specs.declared.Syntax.the-variants.{Proto2, Proto3, Unknown}
 use Rattle.field_types.specs.Types.{sort-of, integer, boolean}
 use Rattle.field_types.specs.Types as types
 use Rattle.descriptor.specs.Descriptor.{Bytes, Forest, done, node, FieldDescriptor, ValueDescriptor, EnumDescriptor, MessageDescriptor, FileDescriptor}
-use Rattle.name_rules.specs.Lists.{all, is-empty}
+use Rattle.base.specs.Lists.{all, is-empty}
 use Rattle.name_rules.specs.declared.Judged.{Judged}
 use Rattle.name_rules.specs.declared.Judged.the-variants.{Good, Refused}
 

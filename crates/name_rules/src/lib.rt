@@ -4,7 +4,7 @@ ghost use Rattle.wire.specs.Records.{part};
 ghost use Rattle.utf8.specs.Utf8.{is-utf8};
 ghost use Rattle.descriptor.specs.Decode.{decode-field, decode-value, decode-oneof};
 ghost use Rattle.descriptor.specs.Views.{text-of, number-of, field-of, value-of};
-ghost use Rattle.name_rules.specs.Lists.{all};
+ghost use Rattle.base.specs.Lists.{all};
 ghost use Rattle.name_rules.specs.Rules.{good-name, has-name, segments, package-good, syntax-good, is-known, within, is-number, is-given, type-name-good, oneof-index-good, default-good, judged, field-good, value-good};
 use descriptor::FieldView;
 use descriptor::Number;

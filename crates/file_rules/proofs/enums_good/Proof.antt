@@ -1,6 +1,6 @@
-use Rattle.file_rules.proofs.PartLaws.{parts-from, parts-skip, all-good, all-bad, all-end, all-fault}
+use Rattle.parts.proofs.PartLaws.{parts-from, parts-skip, all-good, all-bad, all-end, all-fault}
 use Rattle.file_rules.specs.Walks.{enum-part-good}
-use Rattle.name_rules.specs.Lists.{all}
+use Rattle.base.specs.Lists.{all}
 use Rattle.descriptor.specs.Decode.{entries, parts}
 use Rattle.wire.proofs.RecordsLaws.{places, whole}
 use mathlib.Core.Path.{_≡_, refl, sym, ap, _∙_}
@@ -12,7 +12,7 @@ use Rattle.file_rules.proofs.enums_good.Statement.{statement}
 use Rattle.file_rules.proofs.enums_good.Tie as tie
 use Rattle.file_rules.proofs.enums_good.Reads as reads
 use Rattle.file_rules.proofs.enums_good.Lts as lts
-use Rattle.file_rules.proofs.embedded.Reads as embedded-reads
+use Rattle.parts.proofs.embedded.Reads as embedded-reads
 use Rattle.file_rules.proofs.enum_good.Reads as enum-good-reads
 use Rattle.wire.proofs.read_step.Reads as read-step-reads
 

@@ -6,7 +6,7 @@ use Rattle.file_rules.proofs.message_good.Tie as tie
 use Rattle.file_rules.proofs.message_good.Reads as reads
 use Rattle.file_rules.proofs.message_good.Lts as lts
 use Rattle.descriptor.proofs.name_view.Reads as name-view-reads
-use Rattle.file_rules.proofs.count_parts.Reads as count-parts-reads
+use Rattle.parts.proofs.count_parts.Reads as count-parts-reads
 use Rattle.file_rules.proofs.enums_good.Reads as enums-good-reads
 use Rattle.file_rules.proofs.leaves_good.Reads as leaves-good-reads
 use Rattle.name_rules.proofs.has_name.Reads as has-name-reads

@@ -2,7 +2,7 @@ use Rattle.base.specs.Choose.{choose}
 use mathlib.Core.Path.{_≡_, sym, ap, _∙_}
 use mathlib.Core.List.{List}
 use Prim.Native.Nat.{ℕ}
-use Rattle.name_rules.specs.Lists.{all}
+use Rattle.base.specs.Lists.{all}
 use Rattle.name_rules.specs.Rules.{good-name, segments}
 use borrow.Author.Needs.{needs}
 use Rattle.name_rules.proofs.package_good.Statement.{statement}

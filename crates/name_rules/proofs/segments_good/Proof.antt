@@ -1,5 +1,5 @@
 use Rattle.name_rules.proofs.SegmentLaws.{ahead, ahead-start, ahead-end, ahead-more, ahead-good, ahead-bad}
-use Rattle.name_rules.specs.Lists.{all}
+use Rattle.base.specs.Lists.{all}
 use Rattle.name_rules.specs.Rules.{good-name, segments}
 use mathlib.Core.Path.{_≡_, refl, sym, ap, _∙_}
 use Prim.Native.Nat.{_-_, _≤_}

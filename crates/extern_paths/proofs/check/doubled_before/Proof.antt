@@ -4,7 +4,8 @@ use Prim.Native.Nat.{_-_}
 use native.Mathlib.Omega.{arith}
 use Rattle.options.specs.Settings.{settings-from, setting-of, bodies}
 use Rattle.options.proofs.RowLaws.{row-lies}
-use Rattle.extern_paths.specs.Doubles.{some, doubled}
+use Rattle.base.specs.Lists.{any}
+use Rattle.extern_paths.specs.Doubles.{doubled}
 use Rattle.extern_paths.proofs.DoubleLaws.{some-end, some-hit, some-miss}
 use Rattle.extern_paths.proofs.check.doubled_before.Statement.{statement}
 use Rattle.extern_paths.proofs.check.doubled_before.Tie as tie
@@ -15,7 +16,7 @@ use Rattle.options.proofs.bodies_at.Reads as bodies-at-reads
 use Rattle.options.proofs.row_from.Reads as row-from-reads
 
 abbrev Inv-loop : tie.InvT-loop
-Inv-loop o i row at₀ j₀ at j = some (doubled (setting-of o row)) (settings-from o (i - j) j at) ≡ some (doubled (setting-of o row)) (settings-from o i 0 (bodies o))
+Inv-loop o i row at₀ j₀ at j = any (doubled (setting-of o row)) (settings-from o (i - j) j at) ≡ any (doubled (setting-of o row)) (settings-from o i 0 (bodies o))
 
 abbrev μ-loop : tie.MeasureT-loop
 μ-loop o i row at₀ j₀ at j = i - j

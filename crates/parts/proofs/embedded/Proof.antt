@@ -2,12 +2,12 @@ use Rattle.base.specs.Choose.{choose}
 use Rattle.descriptor.proofs.ViewLaws.{bytes-of}
 use borrow.Author.Tests.{eq-eqb, ne-eqb}
 use mathlib.Core.Path.{_≡_, sym, ap, _∙_}
-use Rattle.file_rules.proofs.PartLaws.{bytes-embedded, bytes-none}
+use Rattle.parts.proofs.PartLaws.{bytes-embedded, bytes-none}
 use borrow.Author.Needs.{needs}
-use Rattle.file_rules.proofs.embedded.Statement.{statement}
-use Rattle.file_rules.proofs.embedded.Tie as tie
-use Rattle.file_rules.proofs.embedded.Reads as reads
-use Rattle.file_rules.proofs.embedded.Lts as lts
+use Rattle.parts.proofs.embedded.Statement.{statement}
+use Rattle.parts.proofs.embedded.Tie as tie
+use Rattle.parts.proofs.embedded.Reads as reads
+use Rattle.parts.proofs.embedded.Lts as lts
 use Rattle.descriptor.proofs.part_of.Reads as part-of-reads
 
 -- src/lib.rt:22:9

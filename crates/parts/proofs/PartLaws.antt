@@ -18,7 +18,7 @@ use Rattle.wire.specs.declared.Step.{Step}
 use Rattle.wire.specs.declared.Step.the-variants.{End, Fault, Found}
 use Rattle.descriptor.specs.Decode.{entries, entries-of, bytes-in, parts}
 use Rattle.descriptor.proofs.ViewLaws.{bytes-of}
-use Rattle.name_rules.specs.Lists.{all}
+use Rattle.base.specs.Lists.{all}
 
 -- the embedded messages with the field number n, from position at on
 abbrev pub parts-from : ℕ → List ℕ → ℕ → List (List ℕ)
@@ -65,11 +65,6 @@ module _ (n : ℕ) (s : List ℕ) (at : ℕ) (r : Step) (e : r ≡ stepAt s at) 
   pub all-fault : (p : List ℕ → Bool) (key : ℕ) → r ≡ Fault key → true ≡ all p (parts-from n s at)
   unfolding all
   all-fault p key is = rw (parts-fault key is)
-
-pub all-map {ℓ κ} : {A : Type ℓ} {B : Type κ} (p : B → Bool) (g : A → B) (xs : List A) → all p (map g xs) ≡ all (λ (x : A). p (g x)) xs
-unfolding all
-all-map p g [] = refl
-all-map p g (x ∷ xs) = ap (λ (u : Bool). p (g x) && u) (all-map p g xs)
 
 module _ (s : List ℕ) (f : Record) where
   pub bytes-embedded : f .wiretype ≡ 2 → payload-of s f ≡ bytes-in (value-of s f)

@@ -1,4 +1,4 @@
-use Rattle.file_rules.proofs.PartLaws.{parts-from, parts-all, count-end, count-fault, count-skip, count-found}
+use Rattle.parts.proofs.PartLaws.{parts-from, parts-all, count-end, count-fault, count-skip, count-found}
 use Rattle.descriptor.specs.Decode.{entries, parts}
 use Rattle.wire.proofs.RecordsLaws.{places, whole}
 use mathlib.Core.Path.{_≡_, refl, sym, ap, _∙_}
@@ -6,10 +6,10 @@ use Prim.Native.Nat.{_-_, _+_, _≤_}
 use lib.ListN.{length}
 use native.Mathlib.Omega.{arith}
 use borrow.Author.Needs.{needs}
-use Rattle.file_rules.proofs.count_parts.Statement.{statement}
-use Rattle.file_rules.proofs.count_parts.Tie as tie
-use Rattle.file_rules.proofs.count_parts.Reads as reads
-use Rattle.file_rules.proofs.count_parts.Lts as lts
+use Rattle.parts.proofs.count_parts.Statement.{statement}
+use Rattle.parts.proofs.count_parts.Tie as tie
+use Rattle.parts.proofs.count_parts.Reads as reads
+use Rattle.parts.proofs.count_parts.Lts as lts
 use Rattle.wire.proofs.read_step.Reads as read-step-reads
 
 abbrev Inv-loop : tie.InvT-loop
