@@ -39,15 +39,17 @@ module _ (rs : List Setting) where
   generated-variant-name enum v = variant (strips-prefix rs) enum (text (v .name))
 
   -- ---- append_enum. full and enum: the enum's full name and its own; vs: the mappings
-  unfoldable pub enum-variant : ℕ → Bytes → Bytes → ValueDescriptor → Text
-  enum-variant d full enum v =
-      append-field-attributes rs d full (text (v .name))
-      ⟫ when (v .deprecated) (line d "#[deprecated]\n")
+  unfoldable pub variant-lines : ℕ → Bytes → ValueDescriptor → Text
+  variant-lines d enum v =
+      when (v .deprecated) (line d "#[deprecated]\n")
       ⟫ push-indent d
       ⟫ piece (name (generated-variant-name enum v))
       ⟫ lit " = "
       ⟫ piece (raw (signed (value-number v)))
       ⟫ lit ",\n"
+
+  unfoldable pub enum-variant : ℕ → Bytes → Bytes → ValueDescriptor → Text
+  enum-variant d full enum v = append-field-attributes rs d full (text (v .name)) ⟫ variant-lines d enum v
 
   unfoldable pub enum-variants : ℕ → Bytes → Bytes → List ValueDescriptor → Text
   enum-variants d full enum [] = nothing

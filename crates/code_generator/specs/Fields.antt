@@ -38,11 +38,11 @@ module _ (proto3 : Bool) where
       either (eqb (label f) 1) (when (optional f) (lit ", optional"))
       (either (eqb (label f) 2) (lit ", required") (lit ", repeated" ⟫ when (unpacked f) (lit ", packed = \"false\"")))
 
-module _ (rs : List Setting) where
-  unfoldable pub bytes-annotation : Bytes → FieldDescriptor → Text
-  bytes-annotation full f =
-      when (eqb (sort-of (type f)) bytes) (either (bytes-type rs full (text (f .name))) (lit " = \"bytes\"") (lit " = \"vec\""))
+-- as-bytes: bytes_type of the field is `Bytes`
+unfoldable pub bytes-annotation : FieldDescriptor → Bool → Text
+bytes-annotation f as-bytes = when (eqb (sort-of (type f)) bytes) (either as-bytes (lit " = \"bytes\"") (lit " = \"vec\""))
 
+module _ (rs : List Setting) where
   -- enum_value of a default; the enum's name, enum_type, is the last segment of the type name
   unfoldable pub enum-value : FieldDescriptor → Bytes → Spelling
   enum-value f v = variant (strips-prefix rs) (last-name (split (b ".") (text (f .type-name)))) v
@@ -60,11 +60,11 @@ module _ (rs : List Setting) where
   unfoldable pub default-tag : FieldDescriptor → Text
   default-tag f = default-given f (f .default-value)
 
--- the tag of a field, from behind `#[prost(` on. scope: where the struct stands; full: the message's full name
-unfoldable pub field-tag : List Setting → Bool → Bytes → Bytes → FieldDescriptor → Bool → Text
-field-tag rs proto3 scope full f boxed =
+-- the tag of a field, from behind `#[prost(` on. scope: where the struct stands
+unfoldable pub field-tag : List Setting → Bool → Bytes → FieldDescriptor → Bool → Bool → Text
+field-tag rs proto3 scope f boxed as-bytes =
     field-type-tag rs scope f
-    ⟫ bytes-annotation rs full f
+    ⟫ bytes-annotation f as-bytes
     ⟫ label-tag proto3 f
     ⟫ when boxed (lit ", boxed")
     ⟫ lit ", tag = \""
@@ -87,18 +87,18 @@ box-open rs boxed = when boxed (prost rs ⟫ (lit "::alloc::boxed::Box<" ◃ wra
 unfoldable pub box-close : Bool → Text
 box-close boxed = when boxed (lit ">" ◃ wrap-close)
 
--- rust_name of a field
+-- rust_name of a field; full: the message's full name
 abbrev pub field-name : Bytes → FieldDescriptor → Text
 field-name full f = piece (label-piece (some (record { message = full; field = f })) (snake (text (f .name))))
 
-unfoldable pub field-line : List Setting → Bool → ℕ → Bytes → Bytes → FieldDescriptor → Bool → Text
-field-line rs proto3 d scope full f boxed =
+unfoldable pub field-line : List Setting → Bool → ℕ → Bytes → Bytes → FieldDescriptor → Bool → Bool → Text
+field-line rs proto3 d scope full f boxed as-bytes =
     (line d "pub "
     ⟫ field-name full f
     ⟫ lit ": "
     ⟫ shape-open rs proto3 f
     ⟫ box-open rs boxed
-    ⟫ resolve-type rs scope full f
+    ⟫ resolve-type rs scope as-bytes f
     ⟫ box-close boxed
     ⟫ shape-close proto3 f
     ⟫ lit ",\n")
@@ -108,6 +108,6 @@ unfoldable pub append-field : List Setting → List FileDescriptor → Bool → 
 append-field rs set proto3 d scope full f =
     append-deprecated d f
     ⟫ line d "#[prost("
-    ⟫ field-tag rs proto3 scope full f (should-box-message-field rs set full f)
+    ⟫ field-tag rs proto3 scope f (should-box-message-field rs set full f) (bytes-type rs full (text (f .name)))
     ⟫ append-field-attributes rs d full (text (f .name))
-    ⟫ field-line rs proto3 d scope full f (should-box-message-field rs set full f)
+    ⟫ field-line rs proto3 d scope full f (should-box-message-field rs set full f) (bytes-type rs full (text (f .name)))

@@ -10,7 +10,7 @@ use Rattle.descriptor.specs.Descriptor.{Bytes, Forest, done, node, FieldDescrip
 use Rattle.options.specs.Settings.{Setting}
 use Rattle.name_rules.specs.Accessors.{text, number}
 use Rattle.name_rules.specs.FullNames.{_·_}
-use Rattle.context.specs.Context.{map-type}
+use Rattle.context.specs.Context.{bytes-type, map-type}
 use Rattle.code_generator.specs.Piece.{Text, piece, _⟫_, either, _◃_, raw, table, comma, wrap-open, wrap-close, lit}
 use Rattle.code_generator.specs.Resolve.{prost, resolve-type, field-type-tag, map-value-type-tag}
 use Rattle.code_generator.specs.Attributes.{line, append-field-attributes}
@@ -51,15 +51,16 @@ module _ (rs : List Setting) where
   map-open btree =
       either btree (prost rs ⟫ lit "::alloc::collections::BTreeMap<") (lit "::std::collections::HashMap<") ◃ wrap-open table
 
-  unfoldable pub map-line : ℕ → Bytes → Bytes → FieldDescriptor → MapEntry → Bool → Text
-  map-line d scope full f e btree =
+  -- key-bytes, value-bytes: bytes_type of the entry's fields is `Bytes`
+  unfoldable pub map-line : ℕ → Bytes → Bytes → FieldDescriptor → MapEntry → Bool → Bool → Bool → Text
+  map-line d scope full f e btree key-bytes value-bytes =
       (line d "pub "
       ⟫ field-name full f
       ⟫ lit ": "
       ⟫ map-open btree
-      ⟫ resolve-type rs scope full (e .key)
+      ⟫ resolve-type rs scope key-bytes (e .key)
       ⟫ lit ", "
-      ⟫ resolve-type rs scope full (e .value)
+      ⟫ resolve-type rs scope value-bytes (e .value)
       ⟫ (lit ">" ◃ wrap-close)
       ⟫ lit ",\n")
       ◃ comma
@@ -70,4 +71,4 @@ module _ (rs : List Setting) where
       line d "#[prost("
       ⟫ map-tag scope f e (map-type rs full (text (f .name)))
       ⟫ append-field-attributes rs d full (text (f .name))
-      ⟫ map-line d scope full f e (map-type rs full (text (f .name)))
+      ⟫ map-line d scope full f e (map-type rs full (text (f .name))) (bytes-type rs full (text (e .key .name))) (bytes-type rs full (text (e .value .name)))

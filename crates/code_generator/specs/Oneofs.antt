@@ -13,7 +13,7 @@ use Rattle.descriptor.specs.Descriptor.{Bytes, Forest, done, node, FieldDescrip
 use Rattle.options.specs.Settings.{Setting}
 use Rattle.name_rules.specs.Accessors.{text, number}
 use Rattle.name_rules.specs.FullNames.{_·_}
-use Rattle.context.specs.Context.{should-box-oneof-field, can-field-derive-copy, can-field-derive-eq}
+use Rattle.context.specs.Context.{bytes-type, should-box-oneof-field, can-field-derive-copy, can-field-derive-eq}
 use Rattle.code_generator.specs.Piece.{Text, nothing, piece, _⟫_, _▹_, _◃_, raw, decl-open, path, Way, Spelling, snake, camel, oneof-type, choice, opt, comma, tag-open, tag-close, wrap-open, wrap-close, lit, push-indent}
 use Rattle.code_generator.specs.Piece.{label as label-piece}
 use Rattle.code_generator.specs.Resolve.{resolve-type, field-type-tag}
@@ -123,16 +123,16 @@ append-oneof-fields rs d full message (x ∷ xs) = append-oneof-field rs d full 
 
 -- ---- append_oneof. The enum stands in its message's module, whose scope is the message's full name
 unfoldable pub variant-tag : List Setting → Bytes → FieldDescriptor → Text
-variant-tag rs full f = field-type-tag rs full f ⟫ lit ", tag = \"" ⟫ piece (raw (decimal (number f))) ⟫ lit "\")]\n"
+variant-tag rs scope f = field-type-tag rs scope f ⟫ lit ", tag = \"" ⟫ piece (raw (decimal (number f))) ⟫ lit "\")]\n"
 
--- boxed: should_box_oneof_field
-unfoldable pub variant-line : List Setting → ℕ → Bytes → FieldDescriptor → Bool → Text
-variant-line rs d full f boxed =
+-- boxed: should_box_oneof_field; as-bytes: bytes_type of the field is `Bytes`
+unfoldable pub variant-line : List Setting → ℕ → Bytes → Bytes → FieldDescriptor → Bool → Bool → Text
+variant-line rs d scope full f boxed as-bytes =
     (push-indent d
     ⟫ piece (label-piece (some (record { message = full; field = f })) (camel (text (f .name))))
     ⟫ lit "("
     ⟫ box-open rs boxed
-    ⟫ resolve-type rs full full f
+    ⟫ resolve-type rs scope as-bytes f
     ⟫ box-close boxed
     ⟫ lit "),\n")
     ◃ comma
@@ -144,7 +144,7 @@ module _ (rs : List Setting) (set : List FileDescriptor) where
       ⟫ line d "#[prost("
       ⟫ variant-tag rs full f
       ⟫ append-field-attributes rs d (full · x .name) (text (f .name))
-      ⟫ variant-line rs d full f (should-box-oneof-field rs set full (x .name) f)
+      ⟫ variant-line rs d full full f (should-box-oneof-field rs set full (x .name) f) (bytes-type rs full (text (f .name)))
 
   unfoldable pub append-variants : ℕ → Bytes → OneofField → List FieldDescriptor → Text
   append-variants d full x [] = nothing

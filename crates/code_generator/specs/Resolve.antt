@@ -1,5 +1,5 @@
 -- code_generator.rs: resolve_type, resolve_ident, field_type_tag, map_value_type_tag. Assumes nothing.
-use mathlib.Core.Bool.{_||_}
+use mathlib.Core.Bool.{Bool, _||_}
 use mathlib.Core.List.{List, [], _∷_}
 use lib.Dec.{eqb}
 use lib.ListN.{length, drop}
@@ -12,7 +12,6 @@ use Rattle.options.specs.declared.Found.{Found}
 use Rattle.extern_paths.specs.Split.{split}
 use Rattle.extern_paths.specs.ExternPaths.{taken, resolve-ident as extern-ident}
 use Rattle.name_rules.specs.Accessors.{text, type as type-of}
-use Rattle.context.specs.Context.{bytes-type}
 use Rattle.code_generator.specs.Piece.{Text, piece, _⟫_, either, _▹_, _◃_, raw, opaque, extern, path, Way, camel, type, vec, tag-open, tag-close, wrap-open, wrap-close, lit}
 
 -- ---- resolve_ident
@@ -65,17 +64,17 @@ module _ (rs : List Setting) where
   resolve-ident scope ident = either (taken rs ident) (piece (extern (extern-ident rs ident))) (piece (path (type ident) (way scope ident)))
 
   -- ---- resolve_type
-  -- Type::Bytes; full: the message's full name, also for a map's key and value
-  unfoldable pub resolve-bytes : Bytes → FieldDescriptor → Text
-  resolve-bytes full f =
-      either (bytes-type rs full (text (f .name))) (prost ⟫ lit "::bytes::Bytes")
+  -- Type::Bytes; as-bytes: its bytes_type is `Bytes`
+  unfoldable pub resolve-bytes : Bool → Text
+  resolve-bytes as-bytes =
+      either as-bytes (prost ⟫ lit "::bytes::Bytes")
       (prost ⟫ (lit "::alloc::vec::Vec<" ◃ wrap-open vec) ⟫ (lit "u8>" ◃ wrap-close))
 
   -- the other types are one word
-  unfoldable pub resolve-type : Bytes → Bytes → FieldDescriptor → Text
-  resolve-type scope full f =
+  unfoldable pub resolve-type : Bytes → Bool → FieldDescriptor → Text
+  resolve-type scope as-bytes f =
       either (eqb (sort-of (type-of f)) string) (prost ⟫ lit "::alloc::string::String")
-      (either (eqb (sort-of (type-of f)) bytes) (resolve-bytes full f)
+      (either (eqb (sort-of (type-of f)) bytes) (resolve-bytes as-bytes)
       (either (eqb (sort-of (type-of f)) group || eqb (sort-of (type-of f)) message) (resolve-ident scope (text (f .type-name)))
       (piece (raw (rust-word (type-of f))))))
 
