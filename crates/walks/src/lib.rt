@@ -1,0 +1,1 @@
+// context.rs: what a set and its options say of a message and a field. The definitions stand in specs/.
