@@ -28,12 +28,16 @@ module _ {L N : Type 0} {from to : L → N} where
     join stay q = q
     join (go l m e p) q = go l m e (join p q)
 
-    -- by the links of another list, where each link has one that starts and ends as it does
-    pub carry : {K : Type 0} {start end : K → N} {ks : List K} → ((l : L) → List·Memᴰ l ls → (k : K) × List·Memᴰ k ks × (start k ≡ from l) × (end k ≡ to l)) → {a b : N} → Walk from to ls a b → Walk start end ks a b
-    carry h stay = stay
-    carry {start = start} {end = end} {ks = ks} h {b = b} (go l m e p) =
-        let k = h l m in
-        go (k .0) (k .1) (k .2 ∙ e) (subst (λ (x : N). Walk start end ks x b) (sym (k .3)) (carry h p))
+    -- a link that a walk takes: its start is on the way, and from its end it goes on
+    pub around : {a b : N} (w : Walk from to ls a b) (l : L) → List·Memᴰ l (taken w) → Walk from to ls a (from l) × Walk from to ls (to l) b
+    unfolding taken
+    around stay l m = absurd (List·Memᴰ·not-nil m)
+    around {a} {b} (go k at e p) l m =
+        ⊎-elim
+        (λ is.
+        (subst (λ (x : N). Walk from to ls a x) (sym e ∙ ap from (sym is)) stay, subst (λ (x : L). Walk from to ls (to x) b) (sym is) p))
+        (λ h. let r = around p l h in (go k at e (r .0), r .1))
+        (List·Memᴰ·cases-cons m)
 
     later : (l : L) {a b : N} → Walk from to ls a b → Walk from to (l ∷ ls) a b
     later l stay = stay

@@ -1,0 +1,6 @@
+pub mod At
+pub mod Tables
+pub mod Numbers
+pub mod Rows
+pub mod Links
+pub mod Boxed
