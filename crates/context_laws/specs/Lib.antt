@@ -4,3 +4,5 @@ pub mod Numbers
 pub mod Rows
 pub mod Links
 pub mod Boxed
+pub mod Every
+pub mod Derived
