@@ -6,3 +6,4 @@ pub mod Links
 pub mod Boxed
 pub mod Every
 pub mod Derived
+pub mod SoundSets
