@@ -42,10 +42,6 @@ module _ {A : Type 0} where
   mem-of-at (first e) = List·Memᴰ·head e
   mem-of-at (next p) = List·Memᴰ·tail (mem-of-at p)
 
-  pub at-of-mem : {x : A} {xs : List A} → List·Memᴰ x xs → (k : ℕ) × At x xs k
-  at-of-mem (List·Memᴰ·head e) = (zero, first e)
-  at-of-mem (List·Memᴰ·tail m) = let p = at-of-mem m in (suc (p .0), next (p .1))
-
   pub at-map : {B : Type 0} (g : A → B) {x : A} {xs : List A} {k : ℕ} → At x xs k → At (g x) (map g xs) k
   at-map g (first e) = first (ap g e)
   at-map g (next p) = next (at-map g p)

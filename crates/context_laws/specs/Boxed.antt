@@ -1,17 +1,17 @@
 -- Boxes, by full names and by numbers. Assumes nothing.
-use mathlib.Core.Path.{_≡_, refl, sym, _∙_, ap}
+use mathlib.Core.Path.{_≡_, refl, sym, _∙_}
 use mathlib.Core.Bool.{Bool, true, false, _&&_, _||_, not}
 use mathlib.Core.List.{List, List·Memᴰ}
-use mathlib.Core.List.List·Memᴰ.{List·Memᴰ·head}
 use mathlib.Core.Logic.{⊎-elim}
+use mathlib.Core.List.List·Memᴰ.{List·Memᴰ·head}
 use Prim.Native.Nat.{ℕ}
 use Rattle.base.specs.Choose.{choose}
-use Rattle.base.specs.Tests.{bool-cases, both-ways, and-left, and-right}
+use Rattle.base.specs.Tests.{both-ways, and-left, or-left, or-cases}
 use Rattle.descriptor.specs.Descriptor.{Bytes, FileDescriptor}
 use Rattle.options.specs.Settings.{Setting}
 use Rattle.name_rules.specs.Accessors.{text, is-repeated, is-message, is-group}
 use Rattle.name_rules.specs.FullNames.{_·_, Entry, set-entries}
-use Rattle.context.specs.MessageGraph.{Link, is-link, links, leads, is-nested}
+use Rattle.context.specs.MessageGraph.{is-link, links, leads, is-nested}
 use Rattle.context.specs.Context.{has, should-box}
 use Rattle.message_graph.specs.Fields.{owner-of, target-of, kind-of, label-of}
 use Rattle.message_graph.specs.Leads.{leadsb}
@@ -61,24 +61,33 @@ module _ (rs : List Setting) (set : List FileDescriptor) where
       rw (boxed-by-names s p) (box-cases (is-message (r .field) || is-group (r .field)) (is-repeated (r .field)) (leads (links (set-entries set)) (type-name-of r) (r .full)) (has rs 4 (at · text (r .field .name))))
 
 -- document 01's boxes by full names: where a walk along links comes back to the message that it started from, each of its fields has a Box;
--- and a link whose type leads to its message is on such a walk
+-- and a link that has a Box without a setting is on such a walk
 pub record Boxing (rs : List Setting) (set : List FileDescriptor) : Type 0 where
   pub all : (a : Bytes) (w : Led (links (set-entries set)) a a) (r : Row) (k : ℕ) → At r (rows-of (set-entries set)) k → is-link (r .field) ≡ true → List·Memᴰ (link-of r) (taken w) → (at : Bytes) → should-box rs set (r .full) at (r .field) ≡ true
-  pub only : (r : Row) (k : ℕ) → At r (rows-of (set-entries set)) k → is-link (r .field) ≡ true → is-nested set (type-name-of r) (r .full) ≡ true → (w : Led (links (set-entries set)) (r .full) (r .full)) × List·Memᴰ (link-of r) (taken w)
+  pub only : (r : Row) (k : ℕ) → At r (rows-of (set-entries set)) k → is-link (r .field) ≡ true → (at : Bytes) → has rs 4 (at · text (r .field .name)) ≡ false → should-box rs set (r .full) at (r .field) ≡ true → (w : Led (links (set-entries set)) (r .full) (r .full)) × List·Memᴰ (link-of r) (taken w)
 
-link-boxed : (message group repeated nested set : Bool) → (message && not repeated) ≡ true → nested ≡ true → choose repeated false (choose ((message || group) && nested) true set) ≡ true
+-- of a link, leading back and the setting count
+link-boxed : (message group repeated nested set : Bool) → (message && not repeated) ≡ true → choose repeated false (choose ((message || group) && nested) true set) ≡ (nested || set)
 unfolding choose
-link-boxed true group false nested set is e = rw e
-link-boxed true group true nested set is e = both-ways is refl
-link-boxed false group repeated nested set is e = both-ways is refl
+link-boxed true group false true set is = refl
+link-boxed true group false false set is = refl
+link-boxed true group true nested set is = both-ways is refl
+link-boxed false group repeated nested set is = both-ways is refl
 
-pub boxing : (rs : List Setting) (set : List FileDescriptor) → Boxing rs set
-unfolding should-box is-nested taken
-boxing rs set = record {
-  all = λ a w r k p is m at.
-      let round = around w (link-of r) m in
+module _ (rs : List Setting) (set : List FileDescriptor) where
+  link-should-box : (r : Row) → is-link (r .field) ≡ true → (at : Bytes) → should-box rs set (r .full) at (r .field) ≡ (leads (links (set-entries set)) (type-name-of r) (r .full) || has rs 4 (at · text (r .field .name)))
+  unfolding should-box is-nested
+  link-should-box r is at =
       link-boxed (is-message (r .field)) (is-group (r .field)) (is-repeated (r .field)) (leads (links (set-entries set)) (type-name-of r) (r .full)) (has rs 4 (at · text (r .field .name))) is
-      (led-complete (links (set-entries set)) (type-name-of r) (r .full) (join (round .1) (round .0)));
-  only = λ r k p is e.
-      (go (link-of r) (in-set (set-entries set) p is) refl (led-sound (links (set-entries set)) (type-name-of r) (r .full) e), List·Memᴰ·head refl);
-}
+
+  pub boxing : Boxing rs set
+  unfolding taken
+  boxing = record {
+    all = λ a w r k p is m at.
+        let round = around w (link-of r) m in
+        link-should-box r is at ∙ or-left _ (led-complete (links (set-entries set)) (type-name-of r) (r .full) (join (round .1) (round .0)));
+    only = λ r k p is at e boxed.
+        ⊎-elim (λ back. (go (link-of r) (in-set (set-entries set) p is) refl (led-sound (links (set-entries set)) (type-name-of r) (r .full) back), List·Memᴰ·head refl))
+        (λ h. both-ways h e)
+        (or-cases (leads (links (set-entries set)) (type-name-of r) (r .full)) (has rs 4 (at · text (r .field .name))) (sym (link-should-box r is at) ∙ boxed));
+  }

@@ -1,27 +1,26 @@
 -- Copy and Eq, by full names and by numbers. Assumes nothing.
 use mathlib.Core.Path.{_≡_, refl, sym, _∙_, ap, subst}
-use mathlib.Core.Bool.{Bool, true, false, _&&_, _||_, not}
+use mathlib.Core.Bool.{Bool, true, false, _||_}
 use mathlib.Core.List.{List}
 use Prim.Native.Nat.{ℕ, zero, suc, _<_, _≤_}
 use native.Mathlib.Omega.{arith}
 use lib.Dec.{eqb}
-use lib.ListN.{length, getD, length-map}
+use lib.ListN.{length, length-map}
 use borrow.Author.Tests.{eqb-true, eq-eqb}
 use Rattle.base.specs.Bytes.{same, same-refl, same-sound}
 use Rattle.base.specs.Choose.{choose}
 use Rattle.base.specs.Lists.{all}
-use Rattle.base.specs.Tests.{and-left, or-left}
 use Rattle.field_types.specs.Types.{type-eq}
 use Rattle.descriptor.specs.Descriptor.{Bytes, FieldDescriptor, FileDescriptor}
 use Rattle.options.specs.Settings.{Setting}
-use Rattle.name_rules.specs.Accessors.{type, label, is-repeated, is-message, is-group}
+use Rattle.name_rules.specs.Accessors.{type, label, is-repeated, is-message}
 use Rattle.name_rules.specs.FullNames.{Entry, set-entries}
-use Rattle.context.specs.MessageGraph.{is-link, fields-of, links, leads, is-nested}
+use Rattle.context.specs.MessageGraph.{fields-of, links, leads, is-nested}
 use Rattle.context.specs.Context.{depth, field-copy, message-copy, can-message-derive-copy, can-field-derive-copy, field-eq, message-eq, can-message-derive-eq, can-field-derive-eq}
 use Rattle.message_graph.specs.Limit.{messages}
-use Rattle.message_graph.specs.Fields.{size, owner-of, target-of, kind-of, label-of}
+use Rattle.message_graph.specs.Fields.{owner-of}
 use Rattle.message_graph.specs.Fields as numbers
-use Rattle.message_graph.specs.Leads.{Leads, leadsb}
+use Rattle.message_graph.specs.Leads.{Leads}
 use Rattle.message_graph.specs.Leads.Leads.{here, step}
 use Rattle.message_graph.specs.Decided.{leads-sound, same-test}
 use Rattle.derives.specs.declared.Derive.{Derive}
@@ -29,12 +28,13 @@ use Rattle.derives.specs.declared.Derive.the-variants.{Copy, Eq}
 use Rattle.derives.specs.Rules.{rule}
 use Rattle.derives.specs.Rules as rules
 use Rattle.derives.specs.RuleLaws.{rule-same}
-use Rattle.derives.specs.Can.{every, field-can, entry-can, message-can, can-message-derive, can-field-derive}
-use Rattle.derives.specs.Depth.{rank, rank-within, rank-most, settled}
+use Rattle.derives.specs.Can.{field-can, entry-can, message-can, can-message-derive, can-field-derive}
+use Rattle.derives.specs.Depth.{rank-within, settled}
 use Rattle.context_laws.specs.At.{At, at-within}
 use Rattle.context_laws.specs.Tables.{Row, rows-of, listed, number-of, type-name-of, tables-of, is-set, settings-of, Sound}
 use Rattle.context_laws.specs.Numbers.{listed-at, entered, number-at, number-entered, number-one}
 use Rattle.context_laws.specs.Rows.{row-listed, row-typed, row-owner, row-target, row-kind, row-label, row-set, row-link, row-at}
+use Rattle.context_laws.specs.Links.{link-typed}
 use Rattle.context_laws.specs.Boxed.{leads-back}
 use Rattle.context_laws.specs.Every.{every-is-all, of-other, own-rows}
 
@@ -76,9 +76,6 @@ module _ (rs : List Setting) (set : List FileDescriptor) where
 module _ (d : Derive) (rs : List Setting) (set : List FileDescriptor) (s : Sound (set-entries set)) where
   abbrev es : List Entry
   es = set-entries set
-
-  link-typed : (f : FieldDescriptor) → is-link f ≡ true → (is-message f || is-group f) ≡ true
-  link-typed f is = or-left (is-group f) (and-left (is-message f) (not (is-repeated f)) is)
 
   -- the field of the row k
   field-same : {r : Row} {k : ℕ} → At r (rows-of es) k → (can : ℕ → Bool) (can′ : Bytes → Bool) → ((full : Bytes) → listed es full ≡ true → can (number-of es full) ≡ can′ full) → field-can d (tables-of es) (settings-of rs es) can k ≡ field-by rs set d can′ (r .full) (r .field)

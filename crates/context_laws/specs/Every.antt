@@ -15,7 +15,7 @@ use Rattle.context.specs.MessageGraph.{fields-of}
 use Rattle.derives.specs.Can.{every}
 use Rattle.context_laws.specs.At.{At}
 use Rattle.context_laws.specs.At.At.{first, next}
-use Rattle.context_laws.specs.Tables.{Row, row, rows-from, rows-of, called, listed, Distinct}
+use Rattle.context_laws.specs.Tables.{Row, row, rows-from, called, listed, Distinct}
 
 every-first : (n : ℕ) (p : ℕ → Bool) → every (suc n) p ≡ (p zero && every n (λ k. p (suc k)))
 unfolding every

@@ -1,12 +1,10 @@
 -- Leading by full names is leading by numbers. Assumes nothing.
 use mathlib.Core.Path.{_≡_, refl, sym, _∙_, ap, subst}
-use mathlib.Core.Bool.{Bool, true, false, _&&_, _||_, not}
+use mathlib.Core.Bool.{Bool, true, false, _||_, not}
 use mathlib.Core.List.{List, [], _∷_, _++_, map, List·Memᴰ, List·Memᴰ·not-nil, List·Memᴰ·cases-cons}
 use mathlib.Core.List.List·Memᴰ.{List·Memᴰ·head, List·Memᴰ·tail}
 use mathlib.Core.Logic.{⊎-elim}
 use Prim.Native.Nat.{ℕ, zero, suc}
-use lib.Dec.{eqb}
-use lib.ListN.{length}
 use Rattle.base.specs.Bytes.{same, same-refl, same-sound}
 use Rattle.base.specs.Choose.{choose, choose-case}
 use Rattle.base.specs.Tests.{and-left, or-left}
@@ -14,14 +12,14 @@ use Rattle.descriptor.specs.Descriptor.{Bytes, FieldDescriptor}
 use Rattle.name_rules.specs.Accessors.{is-repeated, is-message, is-group}
 use Rattle.name_rules.specs.FullNames.{Entry}
 use Rattle.context.specs.MessageGraph.{Link, is-link, field-links, links, leads}
-use Rattle.message_graph.specs.Fields.{owner-of, target-of, kind-of, label-of, link}
+use Rattle.message_graph.specs.Fields.{link}
 use Rattle.message_graph.specs.Fields as numbers
 use Rattle.message_graph.specs.Leads.{Leads, leadsb}
 use Rattle.message_graph.specs.Leads.Leads.{here, step}
 use Rattle.message_graph.specs.Walks.{Walk, walks, walks-sound, walks-complete}
 use Rattle.message_graph.specs.Walks.Walk.{stay, go}
 use Rattle.message_graph.specs.Decided.{leads-sound, leads-complete, same-test}
-use Rattle.context_laws.specs.At.{At, at-of-mem}
+use Rattle.context_laws.specs.At.{At}
 use Rattle.context_laws.specs.At.At.{first, next}
 use Rattle.context_laws.specs.Tables.{Row, row, rows-from, rows-of, listed, number-of, type-name-of, tables-of, Sound}
 use Rattle.context_laws.specs.Numbers.{listed-at, number-at, number-one}
@@ -100,6 +98,10 @@ in-links {r} (next {y} p) is = choose-case (λ (ls : List Link). List·Memᴰ (l
 pub in-set : (es : List Entry) {r : Row} {k : ℕ} → At r (rows-of es) k → is-link (r .field) ≡ true → List·Memᴰ (link-of r) (links es)
 in-set es {r} p is = subst (λ (ls : List Link). List·Memᴰ (link-of r) ls) (sym (links-rows 0 es)) (in-links p is)
 
+-- a link's type is a message
+pub link-typed : (f : FieldDescriptor) → is-link f ≡ true → (is-message f || is-group f) ≡ true
+link-typed f is = or-left (is-group f) (and-left (is-message f) (not (is-repeated f)) is)
+
 -- ---- leading, by full names and by numbers
 
 module _ {es : List Entry} (s : Sound es) where
@@ -121,7 +123,7 @@ module _ {es : List Entry} (s : Sound es) where
   to-names (step l p) a c ha hc ea ec =
       let r = row-at es (l .field) (l .within) in
       let is = sym (row-link s (r .1)) ∙ l .is in
-      let typed = row-typed s (r .1) (or-left (is-group (r .0 .field)) (and-left (is-message (r .0 .field)) (not (is-repeated (r .0 .field))) is)) in
+      let typed = row-typed s (r .1) (link-typed (r .0 .field) is) in
       go (link-of (r .0)) (in-set es (r .1) is)
       (number-one es (r .0 .full) a (s .distinct) (row-listed s (r .1)) ha (sym (row-owner s (r .1)) ∙ l .from ∙ ea))
       (to-names p (type-name-of (r .0)) c typed hc (sym (l .to) ∙ row-target s (r .1)) ec)

@@ -1,13 +1,13 @@
 -- Messages by their number and by their full name. Assumes nothing.
 use mathlib.Core.Path.{_≡_, refl, sym, _∙_, ap, subst}
-use mathlib.Core.Bool.{Bool, true, false, _||_, not}
+use mathlib.Core.Bool.{true, false, not}
 use mathlib.Core.List.{List, [], _∷_}
 use mathlib.Core.Logic.{⊎-elim}
-use Prim.Native.Nat.{ℕ, zero, suc, _+_, _≤_, _<_, zero-le}
+use Prim.Native.Nat.{ℕ, zero, suc, _≤_, _<_}
 use native.Mathlib.Omega.{arith}
 use lib.ListN.{length}
 use Rattle.base.specs.Bytes.{same, same-refl, same-sound}
-use Rattle.base.specs.Choose.{choose, choose-case}
+use Rattle.base.specs.Choose.{choose}
 use Rattle.base.specs.Lists.{any, first-failing}
 use Rattle.base.specs.Tests.{bool-cases, both-ways, or-left, or-right, or-cases}
 use Rattle.descriptor.specs.Descriptor.{Bytes}

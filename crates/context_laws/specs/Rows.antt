@@ -1,20 +1,21 @@
 -- The rows of the tables: entry by entry, as a loop fills them, and what stands in the row of a field. Assumes nothing.
 use mathlib.Core.Path.{_≡_, refl, sym, _∙_, ap, subst}
-use mathlib.Core.Bool.{Bool, true, false, _||_}
+use mathlib.Core.Bool.{true, false, _||_}
 use mathlib.Core.List.{List, [], _∷_, _++_, map, map-append, map-map, append-assoc, append-nil, List·Memᴰ, List·Memᴰ·not-nil, List·Memᴰ·append-cases, Memᴰ·append-left, Memᴰ·append-right, Memᴰ·cast, Memᴰ·of-map}
 use mathlib.Core.Logic.{⊎-elim}
-use Prim.Native.Nat.{ℕ, zero, suc, _+_, _<_, _≤_}
+use Prim.Native.Nat.{ℕ, zero, suc, _+_, _<_}
 use native.Mathlib.Nat.{zero-add, add-zero, suc-add, add-suc}
 use native.Mathlib.Omega.{arith}
 use lib.ListN.{length, getD, take, replicate, length-append, length-map}
+use lib.Seq.{take-length, ext-getD}
 use Rattle.descriptor.specs.Descriptor.{Bytes, FieldDescriptor}
 use Rattle.options.specs.Settings.{Setting}
 use Rattle.name_rules.specs.Accessors.{type, label, is-message, is-group}
 use Rattle.name_rules.specs.FullNames.{Entry, fields-of-entries}
-use Rattle.message_graph.specs.Limit.{messages}
 use Rattle.context.specs.MessageGraph.{is-link}
 use Rattle.message_graph.specs.Fields.{size, owner-of, target-of, kind-of, label-of, link, message-at-is}
 use Rattle.message_graph.specs.Fields as numbers
+use Rattle.message_graph.specs.Tab.{tab, length-tab, tab-at}
 use Rattle.context_laws.specs.At.{At, at-within, at-getD, at-some, at-left, at-right, at-map, mem-of-at}
 use Rattle.context_laws.specs.At.At.{first, next}
 use Rattle.context_laws.specs.Tables.{Row, row, rows-from, rows-of, listed, number-of, type-name-of, tables-of, is-set, settings-of, Sound}
@@ -59,14 +60,39 @@ row-from : (i : ℕ) {e : Entry} {es : List Entry} {a : ℕ} → At e es a → {
 unfolding rows-from first-row fields-of-entries
 row-from i (first {y} {xs} q) {f} {j} h =
     rw (add-zero, zero-add, q) (at-left (rows-from (suc i) xs) (at-map (row i y) (subst (λ (g : Entry). At f (g .message .fields) j) q h)))
-row-from i {e} {a = a} (next {y} {xs} {k} p) {f} {j} h =
-    let n = length (y .message .fields) in
+row-from i (next {y} {xs} {k} p) {f} {j} h =
     let place : length (map (row i y) (y .message .fields)) + (first-row xs k + j) ≡ length (y .message .fields ++ fields-of-entries (take k xs)) + j = simp (length-map, length-append) (omega arith) in
     rw (← place, add-suc, ← suc-add) (at-right (map (row i y) (y .message .fields)) (row-from (suc i) p h))
 
 -- the row of the field j of the message a
 pub row-of : {e : Entry} {es : List Entry} {a : ℕ} → At e es a → {f : FieldDescriptor} {j : ℕ} → At f (e .message .fields) j → At (row a e f) (rows-of es) (first-row es a + j)
-row-of {a = a} p h = rw zero-add at (row-from 0 p h)
+row-of p h = rw zero-add at (row-from 0 p h)
+
+-- what a column has there
+pub column-at : {A : Type 0} (g : Row → A) (d : A) {e : Entry} {es : List Entry} {a : ℕ} → At e es a → {f : FieldDescriptor} {j : ℕ} → At f (e .message .fields) j → getD (map g (rows-of es)) (first-row es a + j) d ≡ g (row a e f)
+column-at g d p h = at-getD (at-map g (row-of p h)) d
+
+-- the rows of the next message come behind its own, and those of all messages are all
+pub first-row-next : {e : Entry} {es : List Entry} {a : ℕ} → At e es a → first-row es (suc a) ≡ first-row es a + length (e .message .fields)
+unfolding first-row fields-of-entries
+first-row-next (first {y} {xs} q) = rw (zero-add, q) (length-append (y .message .fields) [] ∙ add-zero _)
+first-row-next (next {y} {xs} {k} p) =
+    rw (length-append (y .message .fields) (fields-of-entries (take k xs))) (length-append (y .message .fields) (fields-of-entries (take (suc k) xs)) ∙ rw (first-row-next p) (omega arith))
+
+rows-count : (i : ℕ) (es : List Entry) → length (rows-from i es) ≡ length (fields-of-entries es)
+unfolding rows-from fields-of-entries
+rows-count i [] = refl
+rows-count i (e ∷ es) =
+    length-append (map (row i e) (e .message .fields)) (rows-from (suc i) es)
+    ∙ rw (length-map (e .message .fields) (row i e), rows-count (suc i) es) (sym (length-append (e .message .fields) (fields-of-entries es)))
+
+pub first-row-end : (es : List Entry) → first-row es (length es) ≡ length (rows-of es)
+unfolding first-row
+first-row-end es = rw take-length (sym (rows-count 0 es))
+
+-- a column is a table of what it has at each place, as `Filled` has it
+pub column-tab : {A : Type 0} (l : List A) (d : A) → l ≡ tab (length l) (λ k. getD l k d)
+column-tab l d = ext-getD d l (tab (length l) (λ k. getD l k d)) (sym (length-tab (length l) (λ k. getD l k d))) (λ i h. sym (tab-at (length l) (λ k. getD l k d) d i h))
 
 -- ---- what a row says of its message
 

@@ -2,7 +2,7 @@
 use mathlib.Core.Path.{_≡_, refl, sym, _∙_, ap, subst}
 use mathlib.Core.Bool.{Bool, true, false, _&&_, _||_, not, or-false, or-assoc}
 use mathlib.Core.List.{List, [], _∷_, _++_, append-assoc, List·Memᴰ, List·Memᴰ·not-nil, List·Memᴰ·cases-cons, List·Memᴰ·append-cases}
-use mathlib.Core.Logic.{_⊎_, ⊎-elim}
+use mathlib.Core.Logic.{⊎-elim}
 use Prim.Native.Nat.{ℕ, suc, _+_, _≤_}
 use native.Mathlib.Nat.{not-suc-le-zero}
 use native.Mathlib.Omega.{arith}
@@ -15,12 +15,12 @@ use Rattle.base.specs.Lists.{all, any, all-of}
 use Rattle.base.specs.Tests.{bool-cases, both-ways, and-left, and-right, or-left, or-right, or-cases, or-false-left, or-false-right}
 use Rattle.descriptor.specs.Descriptor.{Bytes, Forest, done, node, preorder, FieldDescriptor, EnumDescriptor, MessageDescriptor, FileDescriptor}
 use Rattle.descriptor.specs.Limits.{max-messages, messages-in}
-use Rattle.name_rules.specs.Accessors.{text, is-message, is-group}
+use Rattle.name_rules.specs.Accessors.{text}
 use Rattle.name_rules.specs.FullNames.{_·_, Entry, entries, set-entries, package-scope, Declaration, enum-declarations, entry-declarations, file-declarations, set-declarations, declared, equals, declared-as, fresh, type-declared, fields-of-entries, file-fields, first-undeclared}
 use Rattle.name_rules.specs.declared.Names.{Names}
 use Rattle.name_rules.specs.declared.Names.the-variants.{Good, Six, Seven}
 use Rattle.name_rules.specs.Answer.{first-six, first-seven, names, refusal-number}
-use Rattle.context_laws.specs.Tables.{called, listed, Distinct, Sound}
+use Rattle.context_laws.specs.Tables.{listed, Distinct, Sound}
 
 -- ---- tests over two lists, one after the other
 

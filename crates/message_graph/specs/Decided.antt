@@ -1,11 +1,11 @@
 -- The test `leadsb` says what `Leads` says. Assumes nothing.
-use mathlib.Core.Path.{_≡_, refl, sym, _∙_, ap, subst}
-use mathlib.Core.Bool.{Bool, true, false, _&&_, _||_, or-false}
+use mathlib.Core.Path.{_≡_, refl, sym, _∙_, subst}
+use mathlib.Core.Bool.{Bool, true, false, or-false}
 use mathlib.Core.Logic.{⊎-elim}
 use mathlib.Core.List.{List, [], _∷_, List·Memᴰ, List·Memᴰ·not-nil, List·Memᴰ·cases-cons}
 use mathlib.Core.List.List·Memᴰ.{List·Memᴰ·head, List·Memᴰ·tail}
 use Prim.Native.Nat.{ℕ, zero, suc, _≤_, _<_}
-use native.Mathlib.Nat.{le-refl, le-of-suc-le-suc, not-suc-le-zero, eq-or-lt-of-le}
+use native.Mathlib.Nat.{le-of-suc-le-suc, not-suc-le-zero, eq-or-lt-of-le}
 use native.Mathlib.Omega.{arith}
 use lib.Dec.{eqb}
 use borrow.Author.Tests.{eqb-true, eq-eqb}
@@ -14,7 +14,7 @@ use Rattle.message_graph.specs.Limit.{messages}
 use Rattle.message_graph.specs.Fields.{Fields, size, owner-of, target-of, link, message-at-below}
 use Rattle.message_graph.specs.Walks.{Walk, walks, walks-sound, walks-complete}
 use Rattle.message_graph.specs.Walks.Walk.{stay, go}
-use Rattle.message_graph.specs.Leads.{Link, Leads, leads-by, leadsb, Decides}
+use Rattle.message_graph.specs.Leads.{Leads, leads-by, leadsb, Decides}
 use Rattle.message_graph.specs.Leads.Leads.{here, step}
 
 -- those of the first n fields that are links, the last one first

@@ -23,11 +23,9 @@ returns-4 : tie.Need-returns-4
 unfolding can-field-derive-copy
 returns-4 c = search (choices, flags, c .if4 .left, c .before .if3 .left, c .before .before .if2 .taken, c .before .before .before .if1 .left) depth 12
 
--- src/lib.rt:74:9
 wide-requires : tie.Need-wide-requires
 wide-requires c κs = search needs
 
--- src/lib.rt:75:5
 can-pack-requires : tie.Need-can-pack-requires
 can-pack-requires c κs = search needs
 

@@ -18,7 +18,6 @@ returns-3 : tie.Need-returns-3
 unfolding can-field-derive-eq
 returns-3 c = search (choices, flags, c .if3 .left, c .before .if2 .left, c .before .before .if1 .taken) depth 12
 
--- src/lib.rt:90:5
 type-eq-requires : tie.Need-type-eq-requires
 type-eq-requires c κs = search needs
 
