@@ -7,3 +7,4 @@ pub mod Boxed
 pub mod Every
 pub mod Derived
 pub mod SoundSets
+pub mod Ranges

@@ -39,14 +39,14 @@ unfolding declared-as
 as-append x [] ys = refl
 as-append x (d ∷ xs) ys = rw (as-append x xs ys) (sym (or-assoc (equals (d .is-enumeration) false && same (d .full) x) (declared-as false x xs) (declared-as false x ys)))
 
-fields-append : (xs ys : List Entry) → fields-of-entries (xs ++ ys) ≡ fields-of-entries xs ++ fields-of-entries ys
+pub fields-append : (xs ys : List Entry) → fields-of-entries (xs ++ ys) ≡ fields-of-entries xs ++ fields-of-entries ys
 unfolding fields-of-entries
 fields-append [] ys = refl
 fields-append (e ∷ xs) ys = rw (fields-append xs ys) (sym (append-assoc (e .message .fields) (fields-of-entries xs) (fields-of-entries ys)))
 
 -- ---- the messages among the declarations
 
-abbrev file-entries : FileDescriptor → List Entry
+abbrev pub file-entries : FileDescriptor → List Entry
 file-entries f = entries (package-scope (f .package-name)) (f .messages)
 
 no-enum : (scope x : Bytes) (es : List EnumDescriptor) → declared-as false x (enum-declarations scope es) ≡ false
@@ -134,12 +134,12 @@ distinct-append (e ∷ xs) ys p q h = (
 
 -- ---- files without refusal 7
 
-past : (t : Bool) (u n : ℕ) → suc n ≤ choose t (1 + u) 0 → (t ≡ true) × (n ≤ u)
+pub past : (t : Bool) (u n : ℕ) → suc n ≤ choose t (1 + u) 0 → (t ≡ true) × (n ≤ u)
 unfolding choose
 past true u n h = (refl, omega arith)
 past false u n h = absurd (not-suc-le-zero h)
 
-all-of-all : {A : Type 0} (p : A → Bool) (xs : List A) → all p xs ≡ true → (x : A) → List·Memᴰ x xs → p x ≡ true
+pub all-of-all : {A : Type 0} (p : A → Bool) (xs : List A) → all p xs ≡ true → (x : A) → List·Memᴰ x xs → p x ≡ true
 unfolding all
 all-of-all p [] h x m = absurd (List·Memᴰ·not-nil m)
 all-of-all p (y ∷ ys) h x m =
@@ -191,19 +191,23 @@ set-count [] = refl
 set-count (f ∷ fs) =
     length-append (file-entries f) (set-entries fs) ∙ rw (entries-count (package-scope (f .package-name)) (f .messages), set-count fs) (sym (length-append (preorder (f .messages)) (messages-in fs)))
 
--- where `names` finds no refusal, there is no file with refusal 7
-no-seven : (t u : Bool) (six seven : Names) → (refusal-number seven ≡ 0 → ⊥) → (refusal-number six ≡ 0 → ⊥) → choose t six (choose u seven Good) ≡ Good → u ≡ false
+-- where `names` finds no refusal, there is no file with refusal 6 or 7
+choose-none : (t u : Bool) (six seven : Names) → (refusal-number six ≡ 0 → ⊥) → (refusal-number seven ≡ 0 → ⊥) → choose t six (choose u seven Good) ≡ Good → (t ≡ false) × (u ≡ false)
 unfolding choose
-no-seven true u six seven h g e = absurd (g (ap refusal-number e))
-no-seven false true six seven h g e = absurd (h (ap refusal-number e))
-no-seven false false six seven h g e = refl
+choose-none true u six seven g h e = absurd (g (ap refusal-number e))
+choose-none false true six seven g h e = absurd (h (ap refusal-number e))
+choose-none false false six seven g h e = (refl, refl)
+
+pub no-refusals : (set : List FileDescriptor) → names set ≡ Good → (ltb (first-six set) (length set) ≡ false) × (ltb (first-seven set) (length set) ≡ false)
+unfolding names
+no-refusals set good =
+    choose-none (ltb (first-six set) (length set)) (ltb (first-seven set) (length set)) (Six (first-six set)) (Seven (first-seven set)) (λ e. omega arith) (λ e. omega arith) good
 
 -- limit 3 is kept, and there is neither refusal 6 nor 7
 pub sound-set : (set : List FileDescriptor) → length (messages-in set) ≤ max-messages → names set ≡ Good → Sound (set-entries set)
-unfolding names first-seven type-declared choose
+unfolding first-seven type-declared choose
 sound-set set few good =
-    let seven = no-seven (ltb (first-six set) (length set)) (ltb (first-seven set) (length set)) (Six (first-six set)) (Seven (first-seven set)) (λ e. omega arith) (λ e. omega arith) good in
-    let all-files = files (set-declarations set) [] set (ltb-false (first-seven set) (length set) seven) in
+    let all-files = files (set-declarations set) [] set (ltb-false (first-seven set) (length set) (no-refusals set good .1)) in
     record {
       few = subst (λ (n : ℕ). n ≤ max-messages) (sym (set-count set)) few;
       distinct = all-files .distinct;
