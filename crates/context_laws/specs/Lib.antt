@@ -8,3 +8,4 @@ pub mod Every
 pub mod Derived
 pub mod SoundSets
 pub mod Ranges
+pub mod Examples

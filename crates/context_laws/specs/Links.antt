@@ -27,6 +27,7 @@ use Rattle.context_laws.specs.Rows.{row-within, row-listed, row-typed, r
 
 -- ---- `leads` is the test of walks along links
 
+-- document 01's leading, as a relation: a walk along links
 abbrev pub Led : List Link → Bytes → Bytes → Type 0
 Led = Walk (λ (l : Link). l .from) (λ (l : Link). l .to)
 
