@@ -80,9 +80,9 @@ module _ (rs : List Setting) (set : List FileDescriptor) where
   link-should-box r is at =
       link-boxed (is-message (r .field)) (is-group (r .field)) (is-repeated (r .field)) (leads (links (set-entries set)) (type-name-of r) (r .full)) (has rs 4 (at · text (r .field .name))) is
 
-  pub boxing : Boxing rs set
+  pub boxes-on-walks : Boxing rs set
   unfolding taken
-  boxing = record {
+  boxes-on-walks = record {
     all = λ a w r k p is m at.
         let round = around w (link-of r) m in
         link-should-box r is at ∙ or-left _ (led-complete (links (set-entries set)) (type-name-of r) (r .full) (join (round .1) (round .0)));

@@ -32,7 +32,7 @@ use Rattle.derives.specs.Can.{field-can, entry-can, message-can, can-message-de
 use Rattle.derives.specs.Depth.{rank-within, settled}
 use Rattle.context_laws.specs.At.{At, at-within}
 use Rattle.context_laws.specs.Tables.{Row, rows-of, listed, number-of, type-name-of, tables-of, is-set, settings-of, Sound}
-use Rattle.context_laws.specs.Numbers.{listed-at, entered, number-at, number-entered, number-one}
+use Rattle.context_laws.specs.Numbers.{listed-at, find-entry, number-at, number-entered, number-one}
 use Rattle.context_laws.specs.Rows.{row-listed, row-typed, row-owner, row-target, row-kind, row-label, row-set, row-link, row-at}
 use Rattle.context_laws.specs.Links.{link-typed}
 use Rattle.context_laws.specs.Boxed.{leads-back}
@@ -110,7 +110,7 @@ module _ (d : Derive) (rs : List Setting) (set : List FileDescriptor) (s : Sound
   reach (step l p) h =
       let r = row-at es (l .field) (l .within) in
       let is = sym (row-link s (r .1)) ∙ l .is in
-      let t = entered es (type-name-of (r .0)) (row-typed s (r .1) (link-typed (r .0 .field) is)) in
+      let t = find-entry es (type-name-of (r .0)) (row-typed s (r .1) (link-typed (r .0 .field) is)) in
       let number = number-entered (s .distinct) t in
       let within = at-within (t .at) in
       let target = row-target s (r .1) in
@@ -119,7 +119,7 @@ module _ (d : Derive) (rs : List Setting) (set : List FileDescriptor) (s : Sound
 
   deep : (n : ℕ) (full : Bytes) → listed es full ≡ true → length es ≤ n → message-can d (tables-of es) (settings-of rs es) n (number-of es full) ≡ message-can d (tables-of es) (settings-of rs es) (length es) (number-of es full)
   deep n full h le =
-      let t = entered es full h in
+      let t = find-entry es full h in
       let number = number-entered (s .distinct) t in
       let within = at-within (t .at) in
       let most = rank-within (tables-of es) (number-of es full) (length es) (λ k e. reach (leads-sound (tables-of es) (number-of es full) k e) (omega arith)) in

@@ -15,7 +15,7 @@ use Rattle.context.specs.MessageGraph.{fields-of}
 use Rattle.derives.specs.Can.{every}
 use Rattle.context_laws.specs.At.{At}
 use Rattle.context_laws.specs.At.At.{first, next}
-use Rattle.context_laws.specs.Tables.{Row, row, rows-from, called, listed, Distinct}
+use Rattle.context_laws.specs.Tables.{Row, field-row, rows-from, called, listed, Distinct}
 
 every-first : (n : ℕ) (p : ℕ → Bool) → every (suc n) p ≡ (p zero && every n (λ k. p (suc k)))
 unfolding every
@@ -45,15 +45,15 @@ abbrev pub of-other : (Bytes → FieldDescriptor → Bool) → Bytes → Row →
 of-other can full r = not (same (r .full) full) || can (r .full) (r .field)
 
 module _ (can : Bytes → FieldDescriptor → Bool) (full : Bytes) where
-  by-entry : (i : ℕ) (e : Entry) (es : List Entry) → all (of-other can full) (rows-from i (e ∷ es)) ≡ (all (λ f. of-other can full (row i e f)) (e .message .fields) && all (of-other can full) (rows-from (suc i) es))
+  by-entry : (i : ℕ) (e : Entry) (es : List Entry) → all (of-other can full) (rows-from i (e ∷ es)) ≡ (all (λ f. of-other can full (field-row i e f)) (e .message .fields) && all (of-other can full) (rows-from (suc i) es))
   unfolding rows-from
   by-entry i e es =
-      all-append (of-other can full) (map (row i e) (e .message .fields)) (rows-from (suc i) es)
-      ∙ ap (λ (t : Bool). t && all (of-other can full) (rows-from (suc i) es)) (all-map (of-other can full) (row i e) (e .message .fields))
+      all-append (of-other can full) (map (field-row i e) (e .message .fields)) (rows-from (suc i) es)
+      ∙ ap (λ (t : Bool). t && all (of-other can full) (rows-from (suc i) es)) (all-map (of-other can full) (field-row i e) (e .message .fields))
 
   -- of messages with other full names alone
-  others : (e : Entry) → same (e .full) full ≡ false → (i : ℕ) → all (λ f. of-other can full (row i e f)) (e .message .fields) ≡ true
-  others e h i = all-true (λ f. of-other can full (row i e f)) (λ f. rw h) (e .message .fields)
+  others : (e : Entry) → same (e .full) full ≡ false → (i : ℕ) → all (λ f. of-other can full (field-row i e f)) (e .message .fields) ≡ true
+  others e h i = all-true (λ f. of-other can full (field-row i e f)) (λ f. rw h) (e .message .fields)
 
   none : (i : ℕ) (es : List Entry) → listed es full ≡ false → all (of-other can full) (rows-from i es) ≡ true
   unfolding listed any rows-from all

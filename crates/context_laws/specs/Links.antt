@@ -21,7 +21,7 @@ use Rattle.message_graph.specs.Walks.Walk.{stay, go}
 use Rattle.message_graph.specs.Decided.{leads-sound, leads-complete, same-test}
 use Rattle.context_laws.specs.At.{At}
 use Rattle.context_laws.specs.At.At.{first, next}
-use Rattle.context_laws.specs.Tables.{Row, row, rows-from, rows-of, listed, number-of, type-name-of, tables-of, Sound}
+use Rattle.context_laws.specs.Tables.{Row, field-row, rows-from, rows-of, listed, number-of, type-name-of, tables-of, Sound}
 use Rattle.context_laws.specs.Numbers.{listed-at, number-at, number-one}
 use Rattle.context_laws.specs.Rows.{row-within, row-listed, row-typed, row-owner, row-target, row-link, row-at}
 
@@ -56,11 +56,11 @@ unfolding choose
 chosen {A} true x xs ys zs e = ap (λ (l : List A). x ∷ l) e
 chosen false x xs ys zs e = e
 
-links-row : (e : Entry) (i : ℕ) (fs : List FieldDescriptor) (rs : List Row) → row-links (map (row i e) fs ++ rs) ≡ field-links (e .full) fs ++ row-links rs
+links-row : (e : Entry) (i : ℕ) (fs : List FieldDescriptor) (rs : List Row) → row-links (map (field-row i e) fs ++ rs) ≡ field-links (e .full) fs ++ row-links rs
 unfolding row-links field-links
 links-row e i [] rs = refl
 links-row e i (f ∷ fs) rs =
-    chosen (is-link f) (link-of (row i e f)) (field-links (e .full) fs) (row-links rs) (row-links (map (row i e) fs ++ rs)) (links-row e i fs rs)
+    chosen (is-link f) (link-of (field-row i e f)) (field-links (e .full) fs) (row-links rs) (row-links (map (field-row i e) fs ++ rs)) (links-row e i fs rs)
 
 links-rows : (i : ℕ) (es : List Entry) → links es ≡ row-links (rows-from i es)
 unfolding links row-links rows-from
@@ -68,27 +68,27 @@ links-rows i [] = refl
 links-rows i (e ∷ es) = rw (links-rows (suc i) es) (sym (links-row e i (e .message .fields) (rows-from (suc i) es)))
 
 pub record Linked (rs : List Row) (l : Link) : Type 0 where
-  pub row : Row
+  pub found : Row
   pub place : ℕ
-  pub at : At row rs place
-  pub is : is-link (row .field) ≡ true
-  pub same : link-of row ≡ l
+  pub at : At found rs place
+  pub is : is-link (found .field) ≡ true
+  pub same : link-of found ≡ l
 
-linked : (rs : List Row) (l : Link) → List·Memᴰ l (row-links rs) → Linked rs l
+find-link : (rs : List Row) (l : Link) → List·Memᴰ l (row-links rs) → Linked rs l
 unfolding row-links
-linked [] l m = absurd (List·Memᴰ·not-nil m)
-linked (r ∷ rs) l m =
+find-link [] l m = absurd (List·Memᴰ·not-nil m)
+find-link (r ∷ rs) l m =
     choose-case (λ (ls : List Link). List·Memᴰ l ls → Linked (r ∷ rs) l) (is-link (r .field))
-    (λ is w. ⊎-elim (λ e. record { row = r; place = zero; at = first refl; is = is; same = sym e }) (λ v. later (linked rs l v)) (List·Memᴰ·cases-cons w))
-    (λ isnt w. later (linked rs l w))
+    (λ is w. ⊎-elim (λ e. record { found = r; place = zero; at = first refl; is = is; same = sym e }) (λ v. later (find-link rs l v)) (List·Memᴰ·cases-cons w))
+    (λ isnt w. later (find-link rs l w))
     m
   where
     later : Linked rs l → Linked (r ∷ rs) l
-    later p = record { row = p .row; place = suc (p .place); at = next (p .at); is = p .is; same = p .same }
+    later p = record { found = p .found; place = suc (p .place); at = next (p .at); is = p .is; same = p .same }
 
 -- each link of the set is that of a field
 pub link-row : (es : List Entry) (l : Link) → List·Memᴰ l (links es) → Linked (rows-of es) l
-link-row es l m = linked (rows-of es) l (subst (λ (ls : List Link). List·Memᴰ l ls) (links-rows 0 es) m)
+link-row es l m = find-link (rows-of es) l (subst (λ (ls : List Link). List·Memᴰ l ls) (links-rows 0 es) m)
 
 in-links : {r : Row} {rs : List Row} {k : ℕ} → At r rs k → is-link (r .field) ≡ true → List·Memᴰ (link-of r) (row-links rs)
 unfolding row-links choose

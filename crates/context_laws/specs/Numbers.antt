@@ -30,12 +30,12 @@ pub record Entered (es : List Entry) (full : Bytes) : Type 0 where
   pub at : At entry es number
   pub name : entry .full ≡ full
 
-pub entered : (es : List Entry) (full : Bytes) → listed es full ≡ true → Entered es full
+pub find-entry : (es : List Entry) (full : Bytes) → listed es full ≡ true → Entered es full
 unfolding listed any
-entered [] full h = both-ways h refl
-entered (e ∷ es) full h =
+find-entry [] full h = both-ways h refl
+find-entry (e ∷ es) full h =
     ⊎-elim (λ w. record { entry = e; number = zero; at = first refl; name = same-sound (e .full) full w })
-    (λ w. let r = entered es full w in record { entry = r .entry; number = suc (r .number); at = next (r .at); name = r .name })
+    (λ w. let r = find-entry es full w in record { entry = r .entry; number = suc (r .number); at = next (r .at); name = r .name })
     (or-cases (same (e .full) full) (any (called full) es) h)
 
 place : {e : Entry} {es : List Entry} {a : ℕ} → Distinct es → At e es a → first-failing (λ g. not (called (e .full) g)) es ≡ a
@@ -61,14 +61,14 @@ number-none es full w = rw w
 -- a full name's number is below 256
 pub number-below : (es : List Entry) (full : Bytes) → Distinct es → length es ≤ messages → number-of es full < messages
 number-below es full d h =
-    ⊎-elim (λ w. let r = entered es full w in let m = at-within (r .at) in let n = number-entered d r in omega arith)
+    ⊎-elim (λ w. let r = find-entry es full w in let m = at-within (r .at) in let n = number-entered d r in omega arith)
     (λ w. let n = number-none es full w in omega arith)
     (bool-cases (listed es full))
 
 -- no two listed full names have one number
 pub number-one : (es : List Entry) (x y : Bytes) → Distinct es → listed es x ≡ true → listed es y ≡ true → number-of es x ≡ number-of es y → x ≡ y
 number-one es x y d hx hy e =
-    let r = entered es x hx in
-    let s = entered es y hy in
+    let r = find-entry es x hx in
+    let s = find-entry es y hy in
     let both : r .number ≡ s .number = sym (number-entered d r) ∙ e ∙ number-entered d s in
     sym (r .name) ∙ ap (λ (g : Entry). g .full) (at-one (r .at) (subst (λ (k : ℕ). At (s .entry) es k) (sym both) (s .at))) ∙ s .name

@@ -18,14 +18,14 @@ use Rattle.message_graph.specs.Fields as numbers
 use Rattle.message_graph.specs.Tab.{tab, length-tab, tab-at}
 use Rattle.context_laws.specs.At.{At, at-within, at-getD, at-some, at-left, at-right, at-map, mem-of-at}
 use Rattle.context_laws.specs.At.At.{first, next}
-use Rattle.context_laws.specs.Tables.{Row, row, rows-from, rows-of, listed, number-of, type-name-of, tables-of, is-set, settings-of, Sound}
+use Rattle.context_laws.specs.Tables.{Row, field-row, rows-from, rows-of, listed, number-of, type-name-of, tables-of, is-set, settings-of, Sound}
 use Rattle.context_laws.specs.Numbers.{listed-at, Entered, number-entered, number-below}
 
 -- ---- a column, entry by entry
 
-pub column-entry : {A : Type 0} (g : Row → A) (i : ℕ) (e : Entry) (es : List Entry) → map g (rows-from i (e ∷ es)) ≡ map (λ f. g (row i e f)) (e .message .fields) ++ map g (rows-from (suc i) es)
+pub column-entry : {A : Type 0} (g : Row → A) (i : ℕ) (e : Entry) (es : List Entry) → map g (rows-from i (e ∷ es)) ≡ map (λ f. g (field-row i e f)) (e .message .fields) ++ map g (rows-from (suc i) es)
 unfolding rows-from
-column-entry g i e es = map-append g (map (row i e) (e .message .fields)) (rows-from (suc i) es) ∙ rw (map-map g (row i e) (e .message .fields))
+column-entry g i e es = map-append g (map (field-row i e) (e .message .fields)) (rows-from (suc i) es) ∙ rw (map-map g (field-row i e) (e .message .fields))
 
 constant : {A : Type 0} (i : ℕ) (xs : List A) → map (λ x. i) xs ≡ replicate (length xs) i
 constant i [] = refl
@@ -38,17 +38,17 @@ pub rows-append : (i : ℕ) (xs ys : List Entry) → rows-from i (xs ++ ys) ≡ 
 unfolding rows-from
 rows-append i [] ys = rw add-zero
 rows-append i (x ∷ xs) ys =
-    rw (rows-append (suc i) xs ys, suc-add, add-suc) (sym (append-assoc (map (row i x) (x .message .fields)) (rows-from (suc i) xs) (rows-from (suc (i + length xs)) ys)))
+    rw (rows-append (suc i) xs ys, suc-add, add-suc) (sym (append-assoc (map (field-row i x) (x .message .fields)) (rows-from (suc i) xs) (rows-from (suc (i + length xs)) ys)))
 
 nothing : (i : ℕ) → rows-from i [] ≡ []
 unfolding rows-from
 nothing i = refl
 
 -- one more entry
-pub column-last : {A : Type 0} (g : Row → A) (es : List Entry) (e : Entry) → map g (rows-of (es ++ (e ∷ []))) ≡ map g (rows-of es) ++ map (λ f. g (row (length es) e f)) (e .message .fields)
+pub column-last : {A : Type 0} (g : Row → A) (es : List Entry) (e : Entry) → map g (rows-of (es ++ (e ∷ []))) ≡ map g (rows-of es) ++ map (λ f. g (field-row (length es) e f)) (e .message .fields)
 column-last {A} g es e =
     ap (map g) (rows-append 0 es (e ∷ [])) ∙ map-append g (rows-of es) (rows-from (0 + length es) (e ∷ []))
-    ∙ rw (zero-add, column-entry g (length es) e [], nothing) (ap (λ (l : List A). map g (rows-of es) ++ l) (append-nil (map (λ f. g (row (length es) e f)) (e .message .fields))))
+    ∙ rw (zero-add, column-entry g (length es) e [], nothing) (ap (λ (l : List A). map g (rows-of es) ++ l) (append-nil (map (λ f. g (field-row (length es) e f)) (e .message .fields))))
 
 -- ---- the row of a field
 
@@ -56,20 +56,20 @@ column-last {A} g es e =
 unfoldable pub first-row : List Entry → ℕ → ℕ
 first-row es a = length (fields-of-entries (take a es))
 
-row-from : (i : ℕ) {e : Entry} {es : List Entry} {a : ℕ} → At e es a → {f : FieldDescriptor} {j : ℕ} → At f (e .message .fields) j → At (row (i + a) e f) (rows-from i es) (first-row es a + j)
+row-from : (i : ℕ) {e : Entry} {es : List Entry} {a : ℕ} → At e es a → {f : FieldDescriptor} {j : ℕ} → At f (e .message .fields) j → At (field-row (i + a) e f) (rows-from i es) (first-row es a + j)
 unfolding rows-from first-row fields-of-entries
 row-from i (first {y} {xs} q) {f} {j} h =
-    rw (add-zero, zero-add, q) (at-left (rows-from (suc i) xs) (at-map (row i y) (subst (λ (g : Entry). At f (g .message .fields) j) q h)))
+    rw (add-zero, zero-add, q) (at-left (rows-from (suc i) xs) (at-map (field-row i y) (subst (λ (g : Entry). At f (g .message .fields) j) q h)))
 row-from i (next {y} {xs} {k} p) {f} {j} h =
-    let place : length (map (row i y) (y .message .fields)) + (first-row xs k + j) ≡ length (y .message .fields ++ fields-of-entries (take k xs)) + j = simp (length-map, length-append) (omega arith) in
-    rw (← place, add-suc, ← suc-add) (at-right (map (row i y) (y .message .fields)) (row-from (suc i) p h))
+    let place : length (map (field-row i y) (y .message .fields)) + (first-row xs k + j) ≡ length (y .message .fields ++ fields-of-entries (take k xs)) + j = simp (length-map, length-append) (omega arith) in
+    rw (← place, add-suc, ← suc-add) (at-right (map (field-row i y) (y .message .fields)) (row-from (suc i) p h))
 
 -- the row of the field j of the message a
-pub row-of : {e : Entry} {es : List Entry} {a : ℕ} → At e es a → {f : FieldDescriptor} {j : ℕ} → At f (e .message .fields) j → At (row a e f) (rows-of es) (first-row es a + j)
+pub row-of : {e : Entry} {es : List Entry} {a : ℕ} → At e es a → {f : FieldDescriptor} {j : ℕ} → At f (e .message .fields) j → At (field-row a e f) (rows-of es) (first-row es a + j)
 row-of p h = rw zero-add at (row-from 0 p h)
 
 -- what a column has there
-pub column-at : {A : Type 0} (g : Row → A) (d : A) {e : Entry} {es : List Entry} {a : ℕ} → At e es a → {f : FieldDescriptor} {j : ℕ} → At f (e .message .fields) j → getD (map g (rows-of es)) (first-row es a + j) d ≡ g (row a e f)
+pub column-at : {A : Type 0} (g : Row → A) (d : A) {e : Entry} {es : List Entry} {a : ℕ} → At e es a → {f : FieldDescriptor} {j : ℕ} → At f (e .message .fields) j → getD (map g (rows-of es)) (first-row es a + j) d ≡ g (field-row a e f)
 column-at g d p h = at-getD (at-map g (row-of p h)) d
 
 -- the rows of the next message come behind its own, and those of all messages are all
@@ -83,8 +83,8 @@ rows-count : (i : ℕ) (es : List Entry) → length (rows-from i es) ≡ length 
 unfolding rows-from fields-of-entries
 rows-count i [] = refl
 rows-count i (e ∷ es) =
-    length-append (map (row i e) (e .message .fields)) (rows-from (suc i) es)
-    ∙ rw (length-map (e .message .fields) (row i e), rows-count (suc i) es) (sym (length-append (e .message .fields) (fields-of-entries es)))
+    length-append (map (field-row i e) (e .message .fields)) (rows-from (suc i) es)
+    ∙ rw (length-map (e .message .fields) (field-row i e), rows-count (suc i) es) (sym (length-append (e .message .fields) (fields-of-entries es)))
 
 pub first-row-end : (es : List Entry) → first-row es (length es) ≡ length (rows-of es)
 unfolding first-row
@@ -104,13 +104,13 @@ pub record Owned (i : ℕ) (es : List Entry) (r : Row) : Type 0 where
   pub name : entry .full ≡ r .full
   pub field : List·Memᴰ (r .field) (fields-of-entries es)
 
-pub owned : (i : ℕ) (es : List Entry) (r : Row) → List·Memᴰ r (rows-from i es) → Owned i es r
+pub find-owner : (i : ℕ) (es : List Entry) (r : Row) → List·Memᴰ r (rows-from i es) → Owned i es r
 unfolding rows-from fields-of-entries
-owned i [] r m = absurd (List·Memᴰ·not-nil m)
-owned i (e ∷ es) r m =
+find-owner i [] r m = absurd (List·Memᴰ·not-nil m)
+find-owner i (e ∷ es) r m =
     ⊎-elim
     (λ w.
-    let p = Memᴰ·of-map (row i e) (e .message .fields) w in
+    let p = Memᴰ·of-map (field-row i e) (e .message .fields) w in
     record {
       entry = e;
       place = zero;
@@ -120,14 +120,14 @@ owned i (e ∷ es) r m =
       field = Memᴰ·append-left (fields-of-entries es) (Memᴰ·cast (sym (ap (λ (x : Row). x .field) (p .2))) (p .1));
     })
     (λ w.
-    let p = owned (suc i) es r w in
+    let p = find-owner (suc i) es r w in
     let o = p .owner in
     record { entry = p .entry; place = suc (p .place); at = next (p .at); owner = omega arith; name = p .name; field = Memᴰ·append-right (e .message .fields) (p .field) })
-    (List·Memᴰ·append-cases (map (row i e) (e .message .fields)) m)
+    (List·Memᴰ·append-cases (map (field-row i e) (e .message .fields)) m)
 
 module _ {es : List Entry} (s : Sound es) {r : Row} {k : ℕ} (p : At r (rows-of es) k) where
   from-entry : Owned 0 es r
-  from-entry = owned 0 es r (mem-of-at p)
+  from-entry = find-owner 0 es r (mem-of-at p)
 
   pub row-within : k < size (tables-of es)
   unfolding tables-of

@@ -101,12 +101,12 @@ abbrev Apart : List Declaration → Type 0
 Apart [] = Unit
 Apart (d ∷ ds) = (declared (d .full) ds ≡ false) × Apart ds
 
-apart : (before ds : List Declaration) → fresh before ds ≡ true → Apart ds
+fresh-is-apart : (before ds : List Declaration) → fresh before ds ≡ true → Apart ds
 unfolding fresh declared
-apart before [] h = tt
-apart before (d ∷ ds) h =
+fresh-is-apart before [] h = tt
+fresh-is-apart before (d ∷ ds) h =
     let rest = and-right (not (declared (d .full) before)) (fresh (d ∷ before) ds) h in
-    (unlisted (λ w. both-ways (or-left _ (same-refl (d .full))) (fresh-apart (d ∷ before) ds (d .full) rest w)) refl, apart (d ∷ before) ds rest)
+    (unlisted (λ w. both-ways (or-left _ (same-refl (d .full))) (fresh-apart (d ∷ before) ds (d .full) rest w)) refl, fresh-is-apart (d ∷ before) ds rest)
 
 apart-left : (xs ys : List Declaration) → Apart (xs ++ ys) → Apart xs
 apart-left [] ys p = tt
@@ -151,19 +151,19 @@ record Files (ds before : List Declaration) (fs : List FileDescriptor) : Type 0 
   new : (x : Bytes) → listed (set-entries fs) x ≡ true → declared x before ≡ false
   typed : (f : FieldDescriptor) → List·Memᴰ f (fields-of-entries (set-entries fs)) → type-declared ds f ≡ true
 
-files : (ds before : List Declaration) (fs : List FileDescriptor) → length fs ≤ first-undeclared ds before fs → Files ds before fs
+files-pass : (ds before : List Declaration) (fs : List FileDescriptor) → length fs ≤ first-undeclared ds before fs → Files ds before fs
 unfolding first-undeclared set-entries fields-of-entries listed any file-declarations
-files ds before [] h = record { distinct = tt; new = λ x w. both-ways w refl; typed = λ f m. absurd (List·Memᴰ·not-nil m) }
-files ds before (f ∷ fs) h =
+files-pass ds before [] h = record { distinct = tt; new = λ x w. both-ways w refl; typed = λ f m. absurd (List·Memᴰ·not-nil m) }
+files-pass ds before (f ∷ fs) h =
     let here = fresh before (file-declarations f) in
     let sorts = all (type-declared ds) (file-fields f) in
     let ok = past (here && sorts) (first-undeclared ds (before ++ file-declarations f) fs) (length fs) h in
     let is-fresh = and-left here sorts (ok .0) in
-    let rest = files ds (before ++ file-declarations f) fs (ok .1) in
+    let rest = files-pass ds (before ++ file-declarations f) fs (ok .1) in
     let apart-from : (x : Bytes) → listed (set-entries fs) x ≡ true → (declared x before || declared x (file-declarations f)) ≡ false = λ x w. sym (declared-append x before (file-declarations f)) ∙ rest .new x w in
     record {
       distinct = distinct-append (file-entries f) (set-entries fs)
-          (distinct-entries (file-entries f) (apart-left (entry-declarations (file-entries f)) (enum-declarations (package-scope (f .package-name)) (f .enums)) (apart before (file-declarations f) is-fresh)))
+          (distinct-entries (file-entries f) (apart-left (entry-declarations (file-entries f)) (enum-declarations (package-scope (f .package-name)) (f .enums)) (fresh-is-apart before (file-declarations f) is-fresh)))
           (rest .distinct)
           (λ x w. unlisted (file-declared x f) (or-false-right (declared x before) (declared x (file-declarations f)) (apart-from x w)));
       new = λ x w.
@@ -207,7 +207,7 @@ no-refusals set good =
 pub sound-set : (set : List FileDescriptor) → length (messages-in set) ≤ max-messages → names set ≡ Good → Sound (set-entries set)
 unfolding first-seven type-declared choose
 sound-set set few good =
-    let all-files = files (set-declarations set) [] set (ltb-false (first-seven set) (length set) (no-refusals set good .1)) in
+    let all-files = files-pass (set-declarations set) [] set (ltb-false (first-seven set) (length set) (no-refusals set good .1)) in
     record {
       few = subst (λ (n : ℕ). n ≤ max-messages) (sym (set-count set)) few;
       distinct = all-files .distinct;

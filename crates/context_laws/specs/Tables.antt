@@ -21,13 +21,13 @@ pub record Row : Type 0 where
   pub full : Bytes
   pub field : FieldDescriptor
 
-abbrev pub row : ℕ → Entry → FieldDescriptor → Row
-row i e f = record { owner = i; full = e .full; field = f }
+abbrev pub field-row : ℕ → Entry → FieldDescriptor → Row
+field-row i e f = record { owner = i; full = e .full; field = f }
 
 -- the fields of messages that are numbered from i
 unfoldable pub rows-from : ℕ → List Entry → List Row
 rows-from i [] = []
-rows-from i (e ∷ es) = map (row i e) (e .message .fields) ++ rows-from (suc i) es
+rows-from i (e ∷ es) = map (field-row i e) (e .message .fields) ++ rows-from (suc i) es
 
 abbrev pub rows-of : List Entry → List Row
 rows-of es = rows-from 0 es
