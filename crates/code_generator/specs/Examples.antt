@@ -10,7 +10,7 @@ use Rattle.writer.specs.Text.{indent}
 use Rattle.writer.specs.Decimal.{digits}
 use Rattle.heck.specs.Case.{between, class, lowered, raised, parts, words, to-snake-case, to-upper-camel-case}
 use Rattle.ident.specs.Ident.{among, raw-words, kept-words, addition, with-addition, sanitize-identifier, to-snake, to-upper-camel}
-use Rattle.field_types.specs.Types.{sort-of, tag-word, rust-word, can-pack}
+use Rattle.field_types.specs.Types.{sort-of, tag-word, rust-word, can-pack, type-eq}
 use Rattle.syntax.specs.Syntax.{syntax-of}
 use Rattle.descriptor.specs.Descriptor.{done, node, FieldDescriptor, MessageDescriptor, FileDescriptor}
 use Rattle.options.specs.Settings.{Setting, first-of-kind, value-of}
@@ -20,7 +20,7 @@ use Rattle.extern_paths.specs.Split.{begins, split-behind, split}
 use Rattle.extern_paths.specs.ExternPaths.{extern-paths, taken}
 use Rattle.name_rules.specs.FullNames.{entries, set-entries}
 use Rattle.context.specs.MessageGraph.{fields-of}
-use Rattle.context.specs.Context.{type-eq, should-box, field-copy, field-eq, message-copy, message-eq, can-message-derive-copy, can-message-derive-eq}
+use Rattle.context.specs.Context.{should-box, field-copy, field-eq, message-copy, message-eq, can-message-derive-copy, can-message-derive-eq}
 use Rattle.code_generator.specs.Piece.{through, way-text, flat}
 use Rattle.code_generator.specs.Resolve.{local-path, ident-path, ident-type, skip-common, way, prost, resolve-ident, resolve-type, field-type-tag}
 use Rattle.code_generator.specs.Attributes.{attributes, append-deprecated, append-type-attributes, append-message-attributes, append-field-attributes, derive, append-prost-path-attribute, append-skip-debug}

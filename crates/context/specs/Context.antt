@@ -2,11 +2,10 @@
 use Prim.Native.Nat.{ℕ, zero, suc}
 use mathlib.Core.Bool.{Bool, true, false, _||_, _&&_}
 use mathlib.Core.List.{List, [], _∷_}
-use lib.Dec.{eqb}
 use lib.ListN.{length}
 use Rattle.base.specs.Choose.{choose}
 use Rattle.base.specs.Lists.{all}
-use Rattle.field_types.specs.Types.{sort-of, can-pack, text as string, boolean, bytes, integer, enumerated}
+use Rattle.field_types.specs.Types.{can-pack, type-eq}
 use Rattle.descriptor.specs.Descriptor.{Bytes, FieldDescriptor, FileDescriptor}
 use Rattle.options.specs.Settings.{Setting}
 use Rattle.options.specs.declared.Found.{Found}
@@ -83,13 +82,8 @@ module _ (rs : List Setting) (set : List FileDescriptor) where
   can-field-derive-copy full f = field-copy (message-copy (depth set)) full f
 
 -- ---- Eq
--- what is no message is Eq if it is an integer, bool, enum, string or bytes
-unfoldable pub type-eq : ℕ → Bool
-type-eq t =
-    eqb (sort-of t) integer || (eqb (sort-of t) boolean || (eqb (sort-of t) enumerated || (eqb (sort-of t) string || eqb (sort-of t) bytes)))
-
 module _ (set : List FileDescriptor) where
-  -- can_field_derive_eq, where `message-eq` answers for messages
+  -- can_field_derive_eq, where `message-eq` answers for messages. What is no message is Eq if it is an integer, bool, enum, string or bytes
   unfoldable pub field-eq : (Bytes → Bool) → Bytes → FieldDescriptor → Bool
   field-eq message-eq full f =
       choose (is-message f)

@@ -11,7 +11,7 @@ use native.Mathlib.Decide.{ℕ-discrete}
 use lib.Dec.{eqb}
 use lib.ListN.{length, getD}
 use borrow.Author.Tests.{eqb-true, eq-eqb, ne-eqb}
-use Rattle.base.specs.Tests.{and-both, both-ways}
+use Rattle.base.specs.Tests.{bool-cases, and-both, both-ways}
 use Rattle.message_graph.specs.Limit.{messages}
 use Rattle.message_graph.specs.Fields.{Fields, size, owner-of, target-of, kind-of, label-of, link, message-at-below}
 use Rattle.message_graph.specs.Leads.{Link, Leads, leadsb}
@@ -92,6 +92,16 @@ count-most (suc n) p =
     let one = one-most (p n) in
     omega arith
 
+count-within : (m n : ℕ) (p : ℕ → Bool) → ((k : ℕ) → p k ≡ true → k < n) → count m p ≤ n
+unfolding count
+count-within zero n p h = zero-le
+count-within (suc m) n p h =
+    let less = count-within m n p h in
+    let most = count-most m p in
+    ⊎-elim (λ e. let lt = h m e in let one : cond {A = ℕ} (p m) 1 0 ≡ 1 = ap (λ (x : Bool). cond x 1 0) e in omega arith)
+    (λ e. let none : cond {A = ℕ} (p m) 1 0 ≡ 0 = ap (λ (x : Bool). cond x 1 0) e in omega arith)
+    (bool-cases (p m))
+
 -- ---- how many messages x leads to
 
 unfoldable pub rank : Fields → ℕ → ℕ
@@ -100,6 +110,11 @@ rank f x = count messages (leadsb f x)
 pub rank-most : (f : Fields) (x : ℕ) → rank f x ≤ messages
 unfolding rank
 rank-most f x = count-most messages (leadsb f x)
+
+-- where x leads only to the first n
+pub rank-within : (f : Fields) (x n : ℕ) → ((k : ℕ) → leadsb f x k ≡ true → k < n) → rank f x ≤ n
+unfolding rank
+rank-within f x n h = count-within messages n (leadsb f x) h
 
 none-zero : (n : ℕ) → count n (λ k. false) ≡ 0
 unfolding count
@@ -135,7 +150,7 @@ module _ (d : Derive) (f : Fields) (set : List Bool) where
   entry-own g x i e = ap (λ (t : Bool). not t || field-can d f set g i) (eq-eqb (owner-of f i) x e)
 
   -- any depth that is not below the rank gives the same answer
-  settled : (n e x : ℕ) → 0 < n → 0 < e → rank f x ≤ n → rank f x ≤ e → message-can d f set n x ≡ message-can d f set e x
+  pub settled : (n e x : ℕ) → 0 < n → 0 < e → rank f x ≤ n → rank f x ≤ e → message-can d f set n x ≡ message-can d f set e x
   unfolding message-can
   settled zero e x some some′ h g = absurd (not-suc-le-zero some)
   settled (suc n) zero x some some′ h g = absurd (not-suc-le-zero some′)

@@ -1,7 +1,7 @@
 -- The rule of a field either doesn't look at the answer of its type's message, or gives it; this only at a link that isn't in a loop.
 -- Assumes nothing.
 use mathlib.Core.Path.{_≡_, refl, sym, _∙_, ap}
-use mathlib.Core.Bool.{Bool, true, false, not, _&&_, _||_}
+use mathlib.Core.Bool.{Bool, true, false, not, _&&_}
 use mathlib.Core.Logic.{⊎-elim}
 use mathlib.Core.List.{List}
 use Prim.Native.Nat.{ℕ}
@@ -10,6 +10,7 @@ use lib.Dec.{eqb}
 use lib.ListN.{getD}
 use Rattle.base.specs.Choose.{choose}
 use Rattle.base.specs.Tests.{bool-cases, both-ways}
+use Rattle.field_types.specs.Types.{can-pack, type-eq}
 use Rattle.message_graph.specs.Fields.{Fields, owner-of, target-of, kind-of, label-of, link, is-link, type-message, label-repeated}
 use Rattle.message_graph.specs.Leads.{leadsb}
 use Rattle.message_graph.specs.Boxes.{boxed-by-loop}
@@ -17,7 +18,7 @@ use Rattle.message_graph.specs.BoxLaws.{boxed-link}
 use Rattle.derives.specs.declared.Derive.{Derive}
 use Rattle.derives.specs.declared.Derive.the-variants.{Copy, Eq}
 use Rattle.derives.specs.Can.{turn-at}
-use Rattle.derives.specs.Rules.{rule, turn, can-field-derive-copy, can-field-derive-eq, is-of, sort-float, sort-number, sort-string}
+use Rattle.derives.specs.Rules.{rule, turn, can-field-derive-copy, can-field-derive-eq}
 
 -- what `answer` does with the message's answer
 pub data Shape (answer : Bool → Bool) (is-link looped : Bool) : Type 0 where
@@ -41,8 +42,8 @@ eq-shape false true false plain = by-type (λ c. refl) refl refl
 
 pub shape : (d : Derive) (kind label : ℕ) (looped set : Bool) → Shape (rule d kind label looped set) (is-link kind label) looped
 unfolding rule is-link can-field-derive-copy can-field-derive-eq
-shape Copy kind label looped set = copy-shape (eqb label label-repeated) (eqb kind type-message) looped set (is-of kind sort-float sort-number)
-shape Eq kind label looped set = eq-shape (eqb label label-repeated) (eqb kind type-message) looped (is-of kind sort-string sort-number)
+shape Copy kind label looped set = copy-shape (eqb label label-repeated) (eqb kind type-message) looped set (can-pack kind)
+shape Eq kind label looped set = eq-shape (eqb label label-repeated) (eqb kind type-message) looped (type-eq kind)
 
 -- ---- where the field is no link, a loop doesn't count
 
@@ -60,15 +61,8 @@ eq-free false true looped plain c e = both-ways refl e
 
 loop-free : (d : Derive) (kind label : ℕ) (looped set c : Bool) → is-link kind label ≡ false → rule d kind label looped set c ≡ rule d kind label false set c
 unfolding rule is-link can-field-derive-copy can-field-derive-eq
-loop-free Copy kind label looped set c e = copy-free (eqb label label-repeated) (eqb kind type-message) looped set (is-of kind sort-float sort-number) c e
-loop-free Eq kind label looped set c e = eq-free (eqb label label-repeated) (eqb kind type-message) looped (is-of kind sort-string sort-number) c e
-
--- so the table of boxes serves as well as the test of leading
-pub loop-is-box : (d : Derive) (f : Fields) (i : ℕ) (set c : Bool) → rule d (kind-of f i) (label-of f i) (boxed-by-loop f i) set c ≡ rule d (kind-of f i) (label-of f i) (leadsb f (target-of f i) (owner-of f i)) set c
-loop-is-box d f i set c =
-    ⊎-elim (λ e. ap (λ (o : Bool). rule d (kind-of f i) (label-of f i) o set c) (boxed-link f i e))
-    (λ e. loop-free d (kind-of f i) (label-of f i) (boxed-by-loop f i) set c e ∙ sym (loop-free d (kind-of f i) (label-of f i) (leadsb f (target-of f i) (owner-of f i)) set c e))
-    (bool-cases (link f i))
+loop-free Copy kind label looped set c e = copy-free (eqb label label-repeated) (eqb kind type-message) looped set (can-pack kind) c e
+loop-free Eq kind label looped set c e = eq-free (eqb label label-repeated) (eqb kind type-message) looped (type-eq kind) c e
 
 -- ---- what a field turns on
 
@@ -111,7 +105,18 @@ module _ {answer : Bool → Bool} {is-link looped : Bool} where
   shape-same (fixed r h) x y e = h x ∙ sym (h y)
   shape-same (by-type h l o) x y e = h x ∙ e l o ∙ sym (h y)
 
--- by the table of boxes
+-- what the rule goes by counts only at a link
+pub rule-same : (d : Derive) (kind label : ℕ) (looped looped′ set can can′ : Bool) → (is-link kind label ≡ true → looped ≡ looped′) → (is-link kind label ≡ true → can ≡ can′) → rule d kind label looped set can ≡ rule d kind label looped′ set can′
+rule-same d kind label looped looped′ set can can′ same-loop same-can =
+    ⊎-elim (λ e. ap (λ (o : Bool). rule d kind label o set can) (same-loop e))
+    (λ e. loop-free d kind label looped set can e ∙ sym (loop-free d kind label looped′ set can e))
+    (bool-cases (is-link kind label))
+    ∙ shape-same (shape d kind label looped′ set) can can′ (λ is free. same-can is)
+
+-- so the table of boxes serves as well as the test of leading
+pub loop-is-box : (d : Derive) (f : Fields) (i : ℕ) (set c : Bool) → rule d (kind-of f i) (label-of f i) (boxed-by-loop f i) set c ≡ rule d (kind-of f i) (label-of f i) (leadsb f (target-of f i) (owner-of f i)) set c
+loop-is-box d f i set c = rule-same d (kind-of f i) (label-of f i) (boxed-by-loop f i) (leadsb f (target-of f i) (owner-of f i)) set c c (boxed-link f i) (λ is. refl)
+
 pub turn-box : (d : Derive) (f : Fields) (set : List Bool) (i : ℕ) → turn (rule d (kind-of f i) (label-of f i) (boxed-by-loop f i) (getD set i false)) ≡ turn-at d f set i
 unfolding turn turn-at
 turn-box d f set i = rw (loop-is-box d f i (getD set i false) true, loop-is-box d f i (getD set i false) false)

@@ -3,11 +3,12 @@ ghost use mathlib.Core.Path.{_≡_};
 ghost use mathlib.Core.Bool.{false};
 ghost use Prim.Native.Nat.{_<_, _≤_};
 ghost use lib.ListN.{length, getD};
+ghost use Rattle.field_types.specs.Types.{type-eq};
 ghost use Rattle.message_graph.specs.Limit.{messages};
 ghost use Rattle.message_graph.specs.Fields.{fields, message-at};
 ghost use Rattle.message_graph.specs.Boxes.{boxed-by-loop};
 ghost use Rattle.message_graph.specs.Tab.{tab};
-ghost use Rattle.derives.specs.Rules.{sort-of, is-of, can-field-derive-copy, can-field-derive-eq, rule, turn};
+ghost use Rattle.derives.specs.Rules.{can-field-derive-copy, can-field-derive-eq, rule, turn};
 ghost use Rattle.derives.specs.Can.{can-message-derive, can-field-derive, turn-at};
 ghost use Rattle.derives.specs.Depth.{rank};
 ghost use Rattle.derives.specs.Memo.{Memo, Boxed};
@@ -28,29 +29,31 @@ pub struct Derives {
     pub eq: [bool; MESSAGES],
 }
 
-fn wide(x: u8) -> usize
+fn wide(x: u8) -> u32
     ensures { λ r. ⌜ r ≡ x ⌝ }
 {
-    x as usize
+    x as u32
 }
 
-// The sort of a type: f double, float; n integers, bool, enum; s string, bytes; g group; m message.
-fn sort_of(kind: u8) -> u8
-    ensures { λ r. ⌜ r ≡ sort-of kind ⌝ }
+// May what is no message be Eq, by its type?
+fn type_eq(kind: u8) -> bool
+    ensures { λ r. ⌜ r ≡ type-eq kind ⌝ }
 {
-    let i = wide(kind);
-    base::byte_at(b" ffnnnnnnsgmsnnnnnn", i)
-}
-
-// Is the type of one of two sorts?
-fn is_of(kind: u8, one: u8, other: u8) -> bool
-    ensures { λ r. ⌜ r ≡ is-of kind one other ⌝ }
-{
-    let sort = sort_of(kind);
-    if sort == one {
+    let k = wide(kind);
+    let sort = field_types::sort_of(k);
+    if sort == b'i' {
         return true;
     }
-    sort == other
+    if sort == b'b' {
+        return true;
+    }
+    if sort == b'e' {
+        return true;
+    }
+    if sort == b't' {
+        return true;
+    }
+    sort == b'y'
 }
 
 fn can_field_derive_copy(kind: u8, label: u8, looped: bool, set: bool, can: bool) -> bool
@@ -68,7 +71,8 @@ fn can_field_derive_copy(kind: u8, label: u8, looped: bool, set: bool, can: bool
         }
         return can;
     }
-    is_of(kind, b'f', b'n')
+    let k = wide(kind);
+    field_types::can_pack(k)
 }
 
 fn can_field_derive_eq(kind: u8, label: u8, looped: bool, can: bool) -> bool
@@ -83,7 +87,7 @@ fn can_field_derive_eq(kind: u8, label: u8, looped: bool, can: bool) -> bool
         }
         return can;
     }
-    is_of(kind, b's', b'n')
+    type_eq(kind)
 }
 
 // Can a field of this type and label derive it? `looped`: its type leads to its message; `set`: it has a boxed setting at `.M.f`;
@@ -133,11 +137,11 @@ fn is_looped(
 }
 
 // What the answer of a field turns on: 0 it cannot, 1 it can, 2 as its type's message.
-fn turn_of(derive: Derive, kind: u8, label: u8, looped: bool, set: bool) -> u8
-    ensures { λ r. ⌜ r ≡ turn (rule derive kind label looped set) ⌝ }
+fn turn_of(d: Derive, kind: u8, label: u8, looped: bool, set: bool) -> u8
+    ensures { λ r. ⌜ r ≡ turn (rule d kind label looped set) ⌝ }
 {
-    if can_field_derive(derive, kind, label, looped, set, true) {
-        if can_field_derive(derive, kind, label, looped, set, false) {
+    if can_field_derive(d, kind, label, looped, set, true) {
+        if can_field_derive(d, kind, label, looped, set, false) {
             return 1;
         }
         return 2;
@@ -147,7 +151,7 @@ fn turn_of(derive: Derive, kind: u8, label: u8, looped: bool, set: bool) -> u8
 
 // What the answer of the field i turns on.
 fn turn_at(
-    derive: Derive,
+    d: Derive,
     owner: &[Index],
     target: &[Index],
     kind: &[u8],
@@ -157,18 +161,18 @@ fn turn_at(
     i: usize,
 ) -> u8
     requires { ⌜ Boxed (fields (now owner) (now target) (now kind) (now label)) (now boxed) ⌝ }
-    ensures { λ r. ⌜ r ≡ turn-at derive (fields (now (owner .entry)) (now (target .entry)) (now (kind .entry)) (now (label .entry))) (now (set .entry)) i ⌝ }
+    ensures { λ r. ⌜ r ≡ turn-at d (fields (now (owner .entry)) (now (target .entry)) (now (kind .entry)) (now (label .entry))) (now (set .entry)) i ⌝ }
 {
     let k = base::byte_at(kind, i);
     let l = base::byte_at(label, i);
     let looped = is_looped(owner, target, kind, label, boxed, i);
     let s = flag_at(set, i);
-    turn_of(derive, k, l, looped, s)
+    turn_of(d, k, l, looped, s)
 }
 
 // Can the message x? Known answers are in memo: 1 can, 2 cannot. depth bounds the links that are followed from x.
 fn message_can(
-    derive: Derive,
+    d: Derive,
     owner: &[Index],
     target: &[Index],
     kind: &[u8],
@@ -180,10 +184,10 @@ fn message_can(
     depth: usize,
 ) -> bool
     requires { ⌜ Boxed (fields (now owner) (now target) (now kind) (now label)) (now boxed) ⌝ }
-    requires { ⌜ Memo derive (fields (now owner) (now target) (now kind) (now label)) (now set) (now memo) ⌝ }
+    requires { ⌜ Memo d (fields (now owner) (now target) (now kind) (now label)) (now set) (now memo) ⌝ }
     requires { ⌜ (x < messages) × (rank (fields (now owner) (now target) (now kind) (now label)) x ≤ depth) ⌝ }
-    ensures { λ r. ⌜ r ≡ can-message-derive derive (fields (now (owner .entry)) (now (target .entry)) (now (kind .entry)) (now (label .entry))) (now (set .entry)) x ⌝ }
-    ensures { λ _. ⌜ Memo derive (fields (now (owner .entry)) (now (target .entry)) (now (kind .entry)) (now (label .entry))) (now (set .entry)) (now (memo .exit)) ⌝ }
+    ensures { λ r. ⌜ r ≡ can-message-derive d (fields (now (owner .entry)) (now (target .entry)) (now (kind .entry)) (now (label .entry))) (now (set .entry)) x ⌝ }
+    ensures { λ _. ⌜ Memo d (fields (now (owner .entry)) (now (target .entry)) (now (kind .entry)) (now (label .entry))) (now (set .entry)) (now (memo .exit)) ⌝ }
 {
     let known = memo[x];
     if known == 1 {
@@ -192,18 +196,7 @@ fn message_can(
     if known == 2 {
         return false;
     }
-    if fields_can(
-        derive,
-        owner,
-        target,
-        kind,
-        label,
-        set,
-        boxed,
-        memo,
-        x,
-        depth,
-    ) {
+    if fields_can(d, owner, target, kind, label, set, boxed, memo, x, depth) {
         memo[x] = 1;
         return true;
     }
@@ -213,7 +206,7 @@ fn message_can(
 
 // Can each field of the message x?
 fn fields_can(
-    derive: Derive,
+    d: Derive,
     owner: &[Index],
     target: &[Index],
     kind: &[u8],
@@ -225,27 +218,16 @@ fn fields_can(
     depth: usize,
 ) -> bool
     requires { ⌜ Boxed (fields (now owner) (now target) (now kind) (now label)) (now boxed) ⌝ }
-    requires { ⌜ Memo derive (fields (now owner) (now target) (now kind) (now label)) (now set) (now memo) ⌝ }
+    requires { ⌜ Memo d (fields (now owner) (now target) (now kind) (now label)) (now set) (now memo) ⌝ }
     requires { ⌜ (x < messages) × (rank (fields (now owner) (now target) (now kind) (now label)) x ≤ depth) ⌝ }
-    ensures { λ r. ⌜ r ≡ can-message-derive derive (fields (now (owner .entry)) (now (target .entry)) (now (kind .entry)) (now (label .entry))) (now (set .entry)) x ⌝ }
-    ensures { λ _. ⌜ Memo derive (fields (now (owner .entry)) (now (target .entry)) (now (kind .entry)) (now (label .entry))) (now (set .entry)) (now (memo .exit)) ⌝ }
+    ensures { λ r. ⌜ r ≡ can-message-derive d (fields (now (owner .entry)) (now (target .entry)) (now (kind .entry)) (now (label .entry))) (now (set .entry)) x ⌝ }
+    ensures { λ _. ⌜ Memo d (fields (now (owner .entry)) (now (target .entry)) (now (kind .entry)) (now (label .entry))) (now (set .entry)) (now (memo .exit)) ⌝ }
 {
     let mut i = 0;
     while i < owner.len() {
         let next = i + 1;
         if message_graph::message_at(owner, i) == x {
-            if !field_can(
-                derive,
-                owner,
-                target,
-                kind,
-                label,
-                set,
-                boxed,
-                memo,
-                i,
-                depth,
-            ) {
+            if !field_can(d, owner, target, kind, label, set, boxed, memo, i, depth) {
                 return false;
             }
         }
@@ -256,7 +238,7 @@ fn fields_can(
 
 // Can the field i, by the message that is its type?
 fn field_can(
-    derive: Derive,
+    d: Derive,
     owner: &[Index],
     target: &[Index],
     kind: &[u8],
@@ -268,12 +250,12 @@ fn field_can(
     depth: usize,
 ) -> bool
     requires { ⌜ Boxed (fields (now owner) (now target) (now kind) (now label)) (now boxed) ⌝ }
-    requires { ⌜ Memo derive (fields (now owner) (now target) (now kind) (now label)) (now set) (now memo) ⌝ }
+    requires { ⌜ Memo d (fields (now owner) (now target) (now kind) (now label)) (now set) (now memo) ⌝ }
     requires { ⌜ (i < length (now owner)) × (rank (fields (now owner) (now target) (now kind) (now label)) (message-at (now owner) i) ≤ depth) ⌝ }
-    ensures { λ r. ⌜ r ≡ can-field-derive derive (fields (now (owner .entry)) (now (target .entry)) (now (kind .entry)) (now (label .entry))) (now (set .entry)) i ⌝ }
-    ensures { λ _. ⌜ Memo derive (fields (now (owner .entry)) (now (target .entry)) (now (kind .entry)) (now (label .entry))) (now (set .entry)) (now (memo .exit)) ⌝ }
+    ensures { λ r. ⌜ r ≡ can-field-derive d (fields (now (owner .entry)) (now (target .entry)) (now (kind .entry)) (now (label .entry))) (now (set .entry)) i ⌝ }
+    ensures { λ _. ⌜ Memo d (fields (now (owner .entry)) (now (target .entry)) (now (kind .entry)) (now (label .entry))) (now (set .entry)) (now (memo .exit)) ⌝ }
 {
-    let turn = turn_at(derive, owner, target, kind, label, set, boxed, i);
+    let turn = turn_at(d, owner, target, kind, label, set, boxed, i);
     if turn == 0 {
         return false;
     }
@@ -282,7 +264,7 @@ fn field_can(
     }
     let t = message_graph::message_at(target, i);
     message_can(
-        derive,
+        d,
         owner,
         target,
         kind,
@@ -297,7 +279,7 @@ fn field_can(
 
 // For each message, whether it can.
 fn answers(
-    derive: Derive,
+    d: Derive,
     owner: &[Index],
     target: &[Index],
     kind: &[u8],
@@ -306,14 +288,14 @@ fn answers(
     boxed: &[bool],
 ) -> [bool; MESSAGES]
     requires { ⌜ Boxed (fields (now owner) (now target) (now kind) (now label)) (now boxed) ⌝ }
-    ensures { λ r. ⌜ r ≡ tab messages (can-message-derive derive (fields (now (owner .entry)) (now (target .entry)) (now (kind .entry)) (now (label .entry))) (now (set .entry))) ⌝ }
+    ensures { λ r. ⌜ r ≡ tab messages (can-message-derive d (fields (now (owner .entry)) (now (target .entry)) (now (kind .entry)) (now (label .entry))) (now (set .entry))) ⌝ }
 {
     let mut memo = [0u8; MESSAGES];
     let mut out = [false; MESSAGES];
     let mut x = 0;
     while x < MESSAGES {
         out[x] = message_can(
-            derive,
+            d,
             owner,
             target,
             kind,

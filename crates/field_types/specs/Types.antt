@@ -81,3 +81,8 @@ rust-word k = type-at k .rust
 -- can_pack: numbers, bool and enum
 unfoldable pub can-pack : ℕ → Bool
 can-pack k = eqb (sort-of k) float || (eqb (sort-of k) integer || (eqb (sort-of k) boolean || eqb (sort-of k) enumerated))
+
+-- may what is no message be Eq? Integers, bool, enum, string and bytes
+unfoldable pub type-eq : ℕ → Bool
+type-eq k =
+    eqb (sort-of k) integer || (eqb (sort-of k) boolean || (eqb (sort-of k) enumerated || (eqb (sort-of k) text || eqb (sort-of k) bytes)))

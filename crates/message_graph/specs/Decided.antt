@@ -1,98 +1,77 @@
 -- The test `leadsb` says what `Leads` says. Assumes nothing.
-use mathlib.Core.Path.{_≡_, refl, sym, _∙_, ap, subst}
-use mathlib.Core.Bool.{Bool, true, false, _&&_, _||_}
-use mathlib.Core.Logic.{_⊎_, inl, inr, ⊎-elim}
+use mathlib.Core.Path.{_≡_, refl, sym, _∙_, subst}
+use mathlib.Core.Bool.{Bool, true, false, or-false}
+use mathlib.Core.Logic.{⊎-elim}
+use mathlib.Core.List.{List, [], _∷_, List·Memᴰ, List·Memᴰ·not-nil, List·Memᴰ·cases-cons}
+use mathlib.Core.List.List·Memᴰ.{List·Memᴰ·head, List·Memᴰ·tail}
 use Prim.Native.Nat.{ℕ, zero, suc, _≤_, _<_}
-use native.Mathlib.Nat.{le-refl, le-of-suc-le-suc, not-suc-le-zero, eq-or-lt-of-le}
+use native.Mathlib.Nat.{le-of-suc-le-suc, not-suc-le-zero, eq-or-lt-of-le}
 use native.Mathlib.Omega.{arith}
 use lib.Dec.{eqb}
 use borrow.Author.Tests.{eqb-true, eq-eqb}
-use Rattle.base.specs.Tests.{bool-cases, both-ways, and-left, and-right, and-both, or-left, or-right, or-cases}
+use Rattle.base.specs.Choose.{choose, choose-case}
 use Rattle.message_graph.specs.Limit.{messages}
 use Rattle.message_graph.specs.Fields.{Fields, size, owner-of, target-of, link, message-at-below}
-use Rattle.message_graph.specs.Leads.{Link, Leads, leads-by, leadsb, Decides}
+use Rattle.message_graph.specs.Walks.{Walk, walks, walks-sound, walks-complete}
+use Rattle.message_graph.specs.Walks.Walk.{stay, go}
+use Rattle.message_graph.specs.Leads.{Leads, leads-by, leadsb, Decides}
 use Rattle.message_graph.specs.Leads.Leads.{here, step}
 
--- a leads to b by the first n fields
-data By (f : Fields) (n : ℕ) : ℕ → ℕ → Type 0 where
-  stay : {a : ℕ} → By f n a a
-  go : {a b : ℕ} (i : ℕ) → i < n → link f i ≡ true → owner-of f i ≡ a → By f n (target-of f i) b → By f n a b
+-- those of the first n fields that are links, the last one first
+unfoldable link-list : Fields → ℕ → List ℕ
+link-list f zero = []
+link-list f (suc i) = choose (link f i) (i ∷ link-list f i) (link-list f i)
 
--- a leads to b without the field n, or by it
-abbrev Split : Fields → ℕ → ℕ → ℕ → Type 0
-Split f n a b = By f n a b ⊎ ((link f n ≡ true) × By f n a (owner-of f n) × By f n (target-of f n) b)
+module _ (f : Fields) where
+  listed : (n i : ℕ) → List·Memᴰ i (link-list f n) → (i < n) × (link f i ≡ true)
+  unfolding link-list
+  listed zero i m = absurd (List·Memᴰ·not-nil m)
+  listed (suc n) i m =
+      choose-case (λ (l : List ℕ). List·Memᴰ i l → (i < suc n) × (link f i ≡ true)) (link f n)
+      (λ is w. ⊎-elim (λ e. (omega arith, subst (λ (k : ℕ). link f k ≡ true) (sym e) is)) (λ v. let r = listed n i v in (omega arith, r .1)) (List·Memᴰ·cases-cons w))
+      (λ isnt w. let r = listed n i w in (omega arith, r .1))
+      m
+
+  lists : (n i : ℕ) → i < n → link f i ≡ true → List·Memᴰ i (link-list f n)
+  unfolding link-list choose
+  lists zero i lt is = absurd (not-suc-le-zero lt)
+  lists (suc n) i lt is =
+      ⊎-elim (λ e. rw (subst (λ (k : ℕ). link f k ≡ true) e is) (List·Memᴰ·head e))
+      (λ l. choose-case (λ (l : List ℕ). List·Memᴰ i l) (link f n) (λ w. List·Memᴰ·tail (lists n i l is)) (λ w. lists n i l is))
+      (eq-or-lt-of-le (le-of-suc-le-suc lt))
+
+  -- `leads-by` is the test of walks along them
+  walks-by : (n a b : ℕ) → leads-by f n a b ≡ walks (owner-of f) (target-of f) eqb (link-list f n) a b
+  unfolding leads-by link-list walks
+  walks-by zero a b = refl
+  walks-by (suc n) a b =
+      choose-case (λ (l : List ℕ). leads-by f (suc n) a b ≡ walks (owner-of f) (target-of f) eqb l a b) (link f n)
+      (λ is. rw (is, walks-by n a b, walks-by n a (owner-of f n), walks-by n (target-of f n) b))
+      (λ isnt. rw (isnt, or-false) (walks-by n a b))
 
 module _ {f : Fields} where
   pub join : {a b c : ℕ} → Leads f a b → Leads f b c → Leads f a c
   join here q = q
   join (step l p) q = step l (join p q)
 
-  to : {a b : ℕ} → By f (size f) a b → Leads f a b
+  to : {a b : ℕ} → Walk (owner-of f) (target-of f) (link-list f (size f)) a b → Leads f a b
   to stay = here
-  to (go i lt is from p) = step (record { field = i; within = lt; is = is; from = from; to = refl }) (to p)
+  to (go i m from p) = let r = listed f (size f) i m in step (record { field = i; within = r .0; is = r .1; from = from; to = refl }) (to p)
 
-  from : {a b : ℕ} → Leads f a b → By f (size f) a b
+  from : {a b : ℕ} → Leads f a b → Walk (owner-of f) (target-of f) (link-list f (size f)) a b
   from here = stay
-  from {a} {b} (step l p) = go (l .field) (l .within) (l .is) (l .from) (subst (λ (x : ℕ). By f (size f) x b) (sym (l .to)) (from p))
-
-  module _ {n : ℕ} where
-    on : {a b c : ℕ} → By f n a b → By f n b c → By f n a c
-    on stay q = q
-    on (go i lt is from p) q = go i lt is from (on p q)
-
-    later : {a b : ℕ} → By f n a b → By f (suc n) a b
-    later stay = stay
-    later (go i lt is from p) = go i (omega arith) is from (later p)
-
-    by-last : {a b : ℕ} → link f n ≡ true → owner-of f n ≡ a → Split f n (target-of f n) b → Split f n a b
-    by-last {a} is own (inl p) = inr (is, subst (λ (x : ℕ). By f n a x) (sym own) stay, p)
-    by-last {a} is own (inr p) = inr (is, subst (λ (x : ℕ). By f n a x) (sym own) stay, p .2)
-
-    by-other : {a b : ℕ} (i : ℕ) → i < n → link f i ≡ true → owner-of f i ≡ a → Split f n (target-of f i) b → Split f n a b
-    by-other i lt is own (inl p) = inl (go i lt is own p)
-    by-other i lt is own (inr p) = inr (p .0, go i lt is own (p .1), p .2)
-
-    split : {a b : ℕ} → By f (suc n) a b → Split f n a b
-    split stay = inl stay
-    split {a} {b} (go i lt is own p) =
-        ⊎-elim
-        (λ e. by-last (subst (λ (k : ℕ). link f k ≡ true) e is) (subst (λ (k : ℕ). owner-of f k ≡ a) e own) (subst (λ (k : ℕ). Split f n (target-of f k) b) e (split p)))
-        (λ l. by-other i l is own (split p))
-        (eq-or-lt-of-le (le-of-suc-le-suc lt))
-
-  none : {a b : ℕ} → By f zero a b → a ≡ b
-  none stay = refl
-  none (go i lt is own p) = absurd (not-suc-le-zero lt)
+  from {a} {b} (step l p) =
+      go (l .field) (lists f (size f) (l .field) (l .within) (l .is)) (l .from)
+      (subst (λ (x : ℕ). Walk (owner-of f) (target-of f) (link-list f (size f)) x b) (sym (l .to)) (from p))
 
 module _ (f : Fields) where
-  sound-by : (n a b : ℕ) → leads-by f n a b ≡ true → By f n a b
-  unfolding leads-by
-  sound-by zero a b e = subst (λ (x : ℕ). By f zero a x) (eqb-true a b e) stay
-  sound-by (suc n) a b e =
-      let x = leads-by f n a (owner-of f n) in
-      let y = leads-by f n (target-of f n) b in
-      ⊎-elim (λ w. later (sound-by n a b w))
-      (λ w.
-      let v = and-left (link f n && x) y w in
-      on (later (sound-by n a (owner-of f n) (and-right (link f n) x v)))
-      (go n (le-refl _) (and-left (link f n) x v) refl (later (sound-by n (target-of f n) b (and-right (link f n && x) y w)))))
-      (or-cases (leads-by f n a b) (link f n && x && y) e)
-
-  complete-by : (n a b : ℕ) → By f n a b → leads-by f n a b ≡ true
-  unfolding leads-by
-  complete-by zero a b p = eq-eqb a b (none p)
-  complete-by (suc n) a b p =
-      ⊎-elim (λ w. or-left _ (complete-by n a b w))
-      (λ w. or-right (leads-by f n a b) (and-both (and-both (w .0) (complete-by n a (owner-of f n) (w .1))) (complete-by n (target-of f n) b (w .2))))
-      (split p)
-
   pub leads-sound : (a b : ℕ) → leadsb f a b ≡ true → Leads f a b
   unfolding leadsb
-  leads-sound a b e = to (sound-by (size f) a b e)
+  leads-sound a b e = to (walks-sound (owner-of f) (target-of f) eqb eqb-true (link-list f (size f)) a b (sym (walks-by f (size f) a b) ∙ e))
 
   pub leads-complete : (a b : ℕ) → Leads f a b → leadsb f a b ≡ true
   unfolding leadsb
-  leads-complete a b p = complete-by (size f) a b (from p)
+  leads-complete a b p = walks-by f (size f) a b ∙ walks-complete (owner-of f) (target-of f) eqb eq-eqb (link-list f (size f)) a b (from p)
 
 pub decides : (f : Fields) → Decides f
 decides f = record { sound = leads-sound f; complete = leads-complete f }

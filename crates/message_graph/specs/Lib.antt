@@ -1,5 +1,6 @@
 pub mod Limit
 pub mod Fields
+pub mod Walks
 pub mod Leads
 pub mod Decided
 pub mod Boxes

@@ -1,5 +1,6 @@
 -- `derives::can_field_derive_copy` meets its contract. Assumes nothing.
-use mathlib.Core.Path.{_≡_, refl, sym, _∙_}
+use Rattle.field_types.specs.Types.{can-pack}
+use mathlib.Core.Path.{_≡_, refl, sym, _∙_, ap}
 use Rattle.base.specs.Choose.{choices, flags, choose}
 use Rattle.derives.specs.Rules.{can-field-derive-copy, can-field-derive-eq}
 use borrow.Author.Needs.{needs}
@@ -22,13 +23,17 @@ returns-4 : tie.Need-returns-4
 unfolding can-field-derive-copy
 returns-4 c = search (choices, flags, c .if4 .left, c .before .if3 .left, c .before .before .if2 .taken, c .before .before .before .if1 .left) depth 12
 
-is-of-requires : tie.Need-is-of-requires
-is-of-requires c κs = search needs
+wide-requires : tie.Need-wide-requires
+wide-requires c κs = search needs
+
+can-pack-requires : tie.Need-can-pack-requires
+can-pack-requires c κs = search needs
 
 returns-5 : tie.Need-returns-5
 unfolding can-field-derive-copy
-returns-5 c = search (choices, flags, c .is-of .ensures, c .before .if2 .left, c .before .before .if1 .left) depth 12
+returns-5 c = search (choices, flags, c .can-pack .ensures ∙ ap can-pack (c .before .wide .ensures), c .before .before .if2 .left, c .before .before .before .if1 .left) depth 12
 
 pub can-field-derive-copy-spec : {M : Type 1} → statement M
 can-field-derive-copy-spec =
-    tie.close (tie.spec returns returns-2 returns-3 returns-4 is-of-requires returns-5)
+    tie.close
+    (tie.spec returns returns-2 returns-3 returns-4 wide-requires can-pack-requires returns-5)

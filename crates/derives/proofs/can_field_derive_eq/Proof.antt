@@ -18,13 +18,13 @@ returns-3 : tie.Need-returns-3
 unfolding can-field-derive-eq
 returns-3 c = search (choices, flags, c .if3 .left, c .before .if2 .left, c .before .before .if1 .taken) depth 12
 
-is-of-requires : tie.Need-is-of-requires
-is-of-requires c κs = search needs
+type-eq-requires : tie.Need-type-eq-requires
+type-eq-requires c κs = search needs
 
 returns-4 : tie.Need-returns-4
 unfolding can-field-derive-eq
-returns-4 c = search (choices, flags, c .is-of .ensures, c .before .if1 .left) depth 12
+returns-4 c = search (choices, flags, c .type-eq .ensures, c .before .if1 .left) depth 12
 
 pub can-field-derive-eq-spec : {M : Type 1} → statement M
 can-field-derive-eq-spec =
-    tie.close (tie.spec returns returns-2 returns-3 is-of-requires returns-4)
+    tie.close (tie.spec returns returns-2 returns-3 type-eq-requires returns-4)
