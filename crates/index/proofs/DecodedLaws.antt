@@ -20,15 +20,11 @@ use Rattle.base.specs.Lists.{all-of}
 use Rattle.descriptor.proofs.ViewLaws.{bytes-of}
 use Rattle.descriptor.proofs.ViewTheorems.{part-part}
 use Rattle.index.specs.Places.{end-in, inside}
-use Rattle.index.specs.Tree.{Place, place, forest-record, forest-in, size, rows, file-record, file-forests, rows-of}
-use Rattle.index.specs.declared.Row.{Row}
+use Rattle.index.specs.Tree.{Place, place, forest-record, forest-in, size, rows, row-bytes, file-record, file-forests, rows-of}
 
--- the bytes at a place of the set, and those of a row
+-- the bytes at a place of the set
 abbrev pub bytes-at : List ℕ → Place → Bytes
 bytes-at set p = part set (p .start) (p .end - p .start)
-
-abbrev pub row-bytes : List ℕ → Row → Bytes
-row-bytes set r = part set (r .start) (r .end - r .start)
 
 unfoldable pub map-forest : {A B : Type 0} → (A → B) → Forest A → Forest B
 map-forest f done = done

@@ -13,12 +13,12 @@ use Rattle.wire.specs.declared.Step.{Step}
 use Rattle.wire.specs.declared.Step.the-variants.{End, Fault, Found}
 use Rattle.descriptor.specs.Descriptor.{Bytes, Forest, done, node, preorder}
 use Rattle.descriptor.specs.Decode.{entries, parts}
-use Rattle.index.specs.Tree.{Place, forest-record, forest-in, size, rows, row-at, member-forest, members}
+use Rattle.index.specs.Tree.{Place, forest-record, forest-in, size, rows, row-at, row-bytes, member-forest, members}
 use Rattle.index.specs.Owners.{owners}
 use Rattle.index.specs.declared.Row.{Row}
 use Rattle.index.proofs.TreeLaws.{rows-length}
 use Rattle.index.proofs.TableLaws.{Stands}
-use Rattle.index.proofs.DecodedLaws.{row-bytes, rows-bytes, forest-bytes, one-level}
+use Rattle.index.proofs.DecodedLaws.{rows-bytes, forest-bytes, one-level}
 
 -- the file of all rows of a forest
 pub rows-file : (F : Forest Place) (file up i : ℕ) → map (λ (r : Row). r .file) (rows file up i F) ≡ replicate (size F) file

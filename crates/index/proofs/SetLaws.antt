@@ -15,13 +15,13 @@ use Rattle.descriptor.specs.Descriptor.{Bytes, Forest, preorder, EnumDescriptor
 use Rattle.descriptor.specs.Decode.{entries, parts, decode-field, decode-enum, decode-oneof, decode-message, decode-file, decode-set}
 use Rattle.descriptor.specs.Limits.{messages-in, fields-in, enums-in}
 use Rattle.index.specs.Places.{inside}
-use Rattle.index.specs.Tree.{Place, file-record, file-forests, size, total, rows, rows-of, members, all-members, IndexedFiles}
+use Rattle.index.specs.Tree.{Place, file-record, file-forests, size, total, rows, row-bytes, rows-of, members, all-members, IndexedFiles}
 use Rattle.index.specs.Owners.{owners}
 use Rattle.index.specs.declared.Row.{Row}
 use Rattle.index.proofs.TreeLaws.{rows-length}
 use Rattle.index.proofs.TableLaws.{Stands, fill-stands}
 use Rattle.index.proofs.OwnerLaws.{all-of-same, all-of-append, all-of-map, map-all-of, owners-map, one-owner}
-use Rattle.index.proofs.DecodedLaws.{bytes-at, row-bytes, map-forest, nest, files-bytes, rows-bytes, rows-of-bytes, one-level, nest-decoded}
+use Rattle.index.proofs.DecodedLaws.{bytes-at, map-forest, nest, files-bytes, rows-bytes, rows-of-bytes, one-level, nest-decoded}
 use Rattle.index.proofs.MemberRows.{rows-file, Flat, flat-one, flat-up, embeds, member-rows, members-listed, member-bytes, member-up, member-file}
 
 -- the rows hold these declarations, of these files, and stand in these messages: 0, or one more than the message's number

@@ -1,0 +1,4 @@
+pub mod StartLaws
+pub mod ColumnLaws
+pub mod SetColumns
+pub mod EntryLaws
