@@ -11,8 +11,8 @@ use borrow.Author.Tests.{le-leb, lt-leb, lt-ltb, le-ltb}
 use Rattle.base.specs.Choose.{choose}
 use Rattle.base.specs.Tests.{and-left, and-right}
 use Rattle.base.specs.Lists.{all, all-of, first-failing, map-length}
-use Rattle.descriptor.specs.Descriptor.{FieldDescriptor, MessageDescriptor, FileDescriptor}
-use Rattle.descriptor.specs.Decode.{decode-field, decode-set}
+use Rattle.descriptor.specs.Descriptor.{FieldDescriptor, MessageDescriptor}
+use Rattle.descriptor.specs.Decode.{decode-field, decode-message, decode-set}
 use Rattle.descriptor.specs.Limits.{messages-in, fields-in}
 use Rattle.message_graph.specs.Limit.{messages}
 use Rattle.message_graph.specs.Tab.{tab, length-tab, tab-at}
@@ -20,7 +20,7 @@ use Rattle.index.specs.Tree.{row-at, row-bytes, Holds, all-members}
 use Rattle.index.specs.Owners.{owners}
 use Rattle.index.specs.declared.Row.{Row}
 use Rattle.index.proofs.TableLaws.{no-row, Stands, fill-stands}
-use Rattle.index.proofs.SetLaws.{file-messages, Messages, Listed, fields-listed}
+use Rattle.index.proofs.SetLaws.{Messages, Members, members-fit, fields-of, fields-hold}
 use Rattle.field_columns.specs.Columns.{owner-of, owner-at, column-of, byte-of, column-at, rows-counted, first-rows, before, start-at, fields-before}
 use Rattle.field_columns.specs.declared.Column.{Column}
 
@@ -109,29 +109,34 @@ bytes-are g (f ∷ fs) h =
 
 -- `fields` as `index_members` leaves it from row 0 on, where it has room for all rows
 module _ (set messages-table : List ℕ) (count : ℕ) (table : Messages set messages-table count) (t fields : List ℕ) (n : ℕ)
-    (holds : Holds (all-members set 2 messages-table count 0) t 0 fields n) (room : n * 5 ≤ length t) (fits : length (fields-in (decode-set set)) ≤ 32767) where
+    (holds : Holds (all-members set 2 messages-table count 0) t 0 fields n) (room : n * 5 ≤ length t) where
   abbrev rs : List Row
   rs = all-members set 2 messages-table count 0
 
   abbrev ms : List MessageDescriptor
   ms = messages-in (decode-set set)
 
-  abbrev fields-of : MessageDescriptor → List FieldDescriptor
-  fields-of m = m .fields
+  listed : Members 2 decode-field fields-of set messages-table count 0
+  listed = fields-hold set messages-table count table
 
-  listed : Listed decode-field set rs (fields-in (decode-set set)) (owners (λ (f : FileDescriptor). all-of fields-of (file-messages f)) 0 (decode-set set)) (owners fields-of 1 ms)
-  listed = fields-listed set messages-table count table 0 (omega arith)
+  rs-decoded : map (λ (r : Row). decode-field (row-bytes set r)) rs ≡ fields-in (decode-set set)
+  unfolding fields-in
+  rs-decoded = listed .decoded
 
   n-is : n ≡ length rs
   n-is = let c : n ≡ 0 + length rs = holds .counted in omega arith
 
   pub fields-counted : n ≡ length (fields-in (decode-set set))
-  fields-counted = n-is ∙ sym (map-length (λ (r : Row). decode-field (row-bytes set r)) rs) ∙ ap length (listed .decoded)
+  fields-counted = n-is ∙ sym (map-length (λ (r : Row). decode-field (row-bytes set r)) rs) ∙ ap length rs-decoded
+
+  few-rows : n ≤ 32767
+  unfolding fields-in decode-message
+  few-rows = let c = fields-counted in let few = members-fit 2 decode-field fields-of (λ p. refl) set (table .small) (λ e. omega arith) in omega arith
 
   rows-are : first-rows fields n ≡ rs
   rows-are =
       let c = n-is in
-      let f = fields-counted in
+      let f = few-rows in
       ap (first-rows fields) n-is
       ∙ stands-first fields rs (subst (λ (u : List ℕ). Stands u 0 rs) (sym (holds .table)) (fill-stands rs t 0 (omega arith) (omega arith)))
 
@@ -148,7 +153,7 @@ module _ (set messages-table : List ℕ) (count : ℕ) (table : Messages set mes
       sym (map-tab (λ (r : Row). byte-of (column-of column (decode-field (row-bytes set r)))) n (row-at fields))
       ∙ ap (map (λ (r : Row). byte-of (column-of column (decode-field (row-bytes set r))))) rows-are
       ∙ sym (map-map (λ (f : FieldDescriptor). byte-of (column-of column f)) (λ (r : Row). decode-field (row-bytes set r)) rs)
-      ∙ ap (map (λ (f : FieldDescriptor). byte-of (column-of column f))) (listed .decoded)
+      ∙ ap (map (λ (f : FieldDescriptor). byte-of (column-of column f))) rs-decoded
 
   pub column-is : (column : Column) → all (λ (f : FieldDescriptor). ltb (column-of column f) 256) (fields-in (decode-set set)) ≡ true
       → tab n (column-at set fields column) ≡ map (column-of column) (fields-in (decode-set set))
@@ -158,7 +163,7 @@ module _ (set messages-table : List ℕ) (count : ℕ) (table : Messages set mes
   start-is : (i : ℕ) → start-at fields n i ≡ fields-before ms i
   unfolding start-at rows-counted fields-before choose
   start-is i =
-      let c = fields-counted in
+      let c = few-rows in
       rw (le-ltb 65535 n (omega arith))
       (ap (first-failing (before i)) rows-are
       ∙ sym (failing-map (λ (u : ℕ). leb u i) (λ (r : Row). r .up) rs)

@@ -30,6 +30,11 @@ abbrev pub column-of : Column → FieldDescriptor → ℕ
 column-of Kind f = type f
 column-of Label f = label f
 
+-- where a view of a field has the column's number
+abbrev pub viewed : Column → FieldView → Number
+viewed Kind v = v .kind
+viewed Label v = v .label
+
 -- in one byte: 0, which is no type and no label, for a number over 255
 unfoldable pub byte-of : ℕ → ℕ
 byte-of n = choose (ltb n 256) n 0
@@ -55,8 +60,3 @@ start-at fields count i = first-failing (before i) (first-rows fields (rows-coun
 -- how many fields the messages before message i have
 unfoldable pub fields-before : List MessageDescriptor → ℕ → ℕ
 fields-before ms i = length (all-of (λ m. m .fields) (take i ms))
-
--- where a view of a field has the column's number
-abbrev pub viewed : Column → FieldView → Number
-viewed Kind v = v .kind
-viewed Label v = v .label

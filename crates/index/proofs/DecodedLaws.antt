@@ -37,7 +37,7 @@ nest (suc n) [] = done
 nest (suc n) (p ∷ ps) = node p (nest n (parts 3 (entries p))) (nest (suc n) ps)
 
 -- the bytes inside a record
-inside-is : (s : List ℕ) (f : Record) → inside s f ≡ bytes-in (value-of s f)
+pub inside-is : (s : List ℕ) (f : Record) → inside s f ≡ bytes-in (value-of s f)
 unfolding end-in choose
 inside-is s f =
     choose-case (λ (n : ℕ). part s (f .start) (n - f .start) ≡ bytes-in (value-of s f)) (eqb (f .wiretype) 2)

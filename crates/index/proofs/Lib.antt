@@ -7,4 +7,5 @@ pub mod DecodedLaws
 pub mod TableLaws
 pub mod MemberLaws
 pub mod MemberRows
+pub mod RoomLaws
 pub mod SetLaws

@@ -1,6 +1,7 @@
 -- The rows of a set's tables are the declarations of the decoded set, in order, with their files and messages. Assumes nothing.
 use mathlib.Core.Path.{_≡_, refl, sym, ap, _∙_, subst}
 use mathlib.Core.List.{List, [], _∷_, _++_, map, map-append, map-map}
+use mathlib.Core.Option.{Option}
 use Prim.Native.Nat.{ℕ, _+_, _*_, _≤_}
 use native.Mathlib.Omega.{arith}
 use lib.ListN.{length, length-append, replicate, replicate-append-replicate}
@@ -11,9 +12,9 @@ use Rattle.base.specs.Lists.{all-of, map-length}
 use Rattle.wire.specs.Records.{records, pass, over}
 use Rattle.wire.specs.declared.Step.{Step}
 use Rattle.wire.specs.declared.Step.the-variants.{End, Fault, Found}
-use Rattle.descriptor.specs.Descriptor.{Bytes, Forest, preorder, EnumDescriptor, MessageDescriptor, FileDescriptor}
+use Rattle.descriptor.specs.Descriptor.{Bytes, Forest, preorder, FieldDescriptor, EnumDescriptor, MessageDescriptor, FileDescriptor}
 use Rattle.descriptor.specs.Decode.{entries, parts, decode-field, decode-enum, decode-oneof, decode-message, decode-file, decode-set}
-use Rattle.descriptor.specs.Limits.{messages-in, fields-in, enums-in}
+use Rattle.descriptor.specs.Limits.{messages-in, enums-in}
 use Rattle.index.specs.Places.{inside}
 use Rattle.index.specs.Tree.{Place, file-record, file-forests, size, total, rows, row-bytes, rows-of, members, all-members, IndexedFiles}
 use Rattle.index.specs.Owners.{owners}
@@ -22,6 +23,7 @@ use Rattle.index.proofs.TreeLaws.{rows-length}
 use Rattle.index.proofs.TableLaws.{Stands, fill-stands}
 use Rattle.index.proofs.OwnerLaws.{all-of-same, all-of-append, all-of-map, map-all-of, owners-map, one-owner}
 use Rattle.index.proofs.DecodedLaws.{bytes-at, map-forest, nest, files-bytes, rows-bytes, rows-of-bytes, one-level, nest-decoded}
+use Rattle.index.proofs.RoomLaws.{set-takes}
 use Rattle.index.proofs.MemberRows.{rows-file, Flat, flat-one, flat-up, embeds, member-rows, members-listed, member-bytes, member-up, member-file}
 
 -- the rows hold these declarations, of these files, and stand in these messages: 0, or one more than the message's number
@@ -167,9 +169,9 @@ module _ (set : List ℕ) (small : length set ≤ 32768) where
   unfolding messages-in
   messages-counted = files-counted 4 16 decode-message file-messages messages-declared set small
 
-  pub file-enums-listed : Listed decode-enum set (rows-of 0 0 (file-forests 5 1 set)) (all-of (λ (f : FileDescriptor). f .enums) (decode-set set))
+  pub file-enums-hold : Listed decode-enum set (rows-of 0 0 (file-forests 5 1 set)) (all-of (λ (f : FileDescriptor). f .enums) (decode-set set))
       (owners (λ (f : FileDescriptor). f .enums) 0 (decode-set set)) (replicate (total (file-forests 5 1 set)) 0)
-  file-enums-listed =
+  file-enums-hold =
       record {
         decoded = files-decoded 5 1 decode-enum (λ (f : FileDescriptor). f .enums) enums-declared set small;
         file = files-file 5 1 decode-enum (λ (f : FileDescriptor). f .enums) enums-declared set small;
@@ -198,16 +200,19 @@ messages-there set t messages count small few room is =
       there = subst (λ (u : List ℕ). Stands u 0 (message-rows set)) (sym (is .table)) (fill-stands (message-rows set) t 0 (omega arith) (omega arith));
     }
 
+-- the rows of a table's messages hold what the messages of the decoded set hold, from row i on
+abbrev pub Members : {A : Type 0} → ℕ → (Bytes → A) → (MessageDescriptor → List A) → List ℕ → List ℕ → ℕ → ℕ → Type 0
+Members number decode held set messages count i =
+    Listed decode set (all-members set number messages count i) (all-of held (messages-in (decode-set set)))
+    (owners (λ (f : FileDescriptor). all-of held (file-messages f)) 0 (decode-set set)) (owners held 1 (messages-in (decode-set set)))
+
 module _ {A : Type 0} (number : ℕ) (decode : Bytes → A) (held : MessageDescriptor → List A)
-    (holds : (p : Bytes) → map decode (parts number (entries p)) ≡ held (decode-message p)) (set messages : List ℕ) (count : ℕ) (table : Messages set messages count) where
+    (holds : (p : Bytes) → map decode (parts number (entries p)) ≡ held (decode-message p)) (set : List ℕ) (small : length set ≤ 32768) where
   abbrev ms : List Row
   ms = message-rows set
 
   abbrev embedded : Row → List Bytes
   embedded = embeds set number
-
-  as-many : (p : Bytes) → length (parts number (entries p)) ≡ length (held (decode-message p))
-  as-many p = sym (map-length decode (parts number (entries p))) ∙ ap length (holds p)
 
   abbrev inner : Bytes → List Bytes
   inner p = parts number (entries p)
@@ -220,32 +225,43 @@ module _ {A : Type 0} (number : ℕ) (decode : Bytes → A) (held : MessageDescr
   held-decoded : map decode (all-of embedded ms) ≡ all-of held (messages-in (decode-set set))
   held-decoded =
       ap (map decode) (sym (all-of-map inner (row-bytes set) ms)) ∙ inner-decoded (map (row-bytes set) ms)
-      ∙ ap (all-of held) (map-map decode-message (row-bytes set) ms ∙ messages-decoded set (table .small))
+      ∙ ap (all-of held) (map-map decode-message (row-bytes set) ms ∙ messages-decoded set small)
 
   held-counted : length (all-of embedded ms) ≡ length (all-of held (messages-in (decode-set set)))
   held-counted = sym (map-length decode (all-of embedded ms)) ∙ ap length held-decoded
 
+  -- they are fewer than the set has bytes
+  pub members-fit : (number ≡ 3 → ⊥) → length (all-of held (messages-in (decode-set set))) ≤ 32767
+  members-fit unlike =
+      let e : length (all-of embedded ms) ≡ length (all-of inner (all-of (λ (p : Bytes). preorder (nest 16 (parts 4 (entries p)))) (parts 1 (entries set)))) =
+      ap length
+      (sym (all-of-map inner (row-bytes set) ms)
+      ∙ ap (all-of inner)
+      (rows-of-bytes set (file-forests 4 16 set) 0 0 ∙ ap (all-of preorder) (files-bytes 4 16 set small)
+      ∙ all-of-map preorder (λ (p : Bytes). nest 16 (parts 4 (entries p))) (parts 1 (entries set)))) in
+      let c = held-counted in
+      let few = set-takes number unlike 16 set small in
+      omega arith
+
   numbered-files : all-of (λ (m : Row). replicate (length (embedded m)) (m .file)) ms ≡ owners (λ (f : FileDescriptor). all-of held (file-messages f)) 0 (decode-set set)
   unfolding decode-set
   numbered-files =
-      files-numbered 4 16 decode-message file-messages messages-declared set (table .small) inner
+      files-numbered 4 16 decode-message file-messages messages-declared set small inner
       ∙ owners-map (λ (p : Bytes). all-of inner (preorder (nest 16 (parts 4 (entries p))))) (λ (f : FileDescriptor). all-of held (file-messages f)) decode-file
       (λ p.
       let qs : List Bytes = preorder (nest 16 (parts 4 (entries p))) in
       sym (map-length decode (all-of inner qs)) ∙ ap length (inner-decoded qs ∙ ap (all-of held) (messages-declared p))) 0 (parts 1 (entries set))
 
-  module _ (i : ℕ) (fits : i + length (all-of held (messages-in (decode-set set))) ≤ 32767) where
-    pub members-are : all-members set number messages count i ≡ member-rows set number 0 i ms
+  module _ (messages : List ℕ) (count : ℕ) (table : Messages set messages count) (i : ℕ) (fits : i + length (all-of held (messages-in (decode-set set))) ≤ 32767) where
+    members-are : all-members set number messages count i ≡ member-rows set number 0 i ms
     unfolding all-members choose
     members-are =
         let c = held-counted in
-        rw (le-ltb 32768 (length set) (table .small), le-ltb 1024 count (table .few))
+        rw (le-ltb 32768 (length set) small, le-ltb 1024 count (table .few))
         (ap (λ (k : ℕ). members set number messages k 0 i) (table .counted) ∙ members-listed set number messages ms 0 i (table .there) (omega arith))
 
-    -- the rows are what the messages of the decoded set hold
-    pub members-listed-as : Listed decode set (all-members set number messages count i) (all-of held (messages-in (decode-set set)))
-        (owners (λ (f : FileDescriptor). all-of held (file-messages f)) 0 (decode-set set)) (owners held 1 (messages-in (decode-set set)))
-    members-listed-as =
+    pub members-hold : Members number decode held set messages count i
+    members-hold =
         record {
           decoded =
               ap (map (λ (r : Row). decode (row-bytes set r))) members-are
@@ -255,35 +271,44 @@ module _ {A : Type 0} (number : ℕ) (decode : Bytes → A) (held : MessageDescr
           file = ap (map (λ (r : Row). r .file)) members-are ∙ member-file set number ms 0 i ∙ numbered-files;
           up =
               ap (map (λ (r : Row). r .up)) members-are ∙ member-up set number ms 0 i
-              ∙ owners-map embedded held (decode-row set) (λ m. as-many (row-bytes set m)) 1 ms
-              ∙ ap (owners held 1) (messages-decoded set (table .small));
+              ∙ owners-map embedded held (decode-row set)
+              (λ m. sym (map-length decode (embedded m)) ∙ ap length (holds (row-bytes set m))) 1 ms
+              ∙ ap (owners held 1) (messages-decoded set small);
         }
 
--- fields (2), enums (4) and oneofs (8): of the table `messages`, with rows from row i on
+-- fields (2), enums (4) and oneofs (8)
 
-module _ (set messages : List ℕ) (count : ℕ) (table : Messages set messages count) (i : ℕ) where
-  pub fields-listed : i + length (fields-in (decode-set set)) ≤ 32767 → Listed decode-field set (all-members set 2 messages count i) (fields-in (decode-set set))
-      (owners (λ (f : FileDescriptor). all-of (λ (m : MessageDescriptor). m .fields) (file-messages f)) 0 (decode-set set)) (owners (λ (m : MessageDescriptor). m .fields) 1 (messages-in (decode-set set)))
-  unfolding fields-in decode-message
-  fields-listed fits = members-listed-as 2 decode-field (λ (m : MessageDescriptor). m .fields) (λ p. refl) set messages count table i fits
+abbrev pub fields-of : MessageDescriptor → List FieldDescriptor
+fields-of m = m .fields
 
-  pub enums-listed : i + length (all-of (λ (m : MessageDescriptor). m .enums) (messages-in (decode-set set))) ≤ 32767
-      → Listed decode-enum set (all-members set 4 messages count i) (all-of (λ (m : MessageDescriptor). m .enums) (messages-in (decode-set set)))
-      (owners (λ (f : FileDescriptor). all-of (λ (m : MessageDescriptor). m .enums) (file-messages f)) 0 (decode-set set)) (owners (λ (m : MessageDescriptor). m .enums) 1 (messages-in (decode-set set)))
+abbrev pub enums-of : MessageDescriptor → List EnumDescriptor
+enums-of m = m .enums
+
+abbrev pub oneofs-of : MessageDescriptor → List (Option Bytes)
+oneofs-of m = m .oneofs
+
+module _ (set messages : List ℕ) (count : ℕ) (table : Messages set messages count) where
+  pub fields-hold : Members 2 decode-field fields-of set messages count 0
   unfolding decode-message
-  enums-listed fits = members-listed-as 4 decode-enum (λ (m : MessageDescriptor). m .enums) (λ p. refl) set messages count table i fits
+  fields-hold =
+      let few = members-fit 2 decode-field fields-of (λ p. refl) set (table .small) (λ e. omega arith) in
+      members-hold 2 decode-field fields-of (λ p. refl) set (table .small) messages count table 0 (omega arith)
 
-  -- limit 5 counts the files' own and then the messages'
-  pub all-enums-decoded : i + length (all-of (λ (m : MessageDescriptor). m .enums) (messages-in (decode-set set))) ≤ 32767
+  pub oneofs-hold : Members 8 decode-oneof oneofs-of set messages count 0
+  unfolding decode-message
+  oneofs-hold =
+      let few = members-fit 8 decode-oneof oneofs-of (λ p. refl) set (table .small) (λ e. omega arith) in
+      members-hold 8 decode-oneof oneofs-of (λ p. refl) set (table .small) messages count table 0 (omega arith)
+
+  -- behind the files' own: limit 5 counts both
+  pub enums-hold : (i : ℕ) → i + length (all-of enums-of (messages-in (decode-set set))) ≤ 32767 → Members 4 decode-enum enums-of set messages count i
+  unfolding decode-message
+  enums-hold i fits = members-hold 4 decode-enum enums-of (λ p. refl) set (table .small) messages count table i fits
+
+  pub all-enums-decoded : (i : ℕ) → i + length (all-of enums-of (messages-in (decode-set set))) ≤ 32767
       → map (λ (r : Row). decode-enum (row-bytes set r)) (rows-of 0 0 (file-forests 5 1 set) ++ all-members set 4 messages count i) ≡ enums-in (decode-set set)
   unfolding enums-in
-  all-enums-decoded fits =
+  all-enums-decoded i fits =
       map-append (λ (r : Row). decode-enum (row-bytes set r)) (rows-of 0 0 (file-forests 5 1 set)) (all-members set 4 messages count i)
-      ∙ ap (λ (l : List EnumDescriptor). l ++ map (λ (r : Row). decode-enum (row-bytes set r)) (all-members set 4 messages count i)) (file-enums-listed set (table .small) .decoded)
-      ∙ ap (λ (l : List EnumDescriptor). all-of (λ (f : FileDescriptor). f .enums) (decode-set set) ++ l) (enums-listed fits .decoded)
-
-  pub oneofs-listed : i + length (all-of (λ (m : MessageDescriptor). m .oneofs) (messages-in (decode-set set))) ≤ 32767
-      → Listed decode-oneof set (all-members set 8 messages count i) (all-of (λ (m : MessageDescriptor). m .oneofs) (messages-in (decode-set set)))
-      (owners (λ (f : FileDescriptor). all-of (λ (m : MessageDescriptor). m .oneofs) (file-messages f)) 0 (decode-set set)) (owners (λ (m : MessageDescriptor). m .oneofs) 1 (messages-in (decode-set set)))
-  unfolding decode-message
-  oneofs-listed fits = members-listed-as 8 decode-oneof (λ (m : MessageDescriptor). m .oneofs) (λ p. refl) set messages count table i fits
+      ∙ ap (λ (l : List EnumDescriptor). l ++ map (λ (r : Row). decode-enum (row-bytes set r)) (all-members set 4 messages count i)) (file-enums-hold set (table .small) .decoded)
+      ∙ ap (λ (l : List EnumDescriptor). all-of (λ (f : FileDescriptor). f .enums) (decode-set set) ++ l) (enums-hold i fits .decoded)
