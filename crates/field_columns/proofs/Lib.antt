@@ -2,3 +2,4 @@ pub mod StartLaws
 pub mod ColumnLaws
 pub mod SetColumns
 pub mod EntryLaws
+pub mod NameLaws

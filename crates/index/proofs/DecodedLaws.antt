@@ -30,6 +30,13 @@ unfoldable pub map-forest : {A B : Type 0} → (A → B) → Forest A → Forest
 map-forest f done = done
 map-forest f (node a nested following) = node (f a) (map-forest f nested) (map-forest f following)
 
+pub forest-forest : {A B C : Type 0} (g : B → C) (f : A → B) (F : Forest A) → map-forest g (map-forest f F) ≡ map-forest (λ (a : A). g (f a)) F
+unfolding map-forest
+forest-forest g f done = refl
+forest-forest {C} g f (node a nested following) =
+    ap (λ (X : Forest C). node (g (f a)) X (map-forest g (map-forest f following))) (forest-forest g f nested)
+    ∙ ap (λ (X : Forest C). node (g (f a)) (map-forest (λ (a : _). g (f a)) nested) X) (forest-forest g f following)
+
 -- embedded messages with those nested in them (3), in so many levels
 unfoldable pub nest : ℕ → List Bytes → Forest Bytes
 nest zero ps = done
@@ -156,12 +163,22 @@ unfolding preorder nest
 one-level [] = refl
 one-level (p ∷ ps) = ap (λ (l : List Bytes). p ∷ l) (one-level ps)
 
+pub nest-forest : (k : ℕ) (ps : List Bytes) → map-forest decode-message (nest k ps) ≡ decode-messages k ps
+unfolding map-forest nest decode-messages
+nest-forest zero ps = refl
+nest-forest (suc k) [] = refl
+nest-forest (suc k) (p ∷ ps) =
+    ap (λ (X : Forest MessageDescriptor). node (decode-message p) X (map-forest decode-message (nest (suc k) ps))) (nest-forest k (parts 3 (entries p)))
+    ∙ ap (λ (X : Forest MessageDescriptor). node (decode-message p) (decode-messages k (parts 3 (entries p))) X) (nest-forest (suc k) ps)
+
+preorder-map : {A B : Type 0} (f : A → B) (F : Forest A) → map f (preorder F) ≡ preorder (map-forest f F)
+unfolding preorder map-forest
+preorder-map f done = refl
+preorder-map {B} f (node a nested following) =
+    ap (λ (l : List B). f a ∷ l)
+    (map-append f (preorder nested) (preorder following)
+    ∙ ap (λ (l : List B). l ++ map f (preorder following)) (preorder-map f nested)
+    ∙ ap (λ (l : List B). preorder (map-forest f nested) ++ l) (preorder-map f following))
+
 pub nest-decoded : (k : ℕ) (ps : List Bytes) → map decode-message (preorder (nest k ps)) ≡ preorder (decode-messages k ps)
-unfolding preorder nest decode-messages
-nest-decoded zero ps = refl
-nest-decoded (suc k) [] = refl
-nest-decoded (suc k) (p ∷ ps) =
-    ap (λ (l : List MessageDescriptor). decode-message p ∷ l)
-    (map-append decode-message (preorder (nest k (parts 3 (entries p)))) (preorder (nest (suc k) ps))
-    ∙ ap (λ (l : List MessageDescriptor). l ++ map decode-message (preorder (nest (suc k) ps))) (nest-decoded k (parts 3 (entries p)))
-    ∙ ap (λ (l : List MessageDescriptor). preorder (decode-messages k (parts 3 (entries p))) ++ l) (nest-decoded (suc k) ps))
+nest-decoded k ps = preorder-map decode-message (nest k ps) ∙ ap preorder (nest-forest k ps)
