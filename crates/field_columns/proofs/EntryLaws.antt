@@ -12,7 +12,7 @@ use Rattle.name_rules.specs.Accessors.{text}
 use Rattle.name_rules.specs.FullNames.{_·_, package-scope, Entry, entries, set-entries, fields-of-entries, set-fields}
 use Rattle.index.specs.Tree.{row-at, file-forests, total}
 use Rattle.index.proofs.TableLaws.{no-row}
-use Rattle.index.proofs.SetLaws.{message-rows, decode-row, messages-decoded, messages-counted, Messages}
+use Rattle.index.proofs.SetLaws.{message-rows, decode-row, messages-decoded, messages-counted, MessageTable}
 
 abbrev message-of : Entry → MessageDescriptor
 message-of e = e .message
@@ -59,7 +59,7 @@ module _ (set : List ℕ) (small : length set ≤ 32768) where
   entries-counted = messages-counted set small ∙ ap length (sym (set-messages (decode-set set))) ∙ map-length (λ (e : Entry). e .message) (set-entries (decode-set set))
 
 -- row i of the table and entry i have the same message
-pub row-entry : (set messages : List ℕ) (count : ℕ) → Messages set messages count → (i : ℕ) → i < count → (d : Entry)
+pub row-entry : (set messages : List ℕ) (count : ℕ) → MessageTable set messages count → (i : ℕ) → i < count → (d : Entry)
     → decode-row set (row-at messages i) ≡ getD (set-entries (decode-set set)) i d .message
 row-entry set messages count table i h d =
     let n : count ≡ length (message-rows set) = table .counted in

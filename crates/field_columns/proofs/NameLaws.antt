@@ -18,7 +18,7 @@ use Rattle.index.specs.Tree.{Place, file-forests, size, rows, rows-of, row-at}
 use Rattle.index.specs.declared.Row.{Row}
 use Rattle.index.proofs.TreeLaws.{rows-length}
 use Rattle.index.proofs.DecodedLaws.{bytes-at, map-forest, forest-forest, nest, nest-forest, files-bytes}
-use Rattle.index.proofs.SetLaws.{message-rows, decode-row, Messages}
+use Rattle.index.proofs.SetLaws.{message-rows, decode-row, MessageTable}
 use Rattle.index.proofs.TableLaws.{no-row}
 use Rattle.field_columns.proofs.EntryLaws.{rows-entries}
 
@@ -141,7 +141,7 @@ module _ (set : List ℕ) (small : length set ≤ 32768) where
       ∙ map-same (λ (F : Forest Place). map-forest decode-message (map-forest (bytes-at set) F)) (map-forest placed) (forest-forest decode-message (bytes-at set)) (file-forests 4 16 set)
 
 -- entry i has the full name that row i of the table says
-pub row-named : (set messages : List ℕ) (count : ℕ) → Messages set messages count → (no-file : FileDescriptor) (no-entry : Entry) (i : ℕ) → i < count
+pub row-named : (set messages : List ℕ) (count : ℕ) → MessageTable set messages count → (no-file : FileDescriptor) (no-entry : Entry) (i : ℕ) → i < count
     → getD (set-entries (decode-set set)) i no-entry .full
     ≡ scope-of no-file no-entry (decode-set set) (set-entries (decode-set set)) (row-at messages i .file) (row-at messages i .up) · text (getD (set-entries (decode-set set)) i no-entry .message .name)
 row-named set messages count table no-file no-entry i h =

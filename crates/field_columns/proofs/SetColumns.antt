@@ -20,7 +20,7 @@ use Rattle.index.specs.Tree.{row-at, row-bytes, Holds, all-members}
 use Rattle.index.specs.Owners.{owners}
 use Rattle.index.specs.declared.Row.{Row}
 use Rattle.index.proofs.TableLaws.{no-row, Stands, fill-stands}
-use Rattle.index.proofs.SetLaws.{Messages, Members, members-fit, fields-of, fields-hold}
+use Rattle.index.proofs.SetLaws.{MessageTable, HoldsMembers, members-fit, fields-of, fields-hold}
 use Rattle.field_columns.specs.Columns.{owner-of, owner-at, column-of, byte-of, column-at, rows-counted, first-rows, before, start-at, fields-before}
 use Rattle.field_columns.specs.declared.Column.{Column}
 
@@ -108,7 +108,7 @@ bytes-are g (f ∷ fs) h =
     ap (λ (n : ℕ). n ∷ map (λ (f : FieldDescriptor). byte-of (g f)) fs) one ∙ ap (λ (l : List ℕ). g f ∷ l) (bytes-are g fs (and-right (ltb (g f) 256) (all (λ (f : FieldDescriptor). ltb (g f) 256) fs) h))
 
 -- `fields` as `index_members` leaves it from row 0 on, where it has room for all rows
-module _ (set messages-table : List ℕ) (count : ℕ) (table : Messages set messages-table count) (t fields : List ℕ) (n : ℕ)
+module _ (set messages-table : List ℕ) (count : ℕ) (table : MessageTable set messages-table count) (t fields : List ℕ) (n : ℕ)
     (holds : Holds (all-members set 2 messages-table count 0) t 0 fields n) (room : n * 5 ≤ length t) where
   abbrev rs : List Row
   rs = all-members set 2 messages-table count 0
@@ -116,7 +116,7 @@ module _ (set messages-table : List ℕ) (count : ℕ) (table : Messages set mes
   abbrev ms : List MessageDescriptor
   ms = messages-in (decode-set set)
 
-  listed : Members 2 decode-field fields-of set messages-table count 0
+  listed : HoldsMembers 2 decode-field fields-of set messages-table count 0
   listed = fields-hold set messages-table count table
 
   rs-decoded : map (λ (r : Row). decode-field (row-bytes set r)) rs ≡ fields-in (decode-set set)

@@ -181,7 +181,7 @@ module _ (set : List ℕ) (small : length set ≤ 32768) where
 -- ---- what the messages hold
 
 -- a table with the messages of a set
-pub record Messages (set messages : List ℕ) (count : ℕ) : Type 0 where
+pub record MessageTable (set messages : List ℕ) (count : ℕ) : Type 0 where
   pub small : length set ≤ 32768
   pub few : count ≤ 1024
   pub counted : count ≡ length (message-rows set)
@@ -189,7 +189,7 @@ pub record Messages (set messages : List ℕ) (count : ℕ) : Type 0 where
 
 -- as `index_files` leaves it, where the table has room for all of them
 pub messages-there : (set t messages : List ℕ) (count : ℕ) → length set ≤ 32768 → count ≤ 1024 → count * 5 ≤ length t → IndexedFiles (file-forests 4 16 set) t messages count
-    → Messages set messages count
+    → MessageTable set messages count
 messages-there set t messages count small few room is =
     let n : length (message-rows set) ≡ total (file-forests 4 16 set) = rows-of-length (file-forests 4 16 set) 0 0 in
     let c : count ≡ total (file-forests 4 16 set) = is .counted in
@@ -201,8 +201,8 @@ messages-there set t messages count small few room is =
     }
 
 -- the rows of a table's messages hold what the messages of the decoded set hold, from row i on
-abbrev pub Members : {A : Type 0} → ℕ → (Bytes → A) → (MessageDescriptor → List A) → List ℕ → List ℕ → ℕ → ℕ → Type 0
-Members number decode held set messages count i =
+abbrev pub HoldsMembers : {A : Type 0} → ℕ → (Bytes → A) → (MessageDescriptor → List A) → List ℕ → List ℕ → ℕ → ℕ → Type 0
+HoldsMembers number decode held set messages count i =
     Listed decode set (all-members set number messages count i) (all-of held (messages-in (decode-set set)))
     (owners (λ (f : FileDescriptor). all-of held (file-messages f)) 0 (decode-set set)) (owners held 1 (messages-in (decode-set set)))
 
@@ -252,7 +252,7 @@ module _ {A : Type 0} (number : ℕ) (decode : Bytes → A) (held : MessageDescr
       let qs : List Bytes = preorder (nest 16 (parts 4 (entries p))) in
       sym (map-length decode (all-of inner qs)) ∙ ap length (inner-decoded qs ∙ ap (all-of held) (messages-declared p))) 0 (parts 1 (entries set))
 
-  module _ (messages : List ℕ) (count : ℕ) (table : Messages set messages count) (i : ℕ) (fits : i + length (all-of held (messages-in (decode-set set))) ≤ 32767) where
+  module _ (messages : List ℕ) (count : ℕ) (table : MessageTable set messages count) (i : ℕ) (fits : i + length (all-of held (messages-in (decode-set set))) ≤ 32767) where
     members-are : all-members set number messages count i ≡ member-rows set number 0 i ms
     unfolding all-members choose
     members-are =
@@ -260,7 +260,7 @@ module _ {A : Type 0} (number : ℕ) (decode : Bytes → A) (held : MessageDescr
         rw (le-ltb 32768 (length set) small, le-ltb 1024 count (table .few))
         (ap (λ (k : ℕ). members set number messages k 0 i) (table .counted) ∙ members-listed set number messages ms 0 i (table .there) (omega arith))
 
-    pub members-hold : Members number decode held set messages count i
+    pub members-hold : HoldsMembers number decode held set messages count i
     members-hold =
         record {
           decoded =
@@ -287,21 +287,21 @@ enums-of m = m .enums
 abbrev pub oneofs-of : MessageDescriptor → List (Option Bytes)
 oneofs-of m = m .oneofs
 
-module _ (set messages : List ℕ) (count : ℕ) (table : Messages set messages count) where
-  pub fields-hold : Members 2 decode-field fields-of set messages count 0
+module _ (set messages : List ℕ) (count : ℕ) (table : MessageTable set messages count) where
+  pub fields-hold : HoldsMembers 2 decode-field fields-of set messages count 0
   unfolding decode-message
   fields-hold =
       let few = members-fit 2 decode-field fields-of (λ p. refl) set (table .small) (λ e. omega arith) in
       members-hold 2 decode-field fields-of (λ p. refl) set (table .small) messages count table 0 (omega arith)
 
-  pub oneofs-hold : Members 8 decode-oneof oneofs-of set messages count 0
+  pub oneofs-hold : HoldsMembers 8 decode-oneof oneofs-of set messages count 0
   unfolding decode-message
   oneofs-hold =
       let few = members-fit 8 decode-oneof oneofs-of (λ p. refl) set (table .small) (λ e. omega arith) in
       members-hold 8 decode-oneof oneofs-of (λ p. refl) set (table .small) messages count table 0 (omega arith)
 
   -- behind the files' own: limit 5 counts both
-  pub enums-hold : (i : ℕ) → i + length (all-of enums-of (messages-in (decode-set set))) ≤ 32767 → Members 4 decode-enum enums-of set messages count i
+  pub enums-hold : (i : ℕ) → i + length (all-of enums-of (messages-in (decode-set set))) ≤ 32767 → HoldsMembers 4 decode-enum enums-of set messages count i
   unfolding decode-message
   enums-hold i fits = members-hold 4 decode-enum enums-of (λ p. refl) set (table .small) messages count table i fits
 
