@@ -2,7 +2,10 @@ pub mod SizeLaws
 pub mod TreeLaws
 pub mod IndexLaws
 pub mod FileLaws
+pub mod OwnerLaws
 pub mod DecodedLaws
 pub mod TableLaws
-pub mod CountLaws
 pub mod MemberLaws
+pub mod MemberRows
+pub mod RoomLaws
+pub mod SetLaws

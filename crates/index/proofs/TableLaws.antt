@@ -8,7 +8,7 @@ use lib.Seq.{getD-set-same, getD-set-other}
 use lib.Dec.{ltb}
 use borrow.Author.Tests.{lt-ltb}
 use Rattle.base.specs.Choose.{choose, choose-case}
-use Rattle.index.specs.Tree.{put, fill, row-in}
+use Rattle.index.specs.Tree.{put, fill, row-in, row-at}
 use Rattle.index.specs.declared.Row.{Row}
 use Rattle.index.proofs.IndexLaws.{put-length}
 
@@ -100,7 +100,7 @@ abbrev pub no-row : Row
 no-row = record { start = 0; end = 0; file = 0; up = 0; after = 0 }
 
 -- row k of those filled from row i on, where the table has room for them
-pub fill-row : (rs : List Row) (t : List ℕ) (i k : ℕ) → (i + length rs) * 5 ≤ length t → k < length rs → row-in (fill t i rs) (i + k) ≡ getD rs k no-row
+fill-row : (rs : List Row) (t : List ℕ) (i k : ℕ) → (i + length rs) * 5 ≤ length t → k < length rs → row-in (fill t i rs) (i + k) ≡ getD rs k no-row
 unfolding fill
 fill-row [] t i k room h = absurd (omega arith)
 fill-row (r ∷ rs) t i zero room h =
@@ -108,3 +108,14 @@ fill-row (r ∷ rs) t i zero room h =
 fill-row (r ∷ rs) t i (suc k) room h =
     ap (row-in (fill (put t i r) (i + 1) rs)) (let e : i + suc k ≡ i + 1 + k = omega arith in e)
     ∙ fill-row rs (put t i r) (i + 1) k (let l = put-length t i r in omega arith) (omega arith)
+
+-- the table has these rows from row i on
+abbrev pub Stands : List ℕ → ℕ → List Row → Type 0
+Stands t i rs = (k : ℕ) → k < length rs → row-at t (i + k) ≡ getD rs k no-row
+
+row-at-is : (t : List ℕ) (i : ℕ) → i < 65536 → row-at t i ≡ row-in t i
+unfolding row-at choose
+row-at-is t i h = rw (lt-ltb i 65536 h)
+
+pub fill-stands : (rs : List Row) (t : List ℕ) (i : ℕ) → (i + length rs) * 5 ≤ length t → i + length rs ≤ 65536 → Stands (fill t i rs) i rs
+fill-stands rs t i room few k h = row-at-is (fill t i rs) (i + k) (omega arith) ∙ fill-row rs t i k room h

@@ -1,3 +1,4 @@
 pub mod Places
 pub mod Sizes
 pub mod Tree
+pub mod Owners

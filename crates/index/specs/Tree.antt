@@ -47,6 +47,10 @@ rows file up i (node p nested following) =
     record { start = p .start; end = p .end; file = file; up = up; after = i + 1 + size nested }
     ∷ (rows file (i + 1) (i + 1) nested ++ rows file up (i + 1 + size nested) following)
 
+-- the bytes of a row's declaration
+abbrev pub row-bytes : List ℕ → Row → List ℕ
+row-bytes set r = part set (r .start) (r .end - r .start)
+
 -- a table holds five numbers for each row; what it has no room for is left out
 unfoldable pub put : List ℕ → ℕ → Row → List ℕ
 put t i r =

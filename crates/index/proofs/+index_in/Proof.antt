@@ -108,7 +108,6 @@ module _ (t : ℕ) where
       let g : c .before .before .before .before .before .before .before .before .before .loop .at + 1 + c .count-in .result ≤ c .before .before .before .before .before .before .f .given .0 .0 .next = grown _ _ _ _ (c .before .before .before .before .before .before .before .before .read-step .ensures) (c .before .before .before .before .before .before .f .given .1) _ _ _ (c .before .before .end-of .ensures .1) (c .before .before .end-of .ensures .2) (le-refl (c .before .before .before .before .before .before .before .before .before .loop .at)) (c .count-in .ensures .1) in
       omega (arith, c .before .before .before .before .before .before .before .before .before .loop .inv .room, c .before .before .before .before .before .before .before .before .before .before .before .before .before .pre .1 .1)
 
-  -- src/lib.rt:130:35
   index-in-made-row-requires : index-in-lts.Need-made-row-requires (index-in-claims t) (index-in-at t) index-in.Post index-in-Inv-loop index-in-μ-loop
   index-in-made-row-requires c κs =
       let l = lies _ _ _ _ (c .before .before .before .before .before .before .before .before .before .read-step .ensures) (c .before .before .before .before .before .before .before .f .given .1) in

@@ -1,0 +1,5 @@
+pub mod StartLaws
+pub mod ColumnLaws
+pub mod SetColumns
+pub mod EntryLaws
+pub mod NameLaws
