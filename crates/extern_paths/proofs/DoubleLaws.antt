@@ -17,6 +17,7 @@ use Rattle.options.proofs.RowLaws.{settings-step, settings-end}
 use Rattle.path.specs.Forms.{among}
 use Rattle.extern_paths.specs.Split.{begins, push, split-behind, split}
 use Rattle.extern_paths.specs.ExternPaths.{extern, prost-types}
+use Rattle.extern_paths.specs.Parts.{path-words}
 use Rattle.base.specs.Lists.{any, is-empty}
 use Rattle.extern_paths.specs.Doubles.{has-gap, valid-path, prost-type-paths, lists, doubled, at-fault, externs-from, externs}
 use Rattle.extern_paths.specs.declared.check.Externs.{Externs}
@@ -28,8 +29,8 @@ or-none true = refl
 or-none false = refl
 
 -- ---- the paths of prost types
-pub prost-words : split (b " ") (b ".google.protobuf .google.protobuf.BoolValue .google.protobuf.BytesValue .google.protobuf.DoubleValue .google.protobuf.Empty .google.protobuf.FloatValue .google.protobuf.Int32Value .google.protobuf.Int64Value .google.protobuf.StringValue .google.protobuf.UInt32Value .google.protobuf.UInt64Value") ≡ prost-type-paths
-unfolding split split-behind begins choose prost-type-paths prost-types
+pub prost-words : path-words ≡ prost-type-paths
+unfolding path-words split split-behind begins choose prost-type-paths prost-types
 prost-words = refl
 
 -- they are valid

@@ -2,10 +2,10 @@
 use mathlib.Core.Path.{_≡_, refl, sym, ap, _∙_}
 use mathlib.Core.Bool.{Bool, true, false, _&&_, _||_, and-false}
 use mathlib.Core.List.{List, [], _∷_}
-use Prim.Native.Nat.{ℕ, zero, suc, _+_, _-_, _≤_, _<_}
+use Prim.Native.Nat.{ℕ, zero, suc, _+_, _-_, _≤_, _<_, min}
 use native.Mathlib.Omega.{arith}
 use native.Mathlib.Numerals.{add-one}
-use native.Mathlib.Decide.{decLt}
+use native.Mathlib.Decide.{decLe, decLt}
 use borrow.Author.Tests.{lt-ltb, le-ltb, eq-eqb, ne-eqb, eqb-true, eqb-false}
 use lib.Dec.{eqb, ltb}
 use lib.ListN.{length, take, drop, getD, length-drop, length-take, drop-of-length-le}
@@ -13,7 +13,6 @@ use lib.Seq.{drop-cons, drop-drop, drop-nil}
 use Rattle.base.specs.Choose.{choose, choose-case}
 use Rattle.base.specs.Tests.{both-ways, and-right}
 use Rattle.base.specs.Bytes.{b, same, same-length, same-refl}
-use Rattle.path.specs.Forms.{among}
 use Rattle.extern_paths.specs.Split.{begins, push, split-behind, split, first-part}
 
 pub by-test : (P : Bool → Type 0) (t : Bool) → (t ≡ true → P true) → (t ≡ false → P false) → P t
@@ -39,14 +38,22 @@ begins-room [] s h = omega arith
 begins-room (x ∷ sep) [] h = both-ways h refl
 begins-room (x ∷ sep) (c ∷ s) h = let l : length sep ≤ length s = begins-room sep s (and-right (eqb c x) (begins sep s) h) in omega arith
 
-module _ (s sep : List ℕ) (at : ℕ) (h : at ≤ length s) where
-  pub begins-not : length s - at < length sep → false ≡ begins sep (drop at s)
-  begins-not l = sym (begins-short sep (drop at s) (rw length-drop l))
+-- a place past the end counts as the end
+pub drop-within : (s : List ℕ) (at from : ℕ) → from ≡ min at (length s) → drop from s ≡ drop at s
+drop-within s at from f = on (decLe at (length s))
+  where
+    on : Dec (at ≤ length s) → drop from s ≡ drop at s
+    on (yes h) = let e : from ≡ at = omega arith in rw e refl
+    on (no h) = rw (drop-of-length-le s {i = from} (omega arith), drop-of-length-le s {i = at} (omega arith)) refl
 
-  pub begins-is : (z : Bool) → length sep ≤ length s - at → z ≡ same (take (at + length sep - at) (drop at s)) sep → z ≡ begins sep (drop at s)
+module _ (s sep : List ℕ) (at from : ℕ) (f : from ≡ min at (length s)) where
+  pub begins-not : length s - from < length sep → false ≡ begins sep (drop at s)
+  begins-not l = rw (← drop-within s at from f) (sym (begins-short sep (drop from s) (rw length-drop l)))
+
+  pub begins-is : (z : Bool) → length sep ≤ length s - from → z ≡ same (take (from + length sep - from) (drop from s)) sep → z ≡ begins sep (drop at s)
   begins-is z l q =
-      let e : at + length sep - at ≡ length sep = omega arith in
-      (rw e at q) ∙ sym (begins-same sep (drop at s) (rw length-drop l))
+      let e : from + length sep - from ≡ length sep = omega arith in
+      rw (← drop-within s at from f) ((rw e at q) ∙ sym (begins-same sep (drop from s) (rw length-drop l)))
 
 -- ---- the first part
 module _ (s sep : List ℕ) (i : ℕ) where
@@ -128,16 +135,32 @@ sep-fits sep (c ∷ s) h =
     (λ q. λ _. let l : length sep ≤ suc (length s) = begins-room sep (c ∷ s) q in omega arith)
     (λ _. λ l. let m : first-part sep s + length sep ≤ length s = sep-fits sep s (omega arith) in omega arith) h
 
-module _ (sep s : List ℕ) (from e : ℕ) (z : 0 < length sep) (h : from ≤ length s) (q : e ≡ from + first-part sep (drop from s)) where
-  pub end-within : e ≤ length s
-  end-within = let l : first-part sep (drop from s) ≤ length (drop from s) = part-within sep (drop from s) in let m : length (drop from s) ≡ length s - from = length-drop from s in omega arith
+-- the part that starts at `from` ends at e
+pub record Parted (sep s : List ℕ) (from e : ℕ) : Type 0 where
+  pub starts : from ≤ length s
+  pub ends : e ≡ from + first-part sep (drop from s)
 
-  pub end-from : from ≤ e
-  end-from = omega arith
+pub record Spans (s : List ℕ) (from e : ℕ) : Type 0 where
+  pub order : from ≤ e
+  pub within : e ≤ length s
+
+module _ (sep s : List ℕ) (from e : ℕ) (z : 0 < length sep) (d : Parted sep s from e) where
+  pub spans : Spans s from e
+  spans =
+      let l : first-part sep (drop from s) ≤ length (drop from s) = part-within sep (drop from s) in
+      let m : length (drop from s) ≡ length s - from = length-drop from s in
+      record { order = omega arith; within = omega arith }
 
   -- the separator behind the part
   pub sep-within : e < length s → e + length sep ≤ length s
-  sep-within l = let m : length (drop from s) ≡ length s - from = length-drop from s in let k : first-part sep (drop from s) + length sep ≤ length (drop from s) = sep-fits sep (drop from s) (omega arith) in omega arith
+  sep-within l =
+      let m : length (drop from s) ≡ length s - from = length-drop from s in
+      let k : first-part sep (drop from s) + length sep ≤ length (drop from s) = sep-fits sep (drop from s) (omega arith) in
+      omega arith
+
+  -- the next part
+  pub parted-next : e < length s → (e' : ℕ) → e' ≡ e + length sep + first-part sep (drop (e + length sep) s) → Parted sep s (e + length sep) e'
+  parted-next l e' q = record { starts = sep-within l; ends = q }
 
   front : take (first-part sep (drop from s)) (drop from s) ≡ take (e - from) (drop from s)
   front = let r : e - from ≡ first-part sep (drop from s) = omega arith in rw r refl
@@ -154,20 +177,6 @@ module _ (sep s : List ℕ) (from e : ℕ) (z : 0 < length sep) (h : from ≤ le
       let m : length (drop from s) ≡ length s - from = length-drop from s in
       let k : from + (first-part sep (drop from s) + length sep) ≡ e + length sep = omega arith in
       split-is sep (drop from s) z ∙ rw (front, lt-ltb (first-part sep (drop from s)) (length (drop from s)) (omega arith), drop-drop, k) refl
-
-  -- is x one of the parts?
-  module _ (x : List ℕ) (r : Bool) (w : r ≡ same x (take (e - from) (drop from s))) where
-    pub among-first : r ≡ true → true ≡ among x (split sep (drop from s))
-    unfolding among
-    among-first t = rw (split-is sep (drop from s) z, front, ← w, t) refl
-
-    pub among-last : length s ≤ e → r ≡ false → false ≡ among x (split sep (drop from s))
-    unfolding among
-    among-last l t = rw (parts-last l, ← w, t) refl
-
-    pub among-more : e < length s → r ≡ false → (v : Bool) → v ≡ among x (split sep (drop (e + length sep) s)) → v ≡ among x (split sep (drop from s))
-    unfolding among
-    among-more l t v k = rw (parts-more l, ← w, t) k
 
 pub eqb-turned : (a c : ℕ) → eqb a c ≡ eqb c a
 eqb-turned a c =

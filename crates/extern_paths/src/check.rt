@@ -1,4 +1,5 @@
 // Refusal 2: extern paths that are invalid or doubled.
+use crate::prost_types::PATHS;
 use crate::split::is_word;
 use options::Row;
 ghost use mathlib.Core.Path.{_≡_};
@@ -69,11 +70,7 @@ fn is_valid(path: &[u8]) -> bool
 fn is_prost_type(x: &[u8]) -> bool
     ensures { λ r. ⌜ r ≡ among (now (x .entry)) prost-type-paths ⌝ }
 {
-    is_word(
-        b".google.protobuf .google.protobuf.BoolValue .google.protobuf.BytesValue .google.protobuf.DoubleValue .google.protobuf.Empty .google.protobuf.FloatValue .google.protobuf.Int32Value .google.protobuf.Int64Value .google.protobuf.StringValue .google.protobuf.UInt32Value .google.protobuf.UInt64Value",
-        0,
-        x,
-    )
+    is_word(&PATHS, x)
 }
 
 // Has the row an invalid path?

@@ -5,23 +5,29 @@ ghost use lib.ListN.{length, drop};
 ghost use Rattle.base.specs.Bytes.{b};
 ghost use Rattle.path.specs.Forms.{among};
 ghost use Rattle.extern_paths.specs.Split.{begins, first-part, split};
+ghost use Rattle.extern_paths.specs.Parts.{IsWord};
+
+// Where a part starts and ends.
+pub struct Part {
+    pub start: usize,
+    pub end: usize,
+}
 
 // Does the separator stand at a place?
-fn begins_at(s: &[u8], at: usize, sep: &[u8]) -> bool
-    requires { ⌜ at ≤ length (now s) ⌝ }
+pub fn begins_at(s: &[u8], at: usize, sep: &[u8]) -> bool
     ensures { λ r. ⌜ r ≡ begins (now (sep .entry)) (drop at (now (s .entry))) ⌝ }
 {
-    let room = s.len() - at;
+    let from = writer::within(at, s.len());
+    let room = s.len() - from;
     if room < sep.len() {
         return false;
     }
-    let e = at + sep.len();
-    base::same_bytes(&s[at..e], sep)
+    let e = from + sep.len();
+    base::same_bytes(&s[from..e], sep)
 }
 
 // Where the part that starts at a place ends.
 pub fn part_end(s: &[u8], from: usize, sep: &[u8]) -> usize
-    requires { ⌜ from ≤ length (now s) ⌝ }
     ensures { λ r. ⌜ r ≡ from + first-part (now (sep .entry)) (drop from (now (s .entry))) ⌝ }
 {
     let mut i = from;
@@ -35,19 +41,46 @@ pub fn part_end(s: &[u8], from: usize, sep: &[u8]) -> usize
     i
 }
 
-// Is x one of the parts from a place on, with blanks between them?
-pub fn is_word(s: &[u8], from: usize, x: &[u8]) -> bool
-    requires { ⌜ from ≤ length (now s) ⌝ }
-    ensures { λ r. ⌜ r ≡ among (now (x .entry)) (split (b " ") (drop from (now (s .entry)))) ⌝ }
+// Is x one of the words of s, with blanks between them?
+pub fn is_word(s: &[u8], x: &[u8]) -> bool
+    ensures { λ r. ⌜ r ≡ among (now (x .entry)) (split (b " ") (now (s .entry))) ⌝ }
 {
-    let e = part_end(s, from, b" ");
-    let found = base::same_bytes(x, &s[from..e]);
-    if found {
-        return true;
+    let mut from = 0;
+    let mut e = part_end(s, 0, b" ");
+    while e < s.len() {
+        let found = base::same_bytes(x, &s[from..e]);
+        if found {
+            return true;
+        }
+        from = e + 1;
+        e = part_end(s, from, b" ");
     }
-    if e < s.len() {
-        let next = e + 1;
-        return is_word(s, next, x);
+    base::same_bytes(x, &s[from..e])
+}
+
+// Word j of s; an empty part if there is none.
+pub fn word(s: &[u8], j: usize) -> Part
+    ensures { λ r. ⌜ IsWord (now (s .entry)) j r ⌝ }
+{
+    let mut i = 0;
+    let mut from = 0;
+    let mut e = part_end(s, 0, b" ");
+    while e < s.len() {
+        if i == j {
+            return Part {
+                start: from,
+                end: e,
+            };
+        }
+        i = i + 1;
+        from = e + 1;
+        e = part_end(s, from, b" ");
     }
-    false
+    if i == j {
+        return Part {
+            start: from,
+            end: e,
+        };
+    }
+    Part { start: e, end: e }
 }

@@ -8,13 +8,6 @@ use Rattle.extern_paths.specs.Doubles.{externs-from, externs}
 use Rattle.extern_paths.proofs.DoubleLaws.{Reached, reached-start, reached-more, externs-start, externs-end, externs-bad, externs-more}
 use Rattle.extern_paths.proofs.check.check_externs.Statement.{statement}
 use Rattle.extern_paths.proofs.check.check_externs.Tie as tie
-use Rattle.extern_paths.proofs.check.check_externs.Reads as reads
-use Rattle.extern_paths.proofs.check.check_externs.Lts as lts
-use Rattle.extern_paths.proofs.check.is_at_fault.Reads as is-at-fault-reads
-use Rattle.extern_paths.proofs.check.place.Reads as place-reads
-use Rattle.options.proofs.bodies_at.Reads as bodies-at-reads
-use Rattle.options.proofs.row_count.Reads as row-count-reads
-use Rattle.options.proofs.row_from.Reads as row-from-reads
 
 abbrev Inv-loop : tie.InvT-loop
 Inv-loop o n at₀ i₀ at i = Reached o n i at × (externs-from (settings o) (n - i) i ≡ externs (settings o))
@@ -22,47 +15,36 @@ Inv-loop o n at₀ i₀ at i = Reached o n i at × (externs-from (settings o) (n
 abbrev μ-loop : tie.MeasureT-loop
 μ-loop o n at₀ i₀ at i = n - i
 
--- src/check.rt:172:9
 row-count-requires : tie.Need-row-count-requires Inv-loop μ-loop
 row-count-requires c κs = search needs
 
--- src/check.rt:173:9
 bodies-at-requires : tie.Need-bodies-at-requires Inv-loop μ-loop
 bodies-at-requires c κs = search needs
 
--- src/check.rt:175:5
 loop-holds : tie.Need-loop-holds Inv-loop μ-loop
 loop-holds c = (reached-start _ _ _ (c .before .row-count .ensures) (c .bodies-at .ensures .0), externs-start _ _ (c .before .row-count .ensures))
 
--- src/check.rt:176:13
 row-from-requires : tie.Need-row-from-requires Inv-loop μ-loop
 row-from-requires c κs = search needs
 
--- src/check.rt:177:13
 is-at-fault-requires : tie.Need-is-at-fault-requires Inv-loop μ-loop
 is-at-fault-requires c κs = rw (c .row-from .ensures) (row-lies _ _ _)
 
--- src/check.rt:179:33
 place-requires : tie.Need-place-requires Inv-loop μ-loop
 place-requires c κs = search needs
 
--- src/check.rt:179:13
 returns : tie.Need-returns Inv-loop μ-loop
 returns c = rw (c .place .ensures) (sym (externs-bad _ _ _ _ (c .before .before .before .before .before .loop .inv .0) (c .before .before .before .before .loop-test .taken) _ (c .before .before .before .row-from .ensures) _ (c .before .before .is-at-fault .ensures) (c .before .if1 .taken)) ∙ c .before .before .before .before .before .loop .inv .1)
 
--- src/check.rt:182:13
 add-i : tie.Need-add-i Inv-loop μ-loop
 add-i c = search needs
 
--- src/check.rt:175:5
 loop-less : tie.Need-loop-less Inv-loop μ-loop
 loop-less c = search needs
 
--- src/check.rt:175:5
 loop-again : tie.Need-loop-again Inv-loop μ-loop
 loop-again c = (reached-more _ _ _ _ (c .before .before .before .before .loop .inv .0) (c .before .before .before .loop-test .taken) _ (c .before .before .row-from .ensures), externs-more _ _ _ _ (c .before .before .before .before .loop .inv .0) (c .before .before .before .loop-test .taken) _ (c .before .before .row-from .ensures) _ (c .before .is-at-fault .ensures) (c .if1 .left) ∙ c .before .before .before .before .loop .inv .1)
 
--- src/check.rt:169:1
 returns-2 : tie.Need-returns-2 Inv-loop μ-loop
 returns-2 c = sym (externs-end _ _ _ _ (c .before .loop .inv .0) (c .loop-test .left)) ∙ c .before .loop .inv .1
 

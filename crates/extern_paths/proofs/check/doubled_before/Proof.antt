@@ -9,11 +9,6 @@ use Rattle.extern_paths.specs.Doubles.{doubled}
 use Rattle.extern_paths.proofs.DoubleLaws.{some-end, some-hit, some-miss}
 use Rattle.extern_paths.proofs.check.doubled_before.Statement.{statement}
 use Rattle.extern_paths.proofs.check.doubled_before.Tie as tie
-use Rattle.extern_paths.proofs.check.doubled_before.Reads as reads
-use Rattle.extern_paths.proofs.check.doubled_before.Lts as lts
-use Rattle.extern_paths.proofs.check.is_doubled.Reads as is-doubled-reads
-use Rattle.options.proofs.bodies_at.Reads as bodies-at-reads
-use Rattle.options.proofs.row_from.Reads as row-from-reads
 
 abbrev Inv-loop : tie.InvT-loop
 Inv-loop o i row at₀ j₀ at j = any (doubled (setting-of o row)) (settings-from o (i - j) j at) ≡ any (doubled (setting-of o row)) (settings-from o i 0 (bodies o))
@@ -21,39 +16,30 @@ Inv-loop o i row at₀ j₀ at j = any (doubled (setting-of o row)) (settings-fr
 abbrev μ-loop : tie.MeasureT-loop
 μ-loop o i row at₀ j₀ at j = i - j
 
--- src/check.rt:142:9
 bodies-at-requires : tie.Need-bodies-at-requires Inv-loop μ-loop
 bodies-at-requires c κs = search needs
 
--- src/check.rt:144:5
 loop-holds : tie.Need-loop-holds Inv-loop μ-loop
 loop-holds c = let e : c .before .before .args .i - 0 ≡ c .before .before .args .i = omega arith in rw (e, ← c .bodies-at .ensures .0) refl
 
--- src/check.rt:145:13
 row-from-requires : tie.Need-row-from-requires Inv-loop μ-loop
 row-from-requires c κs = search needs
 
--- src/check.rt:146:13
 is-doubled-requires : tie.Need-is-doubled-requires Inv-loop μ-loop
 is-doubled-requires c κs = (c .before .before .before .before .before .pre, rw (c .row-from .ensures) (row-lies _ _ _))
 
--- src/check.rt:148:13
 returns : tie.Need-returns Inv-loop μ-loop
 returns c = sym (some-hit _ _ _ _ _ (c .before .before .before .loop-test .taken) _ (c .before .before .row-from .ensures) _ (c .before .is-doubled .ensures) (c .if1 .taken)) ∙ c .before .before .before .before .loop .inv
 
--- src/check.rt:151:13
 add-j : tie.Need-add-j Inv-loop μ-loop
 add-j c = search needs
 
--- src/check.rt:144:5
 loop-less : tie.Need-loop-less Inv-loop μ-loop
 loop-less c = search needs
 
--- src/check.rt:144:5
 loop-again : tie.Need-loop-again Inv-loop μ-loop
 loop-again c = some-miss _ _ _ _ _ (c .before .before .before .loop-test .taken) _ (c .before .before .row-from .ensures) _ (c .before .is-doubled .ensures) (c .if1 .left) ∙ c .before .before .before .before .loop .inv
 
--- src/check.rt:138:1
 returns-2 : tie.Need-returns-2 Inv-loop μ-loop
 returns-2 c = sym (some-end _ _ _ _ _ (c .loop-test .left)) ∙ c .before .loop .inv
 

@@ -6,9 +6,6 @@ use Rattle.extern_paths.specs.Doubles.{has-gap}
 use Rattle.extern_paths.proofs.GapLaws.{gap-end, gap-here, gap-later}
 use Rattle.extern_paths.proofs.check.gap.Statement.{statement}
 use Rattle.extern_paths.proofs.check.gap.Tie as tie
-use Rattle.extern_paths.proofs.check.gap.Reads as reads
-use Rattle.extern_paths.proofs.check.gap.Lts as lts
-use Rattle.extern_paths.proofs.check.gap_at.Reads as gap-at-reads
 
 abbrev Inv-loop : tie.InvT-loop
 Inv-loop path i₀ i = has-gap (drop i path) ≡ has-gap path
@@ -16,31 +13,24 @@ Inv-loop path i₀ i = has-gap (drop i path) ≡ has-gap path
 abbrev μ-loop : tie.MeasureT-loop
 μ-loop path i₀ i = length path - i
 
--- src/check.rt:46:5
 loop-holds : tie.Need-loop-holds Inv-loop μ-loop
 loop-holds c = refl
 
--- src/check.rt:47:13
 gap-at-requires : tie.Need-gap-at-requires Inv-loop μ-loop
 gap-at-requires c κs = search needs
 
--- src/check.rt:49:13
 returns : tie.Need-returns Inv-loop μ-loop
 returns c = sym (gap-here _ _ (c .before .before .loop-test .taken) (sym (c .before .gap-at .ensures) ∙ c .if1 .taken)) ∙ c .before .before .before .loop .inv
 
--- src/check.rt:51:13
 add-i : tie.Need-add-i Inv-loop μ-loop
 add-i c = search needs
 
--- src/check.rt:46:5
 loop-less : tie.Need-loop-less Inv-loop μ-loop
 loop-less c = search needs
 
--- src/check.rt:46:5
 loop-again : tie.Need-loop-again Inv-loop μ-loop
 loop-again c = sym (gap-later _ _ (c .before .before .loop-test .taken) (sym (c .before .gap-at .ensures) ∙ c .if1 .left)) ∙ c .before .before .before .loop .inv
 
--- src/check.rt:42:1
 returns-2 : tie.Need-returns-2 Inv-loop μ-loop
 returns-2 c = sym (gap-end _ _ (c .loop-test .left)) ∙ c .before .loop .inv
 

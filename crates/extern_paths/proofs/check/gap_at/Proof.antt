@@ -3,30 +3,22 @@ use Rattle.extern_paths.proofs.GapLaws.{no-dot, last-dot, next-dot}
 use borrow.Author.Needs.{needs}
 use Rattle.extern_paths.proofs.check.gap_at.Statement.{statement}
 use Rattle.extern_paths.proofs.check.gap_at.Tie as tie
-use Rattle.extern_paths.proofs.check.gap_at.Reads as reads
-use Rattle.extern_paths.proofs.check.gap_at.Lts as lts
 
--- src/check.rt:32:8
 shared-slice-read-if1 : tie.Need-shared-slice-read-if1
 shared-slice-read-if1 c = search needs
 
--- src/check.rt:33:9
 returns : tie.Need-returns
 returns c = no-dot _ _ (c .before .before .pre) (c .if1 .taken)
 
--- src/check.rt:35:16
 add-next : tie.Need-add-next
 add-next c = search needs
 
--- src/check.rt:37:9
 returns-2 : tie.Need-returns-2
 returns-2 c = last-dot _ _ (c .before .before .before .pre) (c .before .if1 .left) (c .if2 .taken)
 
--- src/check.rt:39:5
 shared-slice-read-result : tie.Need-shared-slice-read-result
 shared-slice-read-result c = search needs
 
--- src/check.rt:28:1
 returns-3 : tie.Need-returns-3
 returns-3 c = next-dot _ _ (c .before .before .before .before .pre) _ (c .before .before .if1 .left) (c .before .if2 .left) refl
 

@@ -3,40 +3,28 @@ use Rattle.extern_paths.proofs.DoubleLaws.{doubled-one, doubled-prost, 
 use borrow.Author.Needs.{needs}
 use Rattle.extern_paths.proofs.check.is_doubled.Statement.{statement}
 use Rattle.extern_paths.proofs.check.is_doubled.Tie as tie
-use Rattle.extern_paths.proofs.check.is_doubled.Reads as reads
-use Rattle.extern_paths.proofs.check.is_doubled.Lts as lts
-use Rattle.extern_paths.proofs.check.lists_path.Reads as lists-path-reads
-use Rattle.extern_paths.proofs.check.lists_prost_type.Reads as lists-prost-type-reads
 
--- src/check.rt:129:37
 sub-lists-path : tie.Need-sub-lists-path
 sub-lists-path c = search needs
 
--- src/check.rt:129:37
 part-lists-path-start : tie.Need-part-lists-path-start
 part-lists-path-start c = search needs
 
--- src/check.rt:129:37
 part-lists-path-end : tie.Need-part-lists-path-end
 part-lists-path-end c = search needs
 
--- src/check.rt:129:9
 lists-path-requires : tie.Need-lists-path-requires
 lists-path-requires c κs = search needs
 
--- src/check.rt:129:9
 returns : tie.Need-returns
 returns c = doubled-one _ (c .before .before .if1 .taken) _ _ (c .lists-path .ensures)
 
--- src/check.rt:132:9
 lists-prost-type-requires : tie.Need-lists-prost-type-requires
 lists-prost-type-requires c κs = search needs
 
--- src/check.rt:132:9
 returns-2 : tie.Need-returns-2
 returns-2 c = doubled-prost _ (c .before .before .before .if1 .left) _ _ (c .before .if2 .taken) (c .lists-prost-type .ensures)
 
--- src/check.rt:122:1
 returns-3 : tie.Need-returns-3
 returns-3 c = doubled-none _ (c .before .before .if1 .left) _ (c .if2 .left)
 

@@ -1,23 +1,19 @@
+use Rattle.extern_paths.specs.Parts.{path-words}
 use mathlib.Core.Path.{_≡_, refl, sym, ap, _∙_}
 use Rattle.path.specs.Forms.{among}
 use Rattle.extern_paths.proofs.DoubleLaws.{prost-words}
 use borrow.Author.Needs.{needs}
 use Rattle.extern_paths.proofs.check.is_prost_type.Statement.{statement}
 use Rattle.extern_paths.proofs.check.is_prost_type.Tie as tie
-use Rattle.extern_paths.proofs.check.is_prost_type.Reads as reads
-use Rattle.extern_paths.proofs.check.is_prost_type.Lts as lts
-use Rattle.extern_paths.proofs.split.is_word.Reads as is-word-reads
 
--- src/check.rt:72:9
 slice-aggregate-is-word : tie.Need-slice-aggregate-is-word
 slice-aggregate-is-word c = search needs
 
--- src/check.rt:71:5
 is-word-requires : tie.Need-is-word-requires
 is-word-requires c κs = search needs
 
--- src/check.rt:68:1
 returns : tie.Need-returns
+unfolding path-words
 returns c = c .is-word .ensures ∙ ap (among _) prost-words
 
 pub is-prost-type-spec : {M : Type 1} → statement M

@@ -3,40 +3,28 @@ use Rattle.extern_paths.proofs.DoubleLaws.{lists-one, lists-prost, list
 use borrow.Author.Needs.{needs}
 use Rattle.extern_paths.proofs.check.lists_path.Statement.{statement}
 use Rattle.extern_paths.proofs.check.lists_path.Tie as tie
-use Rattle.extern_paths.proofs.check.lists_path.Reads as reads
-use Rattle.extern_paths.proofs.check.lists_path.Lts as lts
-use Rattle.base.proofs.same_bytes.Reads as same-bytes-reads
-use Rattle.extern_paths.proofs.check.is_prost_type.Reads as is-prost-type-reads
 
--- src/check.rt:100:36
 sub-same-bytes : tie.Need-sub-same-bytes
 sub-same-bytes c = search needs
 
--- src/check.rt:100:36
 part-same-bytes-start : tie.Need-part-same-bytes-start
 part-same-bytes-start c = search needs
 
--- src/check.rt:100:36
 part-same-bytes-end : tie.Need-part-same-bytes-end
 part-same-bytes-end c = search needs
 
--- src/check.rt:100:9
 same-bytes-requires : tie.Need-same-bytes-requires
 same-bytes-requires c κs = search needs
 
--- src/check.rt:100:9
 returns : tie.Need-returns
 returns c = lists-one _ (c .before .before .if1 .taken) _ _ (c .same-bytes .ensures)
 
--- src/check.rt:103:9
 is-prost-type-requires : tie.Need-is-prost-type-requires
 is-prost-type-requires c κs = search needs
 
--- src/check.rt:103:9
 returns-2 : tie.Need-returns-2
 returns-2 c = lists-prost _ (c .before .before .before .if1 .left) _ _ (c .before .if2 .taken) (c .is-prost-type .ensures)
 
--- src/check.rt:93:1
 returns-3 : tie.Need-returns-3
 returns-3 c = lists-none _ (c .before .before .if1 .left) _ (c .if2 .left)
 

@@ -3,31 +3,22 @@ use Rattle.extern_paths.proofs.DoubleLaws.{prost-one, prost-is}
 use borrow.Author.Needs.{needs}
 use Rattle.extern_paths.proofs.check.lists_prost_type.Statement.{statement}
 use Rattle.extern_paths.proofs.check.lists_prost_type.Tie as tie
-use Rattle.extern_paths.proofs.check.lists_prost_type.Reads as reads
-use Rattle.extern_paths.proofs.check.lists_prost_type.Lts as lts
-use Rattle.extern_paths.proofs.check.is_prost_type.Reads as is-prost-type-reads
 
--- src/check.rt:116:30
 sub-is-prost-type : tie.Need-sub-is-prost-type
 sub-is-prost-type c = search needs
 
--- src/check.rt:116:30
 part-is-prost-type-start : tie.Need-part-is-prost-type-start
 part-is-prost-type-start c = search needs
 
--- src/check.rt:116:30
 part-is-prost-type-end : tie.Need-part-is-prost-type-end
 part-is-prost-type-end c = search needs
 
--- src/check.rt:116:9
 is-prost-type-requires : tie.Need-is-prost-type-requires
 is-prost-type-requires c κs = search needs
 
--- src/check.rt:116:9
 returns : tie.Need-returns
 returns c = prost-one _ (c .before .before .if1 .taken) _ (c .is-prost-type .ensures)
 
--- src/check.rt:109:1
 returns-2 : tie.Need-returns-2
 returns-2 c = prost-is _ (c .before .if1 .left)
 

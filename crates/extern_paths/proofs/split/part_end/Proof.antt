@@ -7,43 +7,33 @@ use Rattle.extern_paths.specs.Split.{first-part}
 use Rattle.extern_paths.proofs.SplitLaws.{part-stops, part-goes, part-ends}
 use Rattle.extern_paths.proofs.split.part_end.Statement.{statement}
 use Rattle.extern_paths.proofs.split.part_end.Tie as tie
-use Rattle.extern_paths.proofs.split.part_end.Reads as reads
-use Rattle.extern_paths.proofs.split.part_end.Lts as lts
-use Rattle.extern_paths.proofs.split.begins_at.Reads as begins-at-reads
 
 abbrev Inv-loop : tie.InvT-loop
-Inv-loop s from sep i₀ i = (i ≤ length s) × (i + first-part sep (drop i s) ≡ from + first-part sep (drop from s))
+Inv-loop s from sep i₀ i = i + first-part sep (drop i s) ≡ from + first-part sep (drop from s)
 
 abbrev μ-loop : tie.MeasureT-loop
 μ-loop s from sep i₀ i = length s - i
 
--- src/split.rt:28:5
 loop-holds : tie.Need-loop-holds Inv-loop μ-loop
-loop-holds c = (c .before .before .pre, refl)
+loop-holds c = refl
 
--- src/split.rt:29:13
 begins-at-requires : tie.Need-begins-at-requires Inv-loop μ-loop
 begins-at-requires c κs = search needs
 
--- src/split.rt:31:13
 returns : tie.Need-returns Inv-loop μ-loop
-returns c = sym (part-stops _ _ _ (c .before .before .loop-test .taken) (sym (c .before .begins-at .ensures) ∙ c .if1 .taken)) ∙ c .before .before .before .loop .inv .1
+returns c = sym (part-stops _ _ _ (c .before .before .loop-test .taken) (sym (c .before .begins-at .ensures) ∙ c .if1 .taken)) ∙ c .before .before .before .loop .inv
 
--- src/split.rt:33:13
 add-i : tie.Need-add-i Inv-loop μ-loop
 add-i c = search needs
 
--- src/split.rt:28:5
 loop-less : tie.Need-loop-less Inv-loop μ-loop
 loop-less c = search needs
 
--- src/split.rt:28:5
 loop-again : tie.Need-loop-again Inv-loop μ-loop
-loop-again c = (omega arith, sym (part-goes _ _ _ (c .before .before .loop-test .taken) (sym (c .before .begins-at .ensures) ∙ c .if1 .left)) ∙ c .before .before .before .loop .inv .1)
+loop-again c = sym (part-goes _ _ _ (c .before .before .loop-test .taken) (sym (c .before .begins-at .ensures) ∙ c .if1 .left)) ∙ c .before .before .before .loop .inv
 
--- src/split.rt:23:1
 returns-2 : tie.Need-returns-2 Inv-loop μ-loop
-returns-2 c = sym (part-ends _ _ _ (c .loop-test .left)) ∙ c .before .loop .inv .1
+returns-2 c = sym (part-ends _ _ _ (c .loop-test .left)) ∙ c .before .loop .inv
 
 pub part-end-spec : {M : Type 1} → statement M
 part-end-spec =
