@@ -1,0 +1,6 @@
+pub mod TextLaws
+pub mod TallyLaws
+pub mod PartTallies
+pub mod SumLaws
+pub mod DecodedTallies
+pub mod LimitLaws
