@@ -4,3 +4,4 @@ pub mod PartTallies
 pub mod SumLaws
 pub mod DecodedTallies
 pub mod LimitLaws
+pub mod AnswerLaws

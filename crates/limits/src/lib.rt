@@ -1,12 +1,21 @@
-// Refusal 4: the lowest limit that a set passes.
+// Refusal 4: the lowest limit that a set passes; and the answer over a set alone.
 ghost use mathlib.Core.Path.{_≡_};
 ghost use Prim.Native.Nat.{ℕ, _+_, _*_, _≤_};
 ghost use lib.ListN.{length};
 ghost use Rattle.descriptor.specs.Limits.{limit-passed};
+ghost use Rattle.limits.specs.Answer.{read-set};
 ghost use Rattle.limits.specs.Sums.{bit};
 ghost use Rattle.limits.specs.Weights.{text-bytes, text-length, long-segment, message-below, sort-below, counts, around-below, tally, most, passes, long-name, long-full-name, holds-none};
+use known_fields::Checked;
 use wire::Record;
 use wire::Step;
+
+// The answer over a set alone: no refusal, refusal 3 at a place, or refusal 4 by a limit.
+pub enum Read {
+    Good,
+    Fault(usize),
+    Passed(usize),
+}
 
 const MAX_SET: usize = 32768;
 
@@ -327,4 +336,23 @@ pub fn limit_passed(s: &[u8]) -> usize
         return 10;
     }
     0
+}
+
+// Limit 1 comes before refusal 3, the other limits after it.
+pub fn read_set(s: &[u8]) -> Read
+    ensures { λ r. ⌜ r ≡ read-set (now (s .entry)) ⌝ }
+{
+    if MAX_SET < s.len() {
+        return Read::Passed(1);
+    }
+    match known_fields::check_set(s) {
+        Checked::Fault(place) => return Read::Fault(place),
+        Checked::Fine => {
+            let limit = limit_passed(s);
+            if limit == 0 {
+                return Read::Good;
+            }
+            return Read::Passed(limit);
+        }
+    }
 }
