@@ -1,0 +1,7 @@
+pub mod TextLaws
+pub mod TallyLaws
+pub mod PartTallies
+pub mod SumLaws
+pub mod DecodedTallies
+pub mod LimitLaws
+pub mod AnswerLaws
