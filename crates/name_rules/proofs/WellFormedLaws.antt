@@ -4,14 +4,14 @@ use mathlib.Core.Bool.{Bool, true, false, _&&_, _||_, not}
 use mathlib.Core.List.{List, [], _∷_}
 use mathlib.Core.Logic.{_⊎_, inl, inr}
 use mathlib.Core.Option.{Option, some, none}
-use Prim.Native.Nat.{ℕ, _≤_, _<_, _^_}
+use Prim.Native.Nat.{ℕ, _<_, _^_}
 use native.Mathlib.Omega.{arith}
 use lib.Dec.{eqb, ltb, leb}
 use lib.ListN.{length}
 use borrow.Author.Tests.{ltb-true, ltb-false, leb-true, eqb-true, not-true}
 use Rattle.base.specs.Choose.{choose}
 use Rattle.base.specs.Bytes.{b, same, same-sound}
-use Rattle.base.specs.Lists.{all, is-empty, Every, all-every, every-append, every-of, every-to, none-fails, first-failing}
+use Rattle.base.specs.Lists.{all, is-empty, Every, all-every, every-append, every-of, every-to, none-fails}
 use Rattle.base.specs.Tests.{and-left, and-right, both-ways}
 use Rattle.ident.specs.Name.{is-name, has-word}
 use Rattle.utf8.specs.Utf8.{is-utf8}
@@ -20,12 +20,11 @@ use Rattle.syntax.specs.declared.Syntax.{Syntax}
 use Rattle.syntax.specs.declared.Syntax.the-variants.{Proto2, Proto3, Unknown}
 use Rattle.descriptor.specs.Descriptor.{Bytes, Forest, done, node, preorder, FieldDescriptor, ValueDescriptor, EnumDescriptor, MessageDescriptor, FileDescriptor}
 use Rattle.descriptor.specs.Limits.{messages-in}
-use Rattle.name_rules.specs.Accessors.{or-else, is-message, is-group, is-enum}
-use Rattle.name_rules.specs.Rules.{good-name, has-name, segments, package-good, is-known, syntax-good, within, is-given, is-number, type-name-good, oneof-index-good, default-good, field-good, value-good, enum-good, message-good, is-text, key-type, key-good, value-field-good, one-value, key-and-value, none-nested, entry-good, messages-good, file-good}
+use Rattle.name_rules.specs.Accessors.{or-else}
+use Rattle.name_rules.specs.Rules.{good-name, has-name, segments, package-good, is-known, syntax-good, within, is-given, is-number, type-name-good, oneof-index-good, default-good, field-good, value-good, enum-good, message-good, is-text, key-type, key-good, value-field-good, key-and-value, none-nested, entry-good, messages-good, file-good}
 use Rattle.name_rules.specs.FullNames.{set-fields}
 use Rattle.name_rules.specs.MapEntries.{map-entries-named}
 use Rattle.name_rules.specs.Answer.{file-named, first-six, first-seven, names, refusal-number}
-use Rattle.name_rules.specs.declared.Names.{Names}
 use Rattle.name_rules.specs.declared.Names.the-variants.{Good, Six, Seven}
 use Rattle.name_rules.specs.WellFormed.{Name, Named, Given, Between, Good-field, Good-value, Good-enum, Good-message, Entry-field, Good-entry, Every-node, Well-formed}
 

@@ -1,8 +1,8 @@
 -- What refusal 6 leaves of a file, stated of each declaration. Assumes nothing.
 use Prim.Native.Nat.{ℕ, _≤_, _<_}
 use mathlib.Core.Path.{_≡_}
-use mathlib.Core.Bool.{Bool, true, false, _||_}
-use mathlib.Core.List.{List, [], _∷_}
+use mathlib.Core.Bool.{true, false, _||_}
+use mathlib.Core.List.{[], _∷_}
 use mathlib.Core.Logic.{_⊎_}
 use mathlib.Core.Option.{Option, some}
 use lib.ListN.{length}

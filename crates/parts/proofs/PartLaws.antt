@@ -1,7 +1,7 @@
 -- The embedded messages from a position on, one record on. Assumes nothing.
 use mathlib.Core.Path.{_≡_, refl, sym, ap, _∙_}
 use mathlib.Core.Bool.{Bool, true, false, _&&_, not}
-use mathlib.Core.List.{List, [], _∷_, map}
+use mathlib.Core.List.{List, [], _∷_}
 use Prim.Native.Nat.{ℕ, _+_}
 use native.Mathlib.Omega.{arith}
 use lib.Dec.{eqb}
@@ -10,7 +10,6 @@ use borrow.Author.Tests.{eq-eqb, ne-eqb, not-true, not-false}
 use Rattle.base.specs.Choose.{choose}
 use Rattle.wire.specs.Step.{stepAt}
 use Rattle.wire.specs.Records.{records}
-use Rattle.wire.specs.Encoding.{Field}
 use Rattle.wire.specs.Contents.{field-of, value-of, payload-of}
 use Rattle.wire.proofs.RecordsLaws.{records-end, records-fault, records-found}
 use Rattle.wire.specs.declared.Record.{Record}

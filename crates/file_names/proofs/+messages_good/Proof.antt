@@ -47,76 +47,58 @@ abbrev messages-good-μ-loop : messages-good-lts.MeasureT-loop
 messages-good-μ-loop s number left fewer at₀ at = length s - at
 
 module _ (t : ℕ) where
-  -- src/lib.rt:148:9
   messages-good-returns : messages-good-lts.Need-returns (messages-good-claims t) (messages-good-at t) messages-good.Post messages-good-Inv-loop messages-good-μ-loop
   messages-good-returns c = trees-none _ _ (c .if1 .taken)
 
-  -- src/lib.rt:150:17
   messages-good-sub-fewer : messages-good-lts.Need-sub-fewer (messages-good-claims t) (messages-good-at t) messages-good.Post messages-good-Inv-loop messages-good-μ-loop
   messages-good-sub-fewer c = search needs
 
-  -- src/lib.rt:152:5
   messages-good-loop-holds : messages-good-lts.Need-loop-holds (messages-good-claims t) (messages-good-at t) messages-good.Post messages-good-Inv-loop messages-good-μ-loop
   unfolding entries
   messages-good-loop-holds c = trees-left _ _ (c .if1 .left)
 
-  -- src/lib.rt:153:15
   messages-good-read-step-requires : messages-good-lts.Need-read-step-requires (messages-good-claims t) (messages-good-at t) messages-good.Post messages-good-Inv-loop messages-good-μ-loop
   messages-good-read-step-requires c κs = search needs
 
-  -- src/lib.rt:154:26
   messages-good-enum-told : messages-good-lts.Need-enum-told (messages-good-claims t) (messages-good-at t) messages-good.Post messages-good-Inv-loop messages-good-μ-loop
   messages-good-enum-told c = search needs
 
-  -- src/lib.rt:154:26
   messages-good-returns-2 : messages-good-lts.Need-returns-2 (messages-good-claims t) (messages-good-at t) messages-good.Post messages-good-Inv-loop messages-good-μ-loop
   messages-good-returns-2 c = all-end _ _ _ _ (c .before .before .read-step .ensures) _ (c .enum-told .given .1) ∙ c .before .before .before .loop .inv
 
-  -- src/lib.rt:155:31
   messages-good-enum-told-2 : messages-good-lts.Need-enum-told-2 (messages-good-claims t) (messages-good-at t) messages-good.Post messages-good-Inv-loop messages-good-μ-loop
   messages-good-enum-told-2 c = search needs
 
-  -- src/lib.rt:155:31
   messages-good-returns-3 : messages-good-lts.Need-returns-3 (messages-good-claims t) (messages-good-at t) messages-good.Post messages-good-Inv-loop messages-good-μ-loop
   messages-good-returns-3 c = all-fault _ _ _ _ (c .before .before .read-step .ensures) _ _ (c .enum-told2 .given .1) ∙ c .before .before .before .loop .inv
 
-  -- src/lib.rt:156:25
   messages-good-enum-known-f : messages-good-lts.Need-enum-known-f (messages-good-claims t) (messages-good-at t) messages-good.Post messages-good-Inv-loop messages-good-μ-loop
   messages-good-enum-known-f c = search needs
 
-  -- src/lib.rt:159:25
   messages-good-embedded-requires : messages-good-lts.Need-embedded-requires (messages-good-claims t) (messages-good-at t) messages-good.Post messages-good-Inv-loop messages-good-μ-loop
   messages-good-embedded-requires c κs = search needs
 
-  -- src/lib.rt:160:25
   messages-good-own-good-requires : messages-good-lts.Need-own-good-requires (messages-good-claims t) (messages-good-at t) messages-good.Post messages-good-Inv-loop messages-good-μ-loop
   messages-good-own-good-requires c κs = search needs
 
-  -- src/lib.rt:161:25
   messages-good-returns-4 : messages-good-lts.Need-returns-4 (messages-good-claims t) (messages-good-at t) messages-good.Post messages-good-Inv-loop messages-good-μ-loop
   messages-good-returns-4 c = all-bad _ _ _ _ (c .before .before .before .before .before .before .before .before .read-step .ensures) _ (c .before .before .before .before .before .before .f .given .1) (tree-good _) (c .before .before .before .if2 .taken) _ (c .before .before .embedded .ensures) false (own-bad _ _ _ (c .before .own-good .ensures) (c .if3 .taken)) refl ∙ c .before .before .before .before .before .before .before .before .before .loop .inv
 
-  -- src/lib.rt:163:25
   messages-good-messages-good-requires : messages-good-lts.Need-messages-good-requires (messages-good-claims t) (messages-good-at t) messages-good.Post messages-good-Inv-loop messages-good-μ-loop
   messages-good-messages-good-requires c κs = (omega arith, tt)
 
-  -- src/lib.rt:164:25
   messages-good-returns-5 : messages-good-lts.Need-returns-5 (messages-good-claims t) (messages-good-at t) messages-good.Post messages-good-Inv-loop messages-good-μ-loop
   messages-good-returns-5 c = all-bad _ _ _ _ (c .before .before .before .before .before .before .before .before .before .before .read-step .ensures) _ (c .before .before .before .before .before .before .before .before .f .given .1) (tree-good _) (c .before .before .before .before .before .if2 .taken) _ (c .before .before .before .before .embedded .ensures) false (nested-bad _ _ _ (c .before .before .before .own-good .ensures) (c .before .before .if3 .left) _ (c .before .messages-good .ensures) (c .if4 .taken)) refl ∙ c .before .before .before .before .before .before .before .before .before .before .before .loop .inv
 
-  -- src/lib.rt:152:5
   messages-good-loop-less : messages-good-lts.Need-loop-less (messages-good-claims t) (messages-good-at t) messages-good.Post messages-good-Inv-loop messages-good-μ-loop
   messages-good-loop-less c = search places
 
-  -- src/lib.rt:152:5
   messages-good-loop-again : messages-good-lts.Need-loop-again (messages-good-claims t) (messages-good-at t) messages-good.Post messages-good-Inv-loop messages-good-μ-loop
   messages-good-loop-again c = all-good _ _ _ _ (c .before .before .before .before .before .before .before .before .before .before .read-step .ensures) _ (c .before .before .before .before .before .before .before .before .f .given .1) (tree-good _) (c .before .before .before .before .before .if2 .taken) _ (c .before .before .before .before .embedded .ensures) true (nested-good _ _ _ (c .before .before .before .own-good .ensures) (c .before .before .if3 .left) _ (c .before .messages-good .ensures) (c .if4 .left)) refl ∙ c .before .before .before .before .before .before .before .before .before .before .before .loop .inv
 
-  -- src/lib.rt:152:5
   messages-good-loop-less-2 : messages-good-lts.Need-loop-less-2 (messages-good-claims t) (messages-good-at t) messages-good.Post messages-good-Inv-loop messages-good-μ-loop
   messages-good-loop-less-2 c = search places
 
-  -- src/lib.rt:152:5
   messages-good-loop-again-2 : messages-good-lts.Need-loop-again-2 (messages-good-claims t) (messages-good-at t) messages-good.Post messages-good-Inv-loop messages-good-μ-loop
   messages-good-loop-again-2 c = ap (all (tree-good _)) (sym (parts-skip _ _ _ _ (c .before .before .before .before .before .read-step .ensures) _ (c .before .before .before .f .given .1) (c .if2 .left))) ∙ c .before .before .before .before .before .before .loop .inv
 

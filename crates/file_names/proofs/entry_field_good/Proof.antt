@@ -5,62 +5,44 @@ use Rattle.base.specs.Choose.{choices}
 use borrow.Author.Needs.{needs}
 use Rattle.file_names.proofs.entry_field_good.Statement.{statement}
 use Rattle.file_names.proofs.entry_field_good.Tie as tie
-use Rattle.file_names.proofs.entry_field_good.Reads as reads
-use Rattle.file_names.proofs.entry_field_good.Lts as lts
-use Rattle.descriptor.proofs.field_view.Reads as field-view-reads
-use Rattle.file_names.proofs.is_optional.Reads as is-optional-reads
-use Rattle.file_names.proofs.key_type.Reads as key-type-reads
-use Rattle.name_rules.proofs.number_is.Reads as number-is-reads
 
--- src/lib.rt:63:9
 field-view-requires : tie.Need-field-view-requires
 field-view-requires c κs = search needs
 
--- src/lib.rt:66:31
 slice-aggregate-is-optional : tie.Need-slice-aggregate-is-optional
 slice-aggregate-is-optional c = search needs
 
--- src/lib.rt:66:13
 is-optional-requires : tie.Need-is-optional-requires
 is-optional-requires c κs = search needs
 
--- src/lib.rt:67:13
 returns : tie.Need-returns
 unfolding field-of
 returns c = rw (entry-field-is _ _ (c .before .before .before .before .before .field-view .ensures) _) (search (ands, choices, c .if2 .taken, c .before .is-optional .ensures, c .before .before .before .if1 .taken, c .before .before .before .before .before .field-view .ensures) depth 12)
 
--- src/lib.rt:69:9
 key-type-requires : tie.Need-key-type-requires
 key-type-requires c κs = search needs
 
--- src/lib.rt:69:9
 returns-2 : tie.Need-returns-2
 unfolding field-of
 returns-2 c = rw (entry-field-is _ _ (c .before .before .before .before .before .before .field-view .ensures) _) (search (ands, choices, c .key-type .ensures, c .before .if2 .left, c .before .before .is-optional .ensures, c .before .before .before .before .if1 .taken, c .before .before .before .before .before .before .field-view .ensures) depth 12)
 
--- src/lib.rt:72:31
 slice-aggregate-is-optional-2 : tie.Need-slice-aggregate-is-optional-2
 slice-aggregate-is-optional-2 c = search needs
 
--- src/lib.rt:72:13
 is-optional-requires-2 : tie.Need-is-optional-requires-2
 is-optional-requires-2 c κs = search needs
 
--- src/lib.rt:73:13
 returns-3 : tie.Need-returns-3
 unfolding field-of
 returns-3 c = rw (entry-field-is _ _ (c .before .before .before .before .before .before .field-view .ensures) _) (search (ands, choices, c .if4 .taken, c .before .is-optional2 .ensures, c .before .before .before .if3 .taken, c .before .before .before .before .if1 .left, c .before .before .before .before .before .before .field-view .ensures) depth 12)
 
--- src/lib.rt:75:17
 number-is-requires : tie.Need-number-is-requires
 number-is-requires c κs = search needs
 
--- src/lib.rt:75:9
 returns-4 : tie.Need-returns-4
 unfolding field-of
 returns-4 c = rw (entry-field-is _ _ (c .before .before .before .before .before .before .before .field-view .ensures) _, ← c .number-is .ensures) (search (ands, choices, c .before .if4 .left, c .before .before .is-optional2 .ensures, c .before .before .before .before .if3 .taken, c .before .before .before .before .before .if1 .left, c .before .before .before .before .before .before .before .field-view .ensures) depth 12)
 
--- src/lib.rt:59:1
 returns-5 : tie.Need-returns-5
 unfolding field-of
 returns-5 c = rw (entry-field-is _ _ (c .before .before .before .field-view .ensures) _) (search (ands, choices, c .if3 .left, c .before .if1 .left, c .before .before .before .field-view .ensures) depth 12)

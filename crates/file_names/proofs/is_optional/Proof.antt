@@ -4,34 +4,24 @@ use Rattle.name_rules.proofs.Tests.{ands}
 use borrow.Author.Needs.{needs}
 use Rattle.file_names.proofs.is_optional.Statement.{statement}
 use Rattle.file_names.proofs.is_optional.Tie as tie
-use Rattle.file_names.proofs.is_optional.Reads as reads
-use Rattle.file_names.proofs.is_optional.Lts as lts
-use Rattle.file_names.proofs.text_is.Reads as text-is-reads
-use Rattle.name_rules.proofs.number_is.Reads as number-is-reads
 
--- src/lib.rt:49:9
 text-is-requires : tie.Need-text-is-requires
 text-is-requires c κs = search needs
 
--- src/lib.rt:50:9
 returns : tie.Need-returns
 unfolding is-optional field-of
 returns c = search (ands, c .if1 .taken, c .before .text-is .ensures) depth 12
 
--- src/lib.rt:52:9
 number-is-requires : tie.Need-number-is-requires
 number-is-requires c κs = search needs
 
--- src/lib.rt:53:9
 returns-2 : tie.Need-returns-2
 unfolding is-optional field-of
 returns-2 c = search (ands, c .if2 .taken, c .before .number-is .ensures, c .before .before .if1 .left, c .before .before .before .text-is .ensures) depth 12
 
--- src/lib.rt:55:5
 number-is-requires-2 : tie.Need-number-is-requires-2
 number-is-requires-2 c κs = search needs
 
--- src/lib.rt:43:1
 returns-3 : tie.Need-returns-3
 unfolding is-optional field-of
 returns-3 c = search (ands, c .number-is2 .ensures, c .before .if2 .left, c .before .before .number-is .ensures, c .before .before .before .if1 .left, c .before .before .before .before .text-is .ensures) depth 12

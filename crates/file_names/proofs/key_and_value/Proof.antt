@@ -11,11 +11,6 @@ use lib.ListN.{length}
 use native.Mathlib.Omega.{arith}
 use Rattle.file_names.proofs.key_and_value.Statement.{statement}
 use Rattle.file_names.proofs.key_and_value.Tie as tie
-use Rattle.file_names.proofs.key_and_value.Reads as reads
-use Rattle.file_names.proofs.key_and_value.Lts as lts
-use Rattle.file_names.proofs.entry_field_good.Reads as entry-field-good-reads
-use Rattle.parts.proofs.embedded.Reads as embedded-reads
-use Rattle.wire.proofs.read_step.Reads as read-step-reads
 
 abbrev Inv-loop : tie.InvT-loop
 Inv-loop s at₀ n₀ at n = (n ≤ at) × (at ≤ length s) × (fields-from n (parts-from 2 s at) ≡ key-and-value (map decode-field (parts 2 (entries s))))
@@ -23,64 +18,49 @@ Inv-loop s at₀ n₀ at n = (n ≤ at) × (at ≤ length s) × (fields-from n (
 abbrev μ-loop : tie.MeasureT-loop
 μ-loop s at₀ n₀ at n = length s - at
 
--- src/lib.rt:101:5
 loop-holds : tie.Need-loop-holds Inv-loop μ-loop
 unfolding entries
 loop-holds c = (omega arith, omega arith, fields-all _)
 
--- src/lib.rt:102:15
 read-step-requires : tie.Need-read-step-requires Inv-loop μ-loop
 read-step-requires c κs = search needs
 
--- src/lib.rt:103:26
 enum-told : tie.Need-enum-told Inv-loop μ-loop
 enum-told c = search needs
 
--- src/lib.rt:103:26
 returns : tie.Need-returns Inv-loop μ-loop
 returns c = fields-end _ _ _ (c .before .before .read-step .ensures) _ (c .enum-told .given .1) ∙ c .before .before .before .loop .inv .2
 
--- src/lib.rt:104:31
 enum-told-2 : tie.Need-enum-told-2 Inv-loop μ-loop
 enum-told-2 c = search needs
 
--- src/lib.rt:104:31
 returns-2 : tie.Need-returns-2 Inv-loop μ-loop
 returns-2 c = fields-fault _ _ _ (c .before .before .read-step .ensures) _ _ (c .enum-told2 .given .1) ∙ c .before .before .before .loop .inv .2
 
--- src/lib.rt:105:25
 enum-known-f : tie.Need-enum-known-f Inv-loop μ-loop
 enum-known-f c = search needs
 
--- src/lib.rt:108:42
 embedded-requires : tie.Need-embedded-requires Inv-loop μ-loop
 embedded-requires c κs = search needs
 
--- src/lib.rt:108:25
 entry-field-good-requires : tie.Need-entry-field-good-requires Inv-loop μ-loop
 entry-field-good-requires c κs = search needs
 
--- src/lib.rt:109:25
 returns-3 : tie.Need-returns-3 Inv-loop μ-loop
 returns-3 c = fields-bad _ _ _ (c .before .before .before .before .before .before .before .before .read-step .ensures) _ _ (c .before .before .before .before .before .before .f .given .1) (c .before .before .before .if1 .taken) _ (c .before .before .embedded .ensures) _ (c .before .entry-field-good .ensures) (c .if2 .taken) ∙ c .before .before .before .before .before .before .before .before .before .loop .inv .2
 
--- src/lib.rt:111:25
 add-n : tie.Need-add-n Inv-loop μ-loop
 add-n c = search needs
 
--- src/lib.rt:101:5
 loop-less : tie.Need-loop-less Inv-loop μ-loop
 loop-less c = search places
 
--- src/lib.rt:101:5
 loop-again : tie.Need-loop-again Inv-loop μ-loop
 loop-again c = (search places, search places, fields-good _ _ _ (c .before .before .before .before .before .before .before .before .read-step .ensures) _ _ (c .before .before .before .before .before .before .f .given .1) (c .before .before .before .if1 .taken) _ (c .before .before .embedded .ensures) _ (c .before .entry-field-good .ensures) (c .if2 .left) ∙ c .before .before .before .before .before .before .before .before .before .loop .inv .2)
 
--- src/lib.rt:101:5
 loop-less-2 : tie.Need-loop-less-2 Inv-loop μ-loop
 loop-less-2 c = search places
 
--- src/lib.rt:101:5
 loop-again-2 : tie.Need-loop-again-2 Inv-loop μ-loop
 loop-again-2 c = (search places, search places, fields-skip _ _ _ (c .before .before .before .before .before .read-step .ensures) _ _ (c .before .before .before .f .given .1) (c .if1 .left) ∙ c .before .before .before .before .before .before .loop .inv .2)
 

@@ -4,30 +4,22 @@ use borrow.Author.Tests.{eq-eqb, ne-eqb}
 use borrow.Author.Needs.{needs}
 use Rattle.file_names.proofs.key_type.Statement.{statement}
 use Rattle.file_names.proofs.key_type.Tie as tie
-use Rattle.file_names.proofs.key_type.Reads as reads
-use Rattle.file_names.proofs.key_type.Lts as lts
-use Rattle.field_types.proofs.sort_of.Reads as sort-of-reads
 
--- src/lib.rt:29:13
 sort-of-requires : tie.Need-sort-of-requires
 sort-of-requires c κs = search needs
 
--- src/lib.rt:31:13
 returns : tie.Need-returns
 unfolding choose key-type
 returns c = rw (c .before .before .if1 .taken, ← c .before .sort-of .ensures, eq-eqb _ _ (c .if2 .taken))
 
--- src/lib.rt:34:13
 returns-2 : tie.Need-returns-2
 unfolding choose key-type
 returns-2 c = rw (c .before .before .before .if1 .taken, ← c .before .before .sort-of .ensures, ne-eqb _ _ (c .before .if2 .left), eq-eqb _ _ (c .if3 .taken))
 
--- src/lib.rt:36:9
 returns-3 : tie.Need-returns-3
 unfolding choose key-type
 returns-3 c = rw (c .before .before .before .if1 .taken, ← c .before .before .sort-of .ensures, ne-eqb _ _ (c .before .if2 .left), ne-eqb _ _ (c .if3 .left))
 
--- src/lib.rt:24:1
 returns-4 : tie.Need-returns-4
 unfolding choose key-type
 returns-4 c = rw (c .if1 .left)
