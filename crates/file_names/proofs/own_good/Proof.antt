@@ -12,16 +12,16 @@ message-good-requires : tie.Need-message-good-requires
 message-good-requires c κs = search needs
 
 returns : tie.Need-returns
-returns c = rw (own-is _ _ (c .before .before .message-view .ensures) _) (search (ands, flags, c .if1 .taken, c .before .message-good .ensures, c .before .before .message-view .ensures, c .before .before .before .before .args .left, c .before .before .before .before .fits .left) depth 12)
+returns c = rw (own-is _ _ (c .before .before .message-view .ensures) _) (search (ands, flags, c .if1 .taken, c .before .message-good .ensures) depth 12)
 
 entry-good-requires : tie.Need-entry-good-requires
 entry-good-requires c κs = search needs
 
 returns-2 : tie.Need-returns-2
-returns-2 c = rw (own-is _ _ (c .before .before .before .before .message-view .ensures) _) (search (ands, flags, c .entry-good .ensures, c .before .if2 .taken, c .before .before .if1 .left, c .before .before .before .message-good .ensures, c .before .before .before .before .message-view .ensures, c .before .before .before .before .before .before .args .left, c .before .before .before .before .before .before .fits .left) depth 12)
+returns-2 c = rw (own-is _ _ (c .before .before .before .before .message-view .ensures) _) (search (ands, flags, c .entry-good .ensures, c .before .if2 .taken, c .before .before .if1 .left, c .before .before .before .message-good .ensures) depth 12)
 
 returns-3 : tie.Need-returns-3
-returns-3 c = rw (own-is _ _ (c .before .before .before .message-view .ensures) _) (search (ands, flags, c .if2 .left, c .before .if1 .left, c .before .before .message-good .ensures, c .before .before .before .message-view .ensures, c .before .before .before .before .before .args .left, c .before .before .before .before .before .fits .left) depth 12)
+returns-3 c = rw (own-is _ _ (c .before .before .before .message-view .ensures) _) (search (ands, flags, c .if2 .left, c .before .if1 .left, c .before .before .message-good .ensures) depth 12)
 
 pub own-good-spec : {M : Type 1} → statement M
 own-good-spec =
