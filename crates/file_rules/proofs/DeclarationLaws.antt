@@ -1,7 +1,7 @@
 -- An enum and a message by their bytes: the name, and tests of the embedded messages. Assumes nothing.
-use mathlib.Core.Path.{_≡_, refl, sym, ap, ap₂, _∙_}
+use mathlib.Core.Path.{_≡_, sym, ap, ap₂, _∙_}
 use mathlib.Core.Bool.{Bool, _&&_}
-use mathlib.Core.List.{List, [], _∷_, map}
+use mathlib.Core.List.{List, map}
 use Prim.Native.Nat.{ℕ, _-_}
 use lib.ListN.{length}
 use Rattle.base.specs.Choose.{choose}

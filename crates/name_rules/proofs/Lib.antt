@@ -1,3 +1,4 @@
 pub mod Tests
 pub mod ViewedLaws
 pub mod SegmentLaws
+pub mod WellFormedLaws

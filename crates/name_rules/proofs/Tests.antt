@@ -1,5 +1,5 @@
 -- A conjunction's first test, as a call answers it: `ands` is what `search` goes through a row of tests with. Assumes nothing.
-use mathlib.Core.Path.{_≡_, refl, sym, ap, _∙_}
+use mathlib.Core.Path.{_≡_}
 use mathlib.Core.Bool.{Bool, true, false, _&&_, not}
 use borrow.Author.Tests.{not-true, not-false}
 

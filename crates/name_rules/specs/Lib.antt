@@ -3,3 +3,4 @@ pub mod Rules
 pub mod FullNames
 pub mod MapEntries
 pub mod Answer
+pub mod WellFormed

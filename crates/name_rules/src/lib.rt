@@ -119,7 +119,8 @@ fn in_range(low: u32, high: u32, n: Number) -> bool
     false
 }
 
-fn number_is(x: u32, n: Number) -> bool
+// Is a number given, and this one?
+pub fn number_is(x: u32, n: Number) -> bool
     ensures { λ r. ⌜ r ≡ is-number x (number-of n) ⌝ }
 {
     if n.given {

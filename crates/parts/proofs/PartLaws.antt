@@ -1,7 +1,7 @@
 -- The embedded messages from a position on, one record on. Assumes nothing.
 use mathlib.Core.Path.{_≡_, refl, sym, ap, _∙_}
 use mathlib.Core.Bool.{Bool, true, false, _&&_, not}
-use mathlib.Core.List.{List, [], _∷_, map}
+use mathlib.Core.List.{List, [], _∷_}
 use Prim.Native.Nat.{ℕ, _+_}
 use native.Mathlib.Omega.{arith}
 use lib.Dec.{eqb}
@@ -10,7 +10,6 @@ use borrow.Author.Tests.{eq-eqb, ne-eqb, not-true, not-false}
 use Rattle.base.specs.Choose.{choose}
 use Rattle.wire.specs.Step.{stepAt}
 use Rattle.wire.specs.Records.{records}
-use Rattle.wire.specs.Encoding.{Field}
 use Rattle.wire.specs.Contents.{field-of, value-of, payload-of}
 use Rattle.wire.proofs.RecordsLaws.{records-end, records-fault, records-found}
 use Rattle.wire.specs.declared.Record.{Record}
@@ -18,7 +17,7 @@ use Rattle.wire.specs.declared.Step.{Step}
 use Rattle.wire.specs.declared.Step.the-variants.{End, Fault, Found}
 use Rattle.descriptor.specs.Decode.{entries, entries-of, bytes-in, parts}
 use Rattle.descriptor.proofs.ViewLaws.{bytes-of}
-use Rattle.base.specs.Lists.{all}
+use Rattle.base.specs.Lists.{all, first-failing}
 
 -- the embedded messages with the field number n, from position at on
 abbrev pub parts-from : ℕ → List ℕ → ℕ → List (List ℕ)
@@ -89,3 +88,32 @@ module _ (n : ℕ) (s : List ℕ) (at : ℕ) (r : Step) (e : r ≡ stepAt s at) 
 
     pub count-found : f .number ≡ n → k + 1 + length (parts-from n s (f .next)) ≡ k + length (parts-from n s at)
     count-found q = rw (parts-found n s at r e f is q) (omega arith)
+
+-- the first that fails a test, behind those before
+module _ (n : ℕ) (s : List ℕ) (at : ℕ) (r : Step) (e : r ≡ stepAt s at) (k : ℕ) (p : List ℕ → Bool) where
+  pub first-end : r ≡ End → k ≡ k + first-failing p (parts-from n s at)
+  unfolding first-failing
+  first-end is = rw (parts-end n s at r e is) (omega arith)
+
+  pub first-fault : (key : ℕ) → r ≡ Fault key → k ≡ k + first-failing p (parts-from n s at)
+  unfolding first-failing
+  first-fault key is = rw (parts-fault n s at r e key is) (omega arith)
+
+  module _ (f : Record) (is : r ≡ Found f) where
+    pub first-skip : (f .number ≡ n → ⊥) → k + first-failing p (parts-from n s (f .next)) ≡ k + first-failing p (parts-from n s at)
+    first-skip ne = rw (parts-skip n s at r e f is ne)
+
+    module _ (q : f .number ≡ n) (x : List ℕ) (there : x ≡ bytes-in (value-of s f)) (t : Bool) (answer : t ≡ p x) where
+      first-found : first-failing p (parts-from n s at) ≡ choose t (1 + first-failing p (parts-from n s (f .next))) 0
+      unfolding first-failing
+      first-found =
+          ap (first-failing p) (parts-found n s at r e f is q)
+          ∙ ap (λ (u : Bool). choose u (1 + first-failing p (parts-from n s (f .next))) 0) (sym (answer ∙ ap p there))
+
+      pub first-passes : not t ≡ false → k + 1 + first-failing p (parts-from n s (f .next)) ≡ k + first-failing p (parts-from n s at)
+      unfolding choose
+      first-passes h = rw (first-found, not-false t h) (omega arith)
+
+      pub first-fails : not t ≡ true → k ≡ k + first-failing p (parts-from n s at)
+      unfolding choose
+      first-fails h = rw (first-found, not-true t h) (omega arith)

@@ -2,19 +2,13 @@ use Rattle.parts.proofs.PartLaws.{parts-from, parts-skip, all-good, all-bad, al
 use Rattle.file_rules.specs.Walks.{enum-part-good}
 use Rattle.base.specs.Lists.{all}
 use Rattle.descriptor.specs.Decode.{entries, parts}
-use Rattle.wire.proofs.RecordsLaws.{places, whole}
+use Rattle.wire.proofs.RecordsLaws.{places}
 use mathlib.Core.Path.{_≡_, refl, sym, ap, _∙_}
-use Prim.Native.Nat.{_-_, _+_, _≤_}
+use Prim.Native.Nat.{_-_}
 use lib.ListN.{length}
-use native.Mathlib.Omega.{arith}
 use borrow.Author.Needs.{needs}
 use Rattle.file_rules.proofs.enums_good.Statement.{statement}
 use Rattle.file_rules.proofs.enums_good.Tie as tie
-use Rattle.file_rules.proofs.enums_good.Reads as reads
-use Rattle.file_rules.proofs.enums_good.Lts as lts
-use Rattle.parts.proofs.embedded.Reads as embedded-reads
-use Rattle.file_rules.proofs.enum_good.Reads as enum-good-reads
-use Rattle.wire.proofs.read_step.Reads as read-step-reads
 
 abbrev Inv-loop : tie.InvT-loop
 Inv-loop s number at₀ at = all enum-part-good (parts-from number s at) ≡ all enum-part-good (parts number (entries s))
@@ -22,60 +16,46 @@ Inv-loop s number at₀ at = all enum-part-good (parts-from number s at) ≡ all
 abbrev μ-loop : tie.MeasureT-loop
 μ-loop s number at₀ at = length s - at
 
--- src/lib.rt:92:5
 loop-holds : tie.Need-loop-holds Inv-loop μ-loop
 unfolding entries
 loop-holds c = refl
 
--- src/lib.rt:93:15
 read-step-requires : tie.Need-read-step-requires Inv-loop μ-loop
 read-step-requires c κs = search needs
 
--- src/lib.rt:94:26
 enum-told : tie.Need-enum-told Inv-loop μ-loop
 enum-told c = search needs
 
--- src/lib.rt:94:26
 returns : tie.Need-returns Inv-loop μ-loop
 returns c = all-end _ _ _ _ (c .before .before .read-step .ensures) _ (c .enum-told .given .1) ∙ c .before .before .before .loop .inv
 
--- src/lib.rt:95:31
 enum-told-2 : tie.Need-enum-told-2 Inv-loop μ-loop
 enum-told-2 c = search needs
 
--- src/lib.rt:95:31
 returns-2 : tie.Need-returns-2 Inv-loop μ-loop
 returns-2 c = all-fault _ _ _ _ (c .before .before .read-step .ensures) _ _ (c .enum-told2 .given .1) ∙ c .before .before .before .loop .inv
 
--- src/lib.rt:96:25
 enum-known-f : tie.Need-enum-known-f Inv-loop μ-loop
 enum-known-f c = search needs
 
--- src/lib.rt:99:35
 embedded-requires : tie.Need-embedded-requires Inv-loop μ-loop
 embedded-requires c κs = search needs
 
--- src/lib.rt:99:25
 enum-good-requires : tie.Need-enum-good-requires Inv-loop μ-loop
 enum-good-requires c κs = search needs
 
--- src/lib.rt:100:25
 returns-3 : tie.Need-returns-3 Inv-loop μ-loop
 returns-3 c = all-bad _ _ _ _ (c .before .before .before .before .before .before .before .before .read-step .ensures) _ (c .before .before .before .before .before .before .f .given .1) enum-part-good (c .before .before .before .if1 .taken) _ (c .before .before .embedded .ensures) _ (c .before .enum-good .ensures) (c .if2 .taken) ∙ c .before .before .before .before .before .before .before .before .before .loop .inv
 
--- src/lib.rt:92:5
 loop-less : tie.Need-loop-less Inv-loop μ-loop
 loop-less c = search places
 
--- src/lib.rt:92:5
 loop-again : tie.Need-loop-again Inv-loop μ-loop
 loop-again c = all-good _ _ _ _ (c .before .before .before .before .before .before .before .before .read-step .ensures) _ (c .before .before .before .before .before .before .f .given .1) enum-part-good (c .before .before .before .if1 .taken) _ (c .before .before .embedded .ensures) _ (c .before .enum-good .ensures) (c .if2 .left) ∙ c .before .before .before .before .before .before .before .before .before .loop .inv
 
--- src/lib.rt:92:5
 loop-less-2 : tie.Need-loop-less-2 Inv-loop μ-loop
 loop-less-2 c = search places
 
--- src/lib.rt:92:5
 loop-again-2 : tie.Need-loop-again-2 Inv-loop μ-loop
 loop-again-2 c = ap (all enum-part-good) (sym (parts-skip _ _ _ _ (c .before .before .before .before .before .read-step .ensures) _ (c .before .before .before .f .given .1) (c .if1 .left))) ∙ c .before .before .before .before .before .before .loop .inv
 

@@ -3,35 +3,24 @@ use Rattle.base.specs.Choose.{choices}
 use borrow.Author.Needs.{needs}
 use Rattle.file_rules.proofs.leaf_good.Statement.{statement}
 use Rattle.file_rules.proofs.leaf_good.Tie as tie
-use Rattle.file_rules.proofs.leaf_good.Reads as reads
-use Rattle.file_rules.proofs.leaf_good.Lts as lts
-use Rattle.name_rules.proofs.field_good.Reads as field-good-reads
-use Rattle.name_rules.proofs.oneof_good.Reads as oneof-good-reads
-use Rattle.name_rules.proofs.value_good.Reads as value-good-reads
 
--- src/lib.rt:52:9
 field-good-requires : tie.Need-field-good-requires
 field-good-requires c κs = search needs
 
--- src/lib.rt:52:9
 returns : tie.Need-returns
 unfolding leaf-good
 returns c = search (choices, c .field-good .ensures, c .before .if1 .taken) depth 9
 
--- src/lib.rt:55:9
 oneof-good-requires : tie.Need-oneof-good-requires
 oneof-good-requires c κs = search needs
 
--- src/lib.rt:55:9
 returns-2 : tie.Need-returns-2
 unfolding leaf-good
 returns-2 c = search (choices, c .oneof-good .ensures, c .before .if2 .taken, c .before .before .if1 .left) depth 9
 
--- src/lib.rt:57:5
 value-good-requires : tie.Need-value-good-requires
 value-good-requires c κs = search needs
 
--- src/lib.rt:48:1
 returns-3 : tie.Need-returns-3
 unfolding leaf-good
 returns-3 c = search (choices, c .value-good .ensures, c .before .if2 .left, c .before .before .if1 .left) depth 9

@@ -3,53 +3,36 @@ use Rattle.name_rules.proofs.Tests.{ands}
 use borrow.Author.Needs.{needs}
 use Rattle.file_rules.proofs.message_good.Statement.{statement}
 use Rattle.file_rules.proofs.message_good.Tie as tie
-use Rattle.file_rules.proofs.message_good.Reads as reads
-use Rattle.file_rules.proofs.message_good.Lts as lts
-use Rattle.descriptor.proofs.name_view.Reads as name-view-reads
-use Rattle.parts.proofs.count_parts.Reads as count-parts-reads
-use Rattle.file_rules.proofs.enums_good.Reads as enums-good-reads
-use Rattle.file_rules.proofs.leaves_good.Reads as leaves-good-reads
-use Rattle.name_rules.proofs.has_name.Reads as has-name-reads
 
--- src/lib.rt:113:9
 name-view-requires : tie.Need-name-view-requires
 name-view-requires c κs = search needs
 
--- src/lib.rt:114:9
 count-parts-requires : tie.Need-count-parts-requires
 count-parts-requires c κs = search needs
 
--- src/lib.rt:115:9
 has-name-requires : tie.Need-has-name-requires
 has-name-requires c κs = search needs
 
--- src/lib.rt:116:9
 returns : tie.Need-returns
-returns c = rw (message-is (c .before .before .before .before .before .args .s .now) (c .before .before .before .name-view .result) (c .before .before .before .name-view .ensures) (c .before .before .count-parts .result) (c .before .before .count-parts .ensures)) (search (ands, c .if1 .taken, c .before .has-name .ensures, c .before .before .count-parts .ensures, c .before .before .before .name-view .ensures) depth 14)
+returns c = rw (message-is (c .before .before .before .before .before .args .s .now) (c .before .before .before .name-view .result) (c .before .before .before .name-view .ensures) (c .before .before .count-parts .result) (c .before .before .count-parts .ensures)) (search (ands, c .if1 .taken, c .before .has-name .ensures) depth 14)
 
--- src/lib.rt:118:9
 leaves-good-requires : tie.Need-leaves-good-requires
 leaves-good-requires c κs = search needs
 
--- src/lib.rt:119:9
 returns-2 : tie.Need-returns-2
-returns-2 c = rw (message-is (c .before .before .before .before .before .before .before .args .s .now) (c .before .before .before .before .before .name-view .result) (c .before .before .before .before .before .name-view .ensures) (c .before .before .before .before .count-parts .result) (c .before .before .before .before .count-parts .ensures)) (search (ands, c .if2 .taken, c .before .leaves-good .ensures, c .before .before .if1 .left, c .before .before .before .has-name .ensures, c .before .before .before .before .count-parts .ensures, c .before .before .before .before .before .name-view .ensures) depth 14)
+returns-2 c = rw (message-is (c .before .before .before .before .before .before .before .args .s .now) (c .before .before .before .before .before .name-view .result) (c .before .before .before .before .before .name-view .ensures) (c .before .before .before .before .count-parts .result) (c .before .before .before .before .count-parts .ensures)) (search (ands, c .if2 .taken, c .before .leaves-good .ensures, c .before .before .if1 .left, c .before .before .before .has-name .ensures) depth 14)
 
--- src/lib.rt:121:9
 enums-good-requires : tie.Need-enums-good-requires
 enums-good-requires c κs = search needs
 
--- src/lib.rt:122:9
 returns-3 : tie.Need-returns-3
-returns-3 c = rw (message-is (c .before .before .before .before .before .before .before .before .before .args .s .now) (c .before .before .before .before .before .before .before .name-view .result) (c .before .before .before .before .before .before .before .name-view .ensures) (c .before .before .before .before .before .before .count-parts .result) (c .before .before .before .before .before .before .count-parts .ensures)) (search (ands, c .if3 .taken, c .before .enums-good .ensures, c .before .before .if2 .left, c .before .before .before .leaves-good .ensures, c .before .before .before .before .if1 .left, c .before .before .before .before .before .has-name .ensures, c .before .before .before .before .before .before .count-parts .ensures, c .before .before .before .before .before .before .before .name-view .ensures) depth 14)
+returns-3 c = rw (message-is (c .before .before .before .before .before .before .before .before .before .args .s .now) (c .before .before .before .before .before .before .before .name-view .result) (c .before .before .before .before .before .before .before .name-view .ensures) (c .before .before .before .before .before .before .count-parts .result) (c .before .before .before .before .before .before .count-parts .ensures)) (search (ands, c .if3 .taken, c .before .enums-good .ensures, c .before .before .if2 .left, c .before .before .before .leaves-good .ensures, c .before .before .before .before .if1 .left, c .before .before .before .before .before .has-name .ensures) depth 14)
 
--- src/lib.rt:124:5
 leaves-good-requires-2 : tie.Need-leaves-good-requires-2
 leaves-good-requires-2 c κs = search needs
 
--- src/lib.rt:109:1
 returns-4 : tie.Need-returns-4
-returns-4 c = rw (message-is (c .before .before .before .before .before .before .before .before .before .before .args .s .now) (c .before .before .before .before .before .before .before .before .name-view .result) (c .before .before .before .before .before .before .before .before .name-view .ensures) (c .before .before .before .before .before .before .before .count-parts .result) (c .before .before .before .before .before .before .before .count-parts .ensures)) (search (ands, c .leaves-good2 .ensures, c .before .if3 .left, c .before .before .enums-good .ensures, c .before .before .before .if2 .left, c .before .before .before .before .leaves-good .ensures, c .before .before .before .before .before .if1 .left, c .before .before .before .before .before .before .has-name .ensures, c .before .before .before .before .before .before .before .count-parts .ensures, c .before .before .before .before .before .before .before .before .name-view .ensures) depth 14)
+returns-4 c = rw (message-is (c .before .before .before .before .before .before .before .before .before .before .args .s .now) (c .before .before .before .before .before .before .before .before .name-view .result) (c .before .before .before .before .before .before .before .before .name-view .ensures) (c .before .before .before .before .before .before .before .count-parts .result) (c .before .before .before .before .before .before .before .count-parts .ensures)) (search (ands, c .leaves-good2 .ensures, c .before .if3 .left, c .before .before .enums-good .ensures, c .before .before .before .if2 .left, c .before .before .before .before .leaves-good .ensures, c .before .before .before .before .before .if1 .left, c .before .before .before .before .before .before .has-name .ensures) depth 14)
 
 pub message-good-spec : {M : Type 1} → statement M
 message-good-spec =

@@ -1,55 +1,39 @@
-use mathlib.Core.Path.{_≡_, refl}
 use Rattle.base.specs.Choose.{choose}
 use Rattle.name_rules.proofs.ViewedLaws.{judged-good, judged-refused}
 use borrow.Author.Needs.{needs}
 use Rattle.name_rules.proofs.default_good.Statement.{statement}
 use Rattle.name_rules.proofs.default_good.Tie as tie
-use Rattle.name_rules.proofs.default_good.Reads as reads
-use Rattle.name_rules.proofs.default_good.Lts as lts
-use Rattle.name_rules.proofs.good_name.Reads as good-name-reads
-use Rattle.name_rules.proofs.judge_default.Reads as judge-default-reads
-use Rattle.name_rules.proofs.number_is.Reads as number-is-reads
-use Rattle.name_rules.proofs.text_bytes.Reads as text-bytes-reads
 
--- src/lib.rt:191:13
 text-bytes-requires : tie.Need-text-bytes-requires
 text-bytes-requires c κs = search needs
 
--- src/lib.rt:192:28
 judge-default-requires : tie.Need-judge-default-requires
 judge-default-requires c κs = search needs
 
 enum-told : tie.Need-enum-told
 enum-told c = search needs
 
--- src/lib.rt:193:13
 enum-told-2 : tie.Need-enum-told-2
 enum-told-2 c = search needs
 
--- src/lib.rt:193:13
 returns : tie.Need-returns
 unfolding choose
 returns c = rw (c .before .before .before .before .if1 .taken, ← c .before .before .before .text-bytes .ensures) (search (judged-refused, c .before .before .judge-default .ensures, c .enum-told2 .given .1) depth 9)
 
--- src/lib.rt:195:12
 number-is-requires : tie.Need-number-is-requires
 number-is-requires c κs = search needs
 
--- src/lib.rt:196:13
 good-name-requires : tie.Need-good-name-requires
 good-name-requires c κs = search needs
 
--- src/lib.rt:196:13
 returns-2 : tie.Need-returns-2
 unfolding choose
 returns-2 c = rw (c .before .before .before .before .before .before .before .if1 .taken, ← c .before .before .before .before .before .before .text-bytes .ensures, ← c .before .before .number-is .ensures, c .before .if2 .taken) (search (judged-good, c .before .before .before .before .before .judge-default .ensures, c .before .before .before .enum-told .given .1, c .good-name .ensures) depth 9)
 
--- src/lib.rt:198:9
 returns-3 : tie.Need-returns-3
 unfolding choose
 returns-3 c = rw (c .before .before .before .before .before .before .if1 .taken, ← c .before .before .before .before .before .text-bytes .ensures, ← c .before .number-is .ensures, c .if2 .left) (search (judged-good, c .before .before .before .before .judge-default .ensures, c .before .before .enum-told .given .1) depth 9)
 
--- src/lib.rt:187:1
 returns-4 : tie.Need-returns-4
 unfolding choose
 returns-4 c = rw (c .if1 .left)

@@ -3,25 +3,17 @@ use Rattle.name_rules.proofs.Tests.{ands}
 use borrow.Author.Needs.{needs}
 use Rattle.name_rules.proofs.good_name.Statement.{statement}
 use Rattle.name_rules.proofs.good_name.Tie as tie
-use Rattle.name_rules.proofs.good_name.Reads as reads
-use Rattle.name_rules.proofs.good_name.Lts as lts
-use Rattle.ident.proofs.names.has_word.Reads as has-word-reads
-use Rattle.ident.proofs.names.is_name.Reads as is-name-reads
 
--- src/lib.rt:50:9
 is-name-requires : tie.Need-is-name-requires
 is-name-requires c κs = search needs
 
--- src/lib.rt:52:9
 has-word-requires : tie.Need-has-word-requires
 has-word-requires c κs = search needs
 
--- src/lib.rt:52:9
 returns : tie.Need-returns
 unfolding good-name
 returns c = search (ands, c .before .before .is-name .ensures, c .before .if1 .taken, c .has-word .ensures) depth 9
 
--- src/lib.rt:47:1
 returns-2 : tie.Need-returns-2
 unfolding good-name
 returns-2 c = search (ands, c .before .is-name .ensures, c .if1 .left) depth 9

@@ -2,20 +2,15 @@ use Rattle.base.specs.Choose.{choose}
 use borrow.Author.Tests.{lt-leb, le-leb}
 use Rattle.name_rules.proofs.in_range.Statement.{statement}
 use Rattle.name_rules.proofs.in_range.Tie as tie
-use Rattle.name_rules.proofs.in_range.Reads as reads
-use Rattle.name_rules.proofs.in_range.Lts as lts
 
--- src/lib.rt:115:13
 returns : tie.Need-returns
 unfolding choose
 returns c = rw (c .before .if1 .taken, lt-leb _ _ (c .if2 .taken))
 
--- src/lib.rt:117:9
 returns-2 : tie.Need-returns-2
 unfolding choose
 returns-2 c = rw (c .before .if1 .taken, le-leb _ _ (c .if2 .left))
 
--- src/lib.rt:109:1
 returns-3 : tie.Need-returns-3
 unfolding choose
 returns-3 c = rw (c .if1 .left)

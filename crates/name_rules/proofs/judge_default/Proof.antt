@@ -9,9 +9,6 @@ use native.Mathlib.Omega.{arith}
 use borrow.Author.Needs.{needs}
 use Rattle.name_rules.proofs.judge_default.Statement.{statement}
 use Rattle.name_rules.proofs.judge_default.Tie as tie
-use Rattle.name_rules.proofs.judge_default.Reads as reads
-use Rattle.name_rules.proofs.judge_default.Lts as lts
-use Rattle.utf8.proofs.char_at.Reads as char-at-reads
 
 abbrev Inv-loop : tie.InvT-loop
 Inv-loop s i₀ i = whole (chars-from s i) ≡ whole (chars-from s 0)
@@ -19,36 +16,28 @@ Inv-loop s i₀ i = whole (chars-from s i) ≡ whole (chars-from s 0)
 abbrev μ-loop : tie.MeasureT-loop
 μ-loop s i₀ i = length s - i
 
--- src/lib.rt:178:5
 loop-holds : tie.Need-loop-holds Inv-loop μ-loop
 loop-holds c = refl
 
--- src/lib.rt:179:43
 char-at-requires : tie.Need-char-at-requires Inv-loop μ-loop
 char-at-requires c κs = search needs
 
--- src/lib.rt:179:35
 enum-known-next : tie.Need-enum-known-next Inv-loop μ-loop
 enum-known-next c = search needs
 
--- src/lib.rt:180:13
 enum-told : tie.Need-enum-told Inv-loop μ-loop
 enum-told c = search needs
 
--- src/lib.rt:180:13
 returns : tie.Need-returns Inv-loop μ-loop
 unfolding judged
 returns c = ap judged (sym (ap whole (chars-fault _ _ (c .before .before .before .loop-test .taken) _ (c .before .before .char-at .ensures) (c .enum-told .given .1))) ∙ c .before .before .before .before .loop .inv)
 
--- src/lib.rt:178:5
 loop-less : tie.Need-loop-less Inv-loop μ-loop
 loop-less c = let l = char-forward _ _ (c .before .before .before .before .loop-test .taken) _ (c .before .before .before .char-at .ensures) _ _ (c .before .next .given .1) in omega arith
 
--- src/lib.rt:178:5
 loop-again : tie.Need-loop-again Inv-loop μ-loop
 loop-again c = sym (ap whole (chars-next _ _ (c .before .before .before .before .loop-test .taken) _ (c .before .before .before .char-at .ensures) _ _ (c .before .next .given .1))) ∙ c .before .before .before .before .before .loop .inv
 
--- src/lib.rt:174:1
 returns-2 : tie.Need-returns-2 Inv-loop μ-loop
 unfolding judged
 returns-2 c = ap judged (sym (ap whole (chars-end _ _ (c .loop-test .left))) ∙ c .before .loop .inv)

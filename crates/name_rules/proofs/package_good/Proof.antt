@@ -1,5 +1,5 @@
 use Rattle.base.specs.Choose.{choose}
-use mathlib.Core.Path.{_≡_, sym, ap, _∙_}
+use mathlib.Core.Path.{ap, _∙_}
 use mathlib.Core.List.{List}
 use Prim.Native.Nat.{ℕ}
 use Rattle.base.specs.Lists.{all}
@@ -7,25 +7,17 @@ use Rattle.name_rules.specs.Rules.{good-name, segments}
 use borrow.Author.Needs.{needs}
 use Rattle.name_rules.proofs.package_good.Statement.{statement}
 use Rattle.name_rules.proofs.package_good.Tie as tie
-use Rattle.name_rules.proofs.package_good.Reads as reads
-use Rattle.name_rules.proofs.package_good.Lts as lts
-use Rattle.name_rules.proofs.segments_good.Reads as segments-good-reads
-use Rattle.name_rules.proofs.text_bytes.Reads as text-bytes-reads
 
--- src/lib.rt:93:30
 text-bytes-requires : tie.Need-text-bytes-requires
 text-bytes-requires c κs = search needs
 
--- src/lib.rt:93:9
 segments-good-requires : tie.Need-segments-good-requires
 segments-good-requires c κs = search needs
 
--- src/lib.rt:93:9
 returns : tie.Need-returns
 unfolding choose
 returns c = rw (c .before .before .if1 .taken) (c .segments-good .ensures ∙ ap (λ (x : List ℕ). all good-name (segments x)) (c .before .text-bytes .ensures))
 
--- src/lib.rt:89:1
 returns-2 : tie.Need-returns-2
 unfolding choose
 returns-2 c = rw (c .if1 .left)

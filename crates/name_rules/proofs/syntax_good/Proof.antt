@@ -1,43 +1,31 @@
 use Rattle.name_rules.proofs.ViewedLaws.{known-is}
 use Rattle.name_rules.specs.Rules.{is-known}
-use mathlib.Core.Path.{_≡_, sym, ap, _∙_}
+use mathlib.Core.Path.{sym, ap, _∙_}
 use borrow.Author.Needs.{needs}
 use Rattle.name_rules.proofs.syntax_good.Statement.{statement}
 use Rattle.name_rules.proofs.syntax_good.Tie as tie
-use Rattle.name_rules.proofs.syntax_good.Reads as reads
-use Rattle.name_rules.proofs.syntax_good.Lts as lts
-use Rattle.name_rules.proofs.text_bytes.Reads as text-bytes-reads
-use Rattle.syntax.proofs.syntax_from.Reads as syntax-from-reads
 
--- src/lib.rt:102:40
 text-bytes-requires : tie.Need-text-bytes-requires
 text-bytes-requires c κs = search needs
 
--- src/lib.rt:102:11
 syntax-from-requires : tie.Need-syntax-from-requires
 syntax-from-requires c κs = search needs
 
--- src/lib.rt:103:27
 enum-told : tie.Need-enum-told
 enum-told c = search needs
 
--- src/lib.rt:104:27
 enum-told-2 : tie.Need-enum-told-2
 enum-told-2 c = search needs
 
--- src/lib.rt:105:28
 enum-told-3 : tie.Need-enum-told-3
 enum-told-3 c = search needs
 
--- src/lib.rt:98:1
 returns : tie.Need-returns
 returns c = ap is-known (sym (c .enum-told .given .1)) ∙ known-is _ _ _ _ (c .before .before .syntax-from .ensures) (c .before .before .before .text-bytes .ensures)
 
--- src/lib.rt:98:1
 returns-2 : tie.Need-returns-2
 returns-2 c = ap is-known (sym (c .enum-told2 .given .1)) ∙ known-is _ _ _ _ (c .before .before .syntax-from .ensures) (c .before .before .before .text-bytes .ensures)
 
--- src/lib.rt:98:1
 returns-3 : tie.Need-returns-3
 returns-3 c = ap is-known (sym (c .enum-told3 .given .1)) ∙ known-is _ _ _ _ (c .before .before .syntax-from .ensures) (c .before .before .before .text-bytes .ensures)
 

@@ -1,23 +1,16 @@
 use Rattle.name_rules.proofs.ViewedLaws.{value-is}
 use Rattle.name_rules.specs.Rules.{value-good}
-use mathlib.Core.Path.{_≡_, sym, ap, _∙_}
+use mathlib.Core.Path.{ap, _∙_}
 use borrow.Author.Needs.{needs}
 use Rattle.name_rules.proofs.value_good.Statement.{statement}
 use Rattle.name_rules.proofs.value_good.Tie as tie
-use Rattle.name_rules.proofs.value_good.Reads as reads
-use Rattle.name_rules.proofs.value_good.Lts as lts
-use Rattle.descriptor.proofs.value_view.Reads as value-view-reads
-use Rattle.name_rules.proofs.value_view_good.Reads as value-view-good-reads
 
--- src/lib.rt:258:9
 value-view-requires : tie.Need-value-view-requires
 value-view-requires c κs = search needs
 
--- src/lib.rt:259:5
 value-view-good-requires : tie.Need-value-view-good-requires
 value-view-good-requires c κs = search needs
 
--- src/lib.rt:254:1
 returns : tie.Need-returns
 returns c = c .value-view-good .ensures ∙ ap value-good (value-is _ _ (c .before .value-view .ensures))
 

@@ -1,4 +1,3 @@
-use Rattle.base.specs.Choose.{choose}
 use Rattle.descriptor.specs.Views.{value-of}
 use Rattle.name_rules.specs.Rules.{value-good}
 use Rattle.name_rules.proofs.Tests.{ands}
@@ -6,20 +5,14 @@ use Rattle.name_rules.proofs.ViewedLaws.{given-number}
 use borrow.Author.Needs.{needs}
 use Rattle.name_rules.proofs.value_view_good.Statement.{statement}
 use Rattle.name_rules.proofs.value_view_good.Tie as tie
-use Rattle.name_rules.proofs.value_view_good.Reads as reads
-use Rattle.name_rules.proofs.value_view_good.Lts as lts
-use Rattle.name_rules.proofs.has_name.Reads as has-name-reads
 
--- src/lib.rt:248:9
 has-name-requires : tie.Need-has-name-requires
 has-name-requires c κs = search needs
 
--- src/lib.rt:249:9
 returns : tie.Need-returns
 unfolding value-good value-of
 returns c = search (ands, c .before .has-name .ensures, c .if1 .taken) depth 9
 
--- src/lib.rt:243:1
 returns-2 : tie.Need-returns-2
 unfolding value-good value-of
 returns-2 c = search (ands, given-number, c .before .has-name .ensures, c .if1 .left) depth 9
