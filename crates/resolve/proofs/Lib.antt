@@ -1,1 +1,2 @@
 pub mod WayLaws
+pub mod ProstLaws
