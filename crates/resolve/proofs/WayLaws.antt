@@ -108,6 +108,10 @@ module _ (s : List ℕ) (i e : ℕ) (h : i ≤ length s) (q : e ≡ i + first-pa
     pub last-more : last-name (names s i) ≡ last-name (names s (e + 1))
     last-more = rw (names-more s i e h q) (last-cons (take (e - i) (drop i s)) (next-names s (e + 1) (omega arith)))
 
+pub all-names : (s : List ℕ) → names s 0 ≡ split (b ".") s
+unfolding names choose
+all-names s = rw (le-leb 0 (length s) (omega arith)) refl
+
 -- ---- what is written for the names
 each-front : (p : Bytes) (n : ℕ) → each (λ _. p) (suc n) ≡ p ++ each (λ _. p) n
 each-front p zero = sym (append-nil p)

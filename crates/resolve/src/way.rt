@@ -4,9 +4,9 @@ ghost use Prim.Native.Nat.{_+_, _≤_};
 ghost use lib.ListN.{length, drop};
 ghost use Rattle.base.specs.Bytes.{b};
 ghost use Rattle.writer.specs.Wrote.{Wrote};
-ghost use Rattle.extern_paths.specs.Split.{first-part};
+ghost use Rattle.extern_paths.specs.Split.{split, first-part};
 ghost use Rattle.code_generator.specs.Piece.{way-text};
-ghost use Rattle.code_generator.specs.Resolve.{way};
+ghost use Rattle.code_generator.specs.Resolve.{last-name, way};
 ghost use Rattle.resolve.specs.Names.{Left, supers, downwards};
 
 // Where the names that aren't common start, in the scope and in the identifier.
@@ -27,6 +27,19 @@ fn name_end(s: &[u8], from: usize) -> usize
         i = i + 1;
     }
     i
+}
+
+// next_back: the last name of a path.
+pub fn last_name(s: &[u8]) -> &[u8]
+    ensures { λ r. ⌜ now r ≡ last-name (split (b ".") (now (s .entry))) ⌝ }
+{
+    let mut from = 0;
+    let mut e = name_end(s, 0);
+    while e < s.len() {
+        from = e + 1;
+        e = name_end(s, from);
+    }
+    &s[from..e]
 }
 
 // Path elements in common are skipped.
