@@ -10,13 +10,13 @@ use borrow.Author.Tests.{lt-ltb, le-ltb, le-leb, lt-leb, eq-eqb, ne-eqb}
 use lib.Dec.{eqb, ltb, leb}
 use lib.ListN.{length, take, drop, getD, length-drop, drop-of-length-le}
 use lib.Seq.{drop-cons, drop-drop}
-use Rattle.base.specs.Choose.{choose, choose-case}
+use Rattle.base.specs.Choose.{choose}
 use Rattle.base.specs.Bytes.{b, same}
 use Rattle.writer.specs.Text.{each}
 use Rattle.ident.specs.Ident.{to-snake, to-upper-camel}
 use Rattle.descriptor.specs.Descriptor.{Bytes}
 use Rattle.extern_paths.specs.Split.{begins, split, first-part}
-use Rattle.extern_paths.proofs.SplitLaws.{split-is, parts-behind, part-stops, part-goes, part-ends}
+use Rattle.extern_paths.proofs.SplitLaws.{part-stops, part-goes, part-ends, Parted, Spans, spans, parts-last, parts-more}
 use Rattle.code_generator.specs.Piece.{through, way-text}
 use Rattle.code_generator.specs.Resolve.{local-path, ident-path, ident-type, front, last-name, skip-common, way}
 use Rattle.resolve.specs.Names.{names, supers, downwards, Left}
@@ -41,11 +41,6 @@ module _ (s : List ℕ) (i : ℕ) (h : i < length s) where
 pub name-ends : (s : List ℕ) (i : ℕ) → length s ≤ i → i ≡ i + first-part (b ".") (drop i s)
 name-ends s i h = sym (part-ends s (b ".") i h)
 
-part-within : (sep s : List ℕ) → first-part sep s ≤ length s
-unfolding first-part
-part-within sep [] = omega arith
-part-within sep (c ∷ s) = choose-case (λ (n : ℕ). n ≤ suc (length s)) (begins sep (c ∷ s)) (λ _. omega arith) (λ _. let l : first-part sep s ≤ length s = part-within sep s in omega arith)
-
 -- ---- before the last, and the last
 record NotEmpty (xs : List Bytes) : Type 0 where
   first : Bytes
@@ -65,27 +60,19 @@ names-none s i h = rw (lt-leb i (length s) h) refl
 
 -- ---- the name that starts at i ends at e
 module _ (s : List ℕ) (i e : ℕ) (h : i ≤ length s) (q : e ≡ i + first-part (b ".") (drop i s)) where
-  pub end-within : e ≤ length s
-  end-within =
-      let l : first-part (b ".") (drop i s) ≤ length (drop i s) = part-within (b ".") (drop i s) in
-      let m : length (drop i s) ≡ length s - i = length-drop i s in
-      omega arith
+  parted : Parted (b ".") s i e
+  parted = record { starts = h; ends = q }
 
-  behind : Dec (e < length s) → parts-behind (b ".") (first-part (b ".") (drop i s)) (drop i s) ≡ names s (e + 1)
-  unfolding parts-behind names choose
-  behind (yes l) =
-      let m : length (drop i s) ≡ length s - i = length-drop i s in
-      let k : i + (first-part (b ".") (drop i s) + 1) ≡ e + 1 = omega arith in
-      rw (lt-ltb (first-part (b ".") (drop i s)) (length (drop i s)) (omega arith), le-leb (e + 1) (length s) (omega arith), drop-drop, k) refl
-  behind (no l) =
-      let m : length (drop i s) ≡ length s - i = length-drop i s in
-      rw (le-ltb (first-part (b ".") (drop i s)) (length (drop i s)) (omega arith), lt-leb (e + 1) (length s) (omega arith)) refl
+  pub name-within : e ≤ length s
+  name-within = spans (b ".") s i e (omega arith) parted .within
+
+  more : Dec (e < length s) → names s i ≡ take (e - i) (drop i s) ∷ names s (e + 1)
+  unfolding names choose
+  more (yes l) = rw (le-leb i (length s) h, le-leb (e + 1) (length s) (omega arith)) (parts-more (b ".") s i e (omega arith) parted l)
+  more (no l) = rw (le-leb i (length s) h, lt-leb (e + 1) (length s) (omega arith)) (parts-last (b ".") s i e (omega arith) parted (omega arith))
 
   pub names-more : names s i ≡ take (e - i) (drop i s) ∷ names s (e + 1)
-  unfolding names choose
-  names-more =
-      let r : e - i ≡ first-part (b ".") (drop i s) = omega arith in
-      rw (le-leb i (length s) h, r) (split-is (b ".") (drop i s) (omega arith) ∙ ap (λ (l : List Bytes). take (first-part (b ".") (drop i s)) (drop i s) ∷ l) (behind (decLt e (length s))))
+  names-more = more (decLt e (length s))
 
 next-names : (s : List ℕ) (i : ℕ) → i ≤ length s → NotEmpty (names s i)
 next-names s i h = record { first = _; others = _; is = names-more s i (i + first-part (b ".") (drop i s)) h refl }

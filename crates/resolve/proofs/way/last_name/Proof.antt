@@ -7,7 +7,7 @@ use Rattle.base.specs.Bytes.{b}
 use Rattle.extern_paths.specs.Split.{split, first-part}
 use Rattle.code_generator.specs.Resolve.{last-name}
 use Rattle.resolve.specs.Names.{names}
-use Rattle.resolve.proofs.WayLaws.{end-within, last-more, last-end, all-names}
+use Rattle.resolve.proofs.WayLaws.{name-within, last-more, last-end, all-names}
 use Rattle.resolve.proofs.way.last_name.Statement.{statement}
 use Rattle.resolve.proofs.way.last_name.Tie as tie
 use Rattle.resolve.proofs.way.last_name.Reads as reads
@@ -46,15 +46,15 @@ loop-again c = (sym (last-more _ _ _ (c .before .before .loop .inv .1) (c .befor
 
 -- src/way.rt:42:5
 sub-result : tie.Need-sub-result Inv-loop μ-loop
-sub-result c = let l = end-within _ _ _ (c .before .loop .inv .1) (c .before .loop .inv .2) in search needs
+sub-result c = let l = name-within _ _ _ (c .before .loop .inv .1) (c .before .loop .inv .2) in search needs
 
 -- src/way.rt:42:5
 part-result-start : tie.Need-part-result-start Inv-loop μ-loop
-part-result-start c = let l = end-within _ _ _ (c .before .loop .inv .1) (c .before .loop .inv .2) in search needs
+part-result-start c = let l = name-within _ _ _ (c .before .loop .inv .1) (c .before .loop .inv .2) in search needs
 
 -- src/way.rt:42:5
 part-result-end : tie.Need-part-result-end Inv-loop μ-loop
-part-result-end c = let l = end-within _ _ _ (c .before .loop .inv .1) (c .before .loop .inv .2) in search needs
+part-result-end c = let l = name-within _ _ _ (c .before .loop .inv .1) (c .before .loop .inv .2) in search needs
 
 -- src/way.rt:33:1
 returns : tie.Need-returns Inv-loop μ-loop

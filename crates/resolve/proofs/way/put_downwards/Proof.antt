@@ -9,7 +9,7 @@ use Rattle.extern_paths.specs.Split.{first-part}
 use Rattle.writer.specs.Wrote.{kept, _►_}
 use Rattle.heck.proofs.Partly.{Partly, nothing-yet, go-on, all-of}
 use Rattle.resolve.specs.Names.{downwards}
-use Rattle.resolve.proofs.WayLaws.{end-within, downwards-last, downwards-more}
+use Rattle.resolve.proofs.WayLaws.{name-within, downwards-last, downwards-more}
 use Rattle.resolve.proofs.way.put_downwards.Statement.{statement}
 use Rattle.resolve.proofs.way.put_downwards.Tie as tie
 use Rattle.resolve.proofs.way.put_downwards.Reads as reads
@@ -75,15 +75,15 @@ loop-again c = (go-on (c .before .before .before .before .before .before .before
 
 -- src/way.rt:92:46
 sub-put-upper-camel : tie.Need-sub-put-upper-camel Inv-loop μ-loop
-sub-put-upper-camel c = let l = end-within _ _ _ (c .before .before .loop .inv .1) (c .before .before .loop .inv .2) in search needs
+sub-put-upper-camel c = let l = name-within _ _ _ (c .before .before .loop .inv .1) (c .before .before .loop .inv .2) in search needs
 
 -- src/way.rt:92:46
 part-put-upper-camel-start : tie.Need-part-put-upper-camel-start Inv-loop μ-loop
-part-put-upper-camel-start c = let l = end-within _ _ _ (c .before .before .loop .inv .1) (c .before .before .loop .inv .2) in search needs
+part-put-upper-camel-start c = let l = name-within _ _ _ (c .before .before .loop .inv .1) (c .before .before .loop .inv .2) in search needs
 
 -- src/way.rt:92:46
 part-put-upper-camel-end : tie.Need-part-put-upper-camel-end Inv-loop μ-loop
-part-put-upper-camel-end c = let l = end-within _ _ _ (c .before .before .loop .inv .1) (c .before .before .loop .inv .2) in search needs
+part-put-upper-camel-end c = let l = name-within _ _ _ (c .before .before .loop .inv .1) (c .before .before .loop .inv .2) in search needs
 
 -- src/way.rt:92:9
 put-upper-camel-requires : tie.Need-put-upper-camel-requires Inv-loop μ-loop

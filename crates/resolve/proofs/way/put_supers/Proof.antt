@@ -5,7 +5,7 @@ use lib.ListN.{length}
 use Rattle.writer.specs.Wrote.{kept}
 use Rattle.heck.proofs.Partly.{Partly, nothing-yet, go-on, all-of}
 use Rattle.resolve.specs.Names.{supers}
-use Rattle.resolve.proofs.WayLaws.{end-within, supers-none, supers-more}
+use Rattle.resolve.proofs.WayLaws.{name-within, supers-none, supers-more}
 use Rattle.resolve.proofs.way.put_supers.Statement.{statement}
 use Rattle.resolve.proofs.way.put_supers.Tie as tie
 use Rattle.resolve.proofs.way.put_supers.Reads as reads
@@ -37,11 +37,11 @@ put-requires c κs = search needs
 
 -- src/way.rt:73:13
 add-i : tie.Need-add-i Inv-loop μ-loop
-add-i c = let l = end-within _ _ _ (c .before .before .before .before .before .before .loop-test .taken) (c .before .before .before .before .before .name-end .ensures) in search needs
+add-i c = let l = name-within _ _ _ (c .before .before .before .before .before .before .loop-test .taken) (c .before .before .before .before .before .name-end .ensures) in search needs
 
 -- src/way.rt:70:5
 loop-less : tie.Need-loop-less Inv-loop μ-loop
-loop-less c = let l = end-within _ _ _ (c .before .before .before .before .before .before .loop-test .taken) (c .before .before .before .before .before .name-end .ensures) in omega arith
+loop-less c = let l = name-within _ _ _ (c .before .before .before .before .before .before .loop-test .taken) (c .before .before .before .before .before .name-end .ensures) in omega arith
 
 -- src/way.rt:70:5
 loop-again : tie.Need-loop-again Inv-loop μ-loop

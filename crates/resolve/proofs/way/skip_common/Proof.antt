@@ -3,7 +3,7 @@ use borrow.Author.Needs.{needs}
 use native.Mathlib.Omega.{arith}
 use Prim.Native.Nat.{_+_, _-_, _≤_}
 use lib.ListN.{length, drop}
-use Rattle.resolve.proofs.WayLaws.{end-within, Skipping, skip-start, skip-none, skip-ended, skip-apart, skip-on}
+use Rattle.resolve.proofs.WayLaws.{name-within, Skipping, skip-start, skip-none, skip-ended, skip-apart, skip-on}
 use Rattle.resolve.proofs.way.skip_common.Statement.{statement}
 use Rattle.resolve.proofs.way.skip_common.Tie as tie
 use Rattle.resolve.proofs.way.skip_common.Reads as reads
@@ -40,27 +40,27 @@ returns c = skip-ended (c .before .before .before .before .loop .inv) (c .before
 
 -- src/way.rt:47:37
 sub-same-bytes : tie.Need-sub-same-bytes Inv-loop μ-loop
-sub-same-bytes c = let l = end-within _ _ _ (c .before .before .before .loop-test .taken) (c .before .before .name-end .ensures) in search needs
+sub-same-bytes c = let l = name-within _ _ _ (c .before .before .before .loop-test .taken) (c .before .before .name-end .ensures) in search needs
 
 -- src/way.rt:47:37
 part-same-bytes-start : tie.Need-part-same-bytes-start Inv-loop μ-loop
-part-same-bytes-start c = let l = end-within _ _ _ (c .before .before .before .loop-test .taken) (c .before .before .name-end .ensures) in search needs
+part-same-bytes-start c = let l = name-within _ _ _ (c .before .before .before .loop-test .taken) (c .before .before .name-end .ensures) in search needs
 
 -- src/way.rt:47:37
 part-same-bytes-end : tie.Need-part-same-bytes-end Inv-loop μ-loop
-part-same-bytes-end c = let l = end-within _ _ _ (c .before .before .before .loop-test .taken) (c .before .before .name-end .ensures) in search needs
+part-same-bytes-end c = let l = name-within _ _ _ (c .before .before .before .loop-test .taken) (c .before .before .name-end .ensures) in search needs
 
 -- src/way.rt:47:51
 sub-same-bytes-2 : tie.Need-sub-same-bytes-2 Inv-loop μ-loop
-sub-same-bytes-2 c = let l = end-within _ _ _ (c .before .before .before .before .before .loop .inv .within) (c .before .before .name-end2 .ensures) in search needs
+sub-same-bytes-2 c = let l = name-within _ _ _ (c .before .before .before .before .before .loop .inv .within) (c .before .before .name-end2 .ensures) in search needs
 
 -- src/way.rt:47:51
 part-same-bytes-start-2 : tie.Need-part-same-bytes-start-2 Inv-loop μ-loop
-part-same-bytes-start-2 c = let l = end-within _ _ _ (c .before .before .before .before .before .loop .inv .within) (c .before .before .name-end2 .ensures) in search needs
+part-same-bytes-start-2 c = let l = name-within _ _ _ (c .before .before .before .before .before .loop .inv .within) (c .before .before .name-end2 .ensures) in search needs
 
 -- src/way.rt:47:51
 part-same-bytes-end-2 : tie.Need-part-same-bytes-end-2 Inv-loop μ-loop
-part-same-bytes-end-2 c = let l = end-within _ _ _ (c .before .before .before .before .before .loop .inv .within) (c .before .before .name-end2 .ensures) in search needs
+part-same-bytes-end-2 c = let l = name-within _ _ _ (c .before .before .before .before .before .loop .inv .within) (c .before .before .name-end2 .ensures) in search needs
 
 -- src/way.rt:47:13
 same-bytes-requires : tie.Need-same-bytes-requires Inv-loop μ-loop
@@ -68,7 +68,7 @@ same-bytes-requires c κs = search needs
 
 -- src/way.rt:49:17
 add-i : tie.Need-add-i Inv-loop μ-loop
-add-i c = let l = end-within _ _ _ (c .before .before .before .before .before .before .before .loop-test .taken) (c .before .before .before .before .before .before .name-end .ensures) in search needs
+add-i c = let l = name-within _ _ _ (c .before .before .before .before .before .before .before .loop-test .taken) (c .before .before .before .before .before .before .name-end .ensures) in search needs
 
 -- src/way.rt:50:17
 add-j : tie.Need-add-j Inv-loop μ-loop
@@ -76,7 +76,7 @@ add-j c = search needs
 
 -- src/way.rt:38:5
 loop-less : tie.Need-loop-less Inv-loop μ-loop
-loop-less c = let l = end-within _ _ _ (c .before .before .before .before .before .before .before .loop-test .taken) (c .before .before .before .before .before .before .name-end .ensures) in omega arith
+loop-less c = let l = name-within _ _ _ (c .before .before .before .before .before .before .before .loop-test .taken) (c .before .before .before .before .before .before .name-end .ensures) in omega arith
 
 -- src/way.rt:38:5
 loop-again : tie.Need-loop-again Inv-loop μ-loop
