@@ -6,7 +6,7 @@ ghost use Rattle.writer.specs.Wrote.{Wrote};
 ghost use Rattle.options.specs.Settings.{settings};
 ghost use Rattle.descriptor.specs.Views.{field-of};
 ghost use Rattle.code_generator.specs.Piece.{flat, spelt};
-ghost use Rattle.code_generator.specs.Fields.{optional, unpacked, label-tag, bytes-annotation, enum-value, default-text, default-tag};
+ghost use Rattle.code_generator.specs.Fields.{optional, unpacked, label-tag, bytes-annotation, enum-value, default-text, default-tag, field-tag};
 
 pub fn optional(proto3: bool, s: &[u8], f: FieldView) -> bool
     ensures { λ r. ⌜ r ≡ optional proto3 (field-of (now (s .entry)) f) ⌝ }
@@ -106,4 +106,29 @@ pub fn default_tag(t: &mut [u8], at: usize, o: &[u8], s: &[u8], f: FieldView) ->
         return default_text(t, a, o, s, f, x);
     }
     at
+}
+
+// A field's tag, from behind `#[prost(` on. scope: where the struct stands.
+pub fn field_tag(
+    t: &mut [u8],
+    at: usize,
+    o: &[u8],
+    proto3: bool,
+    scope: &[u8],
+    s: &[u8],
+    f: FieldView,
+    boxed: bool,
+    asbytes: bool,
+) -> usize
+    ensures { λ r. ⌜ Wrote (now (t .entry)) at (flat (field-tag (settings (now (o .entry))) proto3 (now (scope .entry)) (field-of (now (s .entry)) f) boxed asbytes)) (now (t .exit)) r ⌝ }
+{
+    let a = resolve::field_type_tag(t, at, o, scope, s, f);
+    let a = bytes_annotation(t, a, s, f, asbytes);
+    let a = label_tag(t, a, proto3, s, f);
+    let a = writer::put_if(t, a, boxed, b", boxed");
+    let a = writer::put(t, a, b", tag = \"");
+    let number = accessors::number(s, f);
+    let a = writer::put_number(t, a, number);
+    let a = default_tag(t, a, o, s, f);
+    writer::put(t, a, b"\")]\n")
 }
