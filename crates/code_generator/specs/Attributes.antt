@@ -8,7 +8,7 @@ use Rattle.descriptor.specs.Descriptor.{Bytes, FieldDescriptor, FieldOptions}
 use Rattle.options.specs.Settings.{Setting, first-of-kind, prost-path}
 use Rattle.options.specs.declared.Found.{Found}
 use Rattle.context.specs.Context.{type-attributes, message-attributes, enum-attributes, field-attributes, should-skip-debug}
-use Rattle.code_generator.specs.Piece.{Text, nothing, piece, _⟫_, when, _◃_, opaque, close, block-open, lit, push-indent}
+use Rattle.code_generator.specs.Piece.{Text, nothing, piece, _⟫_, when, _◃_, raw, opaque, close, block-open, lit, push-indent}
 use Rattle.code_generator.specs.Resolve.{prost}
 
 -- a line, or its start, at the depth d
@@ -52,14 +52,14 @@ module _ (rs : List Setting) where
   append-field-attributes d full name = attributes d (field-attributes rs full name)
 
   -- the derives of a struct or a oneof's enum
-  unfoldable pub derive : ℕ → Bool → Bool → String → Text
+  unfoldable pub derive : ℕ → Bool → Bool → Bytes → Text
   derive d copy eq what =
       line d "#[derive(Clone, "
       ⟫ when copy (lit "Copy, ")
       ⟫ lit "PartialEq, "
       ⟫ when eq (lit "Eq, Hash, ")
       ⟫ prost rs
-      ⟫ lit what
+      ⟫ piece (raw what)
 
   -- prost_path_attribute: only with kind 10, and with no indent
   unfoldable pub append-prost-path-attribute : Text

@@ -3,6 +3,7 @@ use Prim.Native.Nat.{ℕ, suc}
 use mathlib.Core.Bool.{Bool, true, false, _||_, not}
 use mathlib.Core.Option.{Option, some, none}
 use mathlib.Core.List.{List, [], _∷_}
+use Rattle.base.specs.Bytes.{b}
 use Rattle.base.specs.Lists.{is-empty}
 use Rattle.syntax.specs.Syntax.{syntax-of}
 use Rattle.syntax.specs.declared.Syntax.{Syntax}
@@ -53,7 +54,7 @@ module _ (rs : List Setting) (set : List FileDescriptor) (proto3 : Bool) where
   append-struct d scope full m nested =
       append-type-attributes rs d full
       ⟫ append-message-attributes rs d full
-      ⟫ derive rs d (can-message-derive-copy rs set full) (can-message-derive-eq set full) "::Message)]\n"
+      ⟫ derive rs d (can-message-derive-copy rs set full) (can-message-derive-eq set full) (b "::Message)]\n")
       ⟫ append-prost-path-attribute rs
       ⟫ append-skip-debug rs d full
       ⟫ line d "pub struct "

@@ -4,7 +4,7 @@ use mathlib.Core.Bool.{Bool, true, false, _||_}
 use mathlib.Core.Option.{Option, some, none}
 use mathlib.Core.List.{List, [], _∷_}
 use lib.Dec.{eqb}
-use Rattle.base.specs.Bytes.{same}
+use Rattle.base.specs.Bytes.{b, same}
 use Rattle.base.specs.Choose.{choose}
 use Rattle.base.specs.Lists.{all, is-empty}
 use Rattle.writer.specs.Decimal.{decimal}
@@ -160,7 +160,7 @@ module _ (rs : List Setting) (set : List FileDescriptor) where
   append-oneof d full x =
       append-type-attributes rs d (full · x .name)
       ⟫ append-enum-attributes rs d (full · x .name)
-      ⟫ derive rs d (can-oneof-derive-copy full x) (can-oneof-derive-eq full x) "::Oneof)]\n"
+      ⟫ derive rs d (can-oneof-derive-copy full x) (can-oneof-derive-eq full x) (b "::Oneof)]\n")
       ⟫ append-prost-path-attribute rs
       ⟫ append-skip-debug rs d full
       ⟫ line d "pub enum "
