@@ -50,17 +50,17 @@ returns-10 : tie.Need-returns-10
 unfolding sort-below
 returns-10 c = search (choices, c .if10 .left, c .before .if9 .left, c .before .before .if8 .left, c .before .before .before .if7 .left, c .before .before .before .before .if6 .taken, c .before .before .before .before .before .if3 .left, c .before .before .before .before .before .before .if1 .left, c .before .before .before .before .before .before .before .args .left, c .before .before .before .before .before .before .before .fits .left) depth 16
 
+-- src/lib.rt:146:9
+value-below-requires : tie.Need-value-below-requires
+value-below-requires c κs = search needs
+
 returns-11 : tie.Need-returns-11
 unfolding sort-below
-returns-11 c = search (choices, c .if12 .taken, c .before .if11 .taken, c .before .before .if6 .left, c .before .before .before .if3 .left, c .before .before .before .before .if1 .left, c .before .before .before .before .before .args .left, c .before .before .before .before .before .fits .left) depth 16
+returns-11 c = search (choices, c .value-below .ensures, c .before .if11 .taken, c .before .before .if6 .left, c .before .before .before .if3 .left, c .before .before .before .before .if1 .left, c .before .before .before .before .before .args .left, c .before .before .before .before .before .fits .left) depth 16
 
 returns-12 : tie.Need-returns-12
 unfolding sort-below
-returns-12 c = search (choices, c .if12 .left, c .before .if11 .taken, c .before .before .if6 .left, c .before .before .before .if3 .left, c .before .before .before .before .if1 .left, c .before .before .before .before .before .args .left, c .before .before .before .before .before .fits .left) depth 16
-
-returns-13 : tie.Need-returns-13
-unfolding sort-below
-returns-13 c = search (choices, c .if11 .left, c .before .if6 .left, c .before .before .if3 .left, c .before .before .before .if1 .left, c .before .before .before .before .args .left, c .before .before .before .before .fits .left) depth 16
+returns-12 c = search (choices, c .if11 .left, c .before .if6 .left, c .before .before .if3 .left, c .before .before .before .if1 .left, c .before .before .before .before .args .left, c .before .before .before .before .fits .left) depth 16
 
 pub sort-below-spec : {M : Type 1} → statement M
 sort-below-spec =
@@ -78,6 +78,6 @@ sort-below-spec =
     returns-8
     returns-9
     returns-10
+    value-below-requires
     returns-11
-    returns-12
-    returns-13)
+    returns-12)
