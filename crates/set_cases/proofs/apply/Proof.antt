@@ -4,115 +4,79 @@ use lib.Seq.{length-take-le}
 use borrow.Author.Needs.{needs}
 use Rattle.set_cases.proofs.apply.Statement.{statement}
 use Rattle.set_cases.proofs.apply.Tie as tie
-use Rattle.set_cases.proofs.apply.Reads as reads
-use Rattle.set_cases.proofs.apply.Lts as lts
-use Rattle.base.proofs.byte_at.Reads as byte-at-reads
-use Rattle.set_cases.proofs.answer_is.Reads as answer-is-reads
-use Rattle.set_cases.proofs.behind.Reads as behind-reads
-use Rattle.set_cases.proofs.changed.Reads as changed-reads
-use Rattle.set_cases.proofs.judged.Reads as judged-reads
-use Rattle.set_cases.proofs.repeated.Reads as repeated-reads
-use Rattle.set_cases.proofs.with_length.Reads as with-length-reads
-use Rattle.set_cases.proofs.within.Reads as within-reads
-use Rattle.set_cases.proofs.word.Reads as word-reads
 
--- src/main.rt:121:9
 word-requires : tie.Need-word-requires
 word-requires c κs = search needs
 
--- src/main.rt:122:9
 word-requires-2 : tie.Need-word-requires-2
 word-requires-2 c κs = search needs
 
--- src/main.rt:123:9
 word-requires-3 : tie.Need-word-requires-3
 word-requires-3 c κs = search needs
 
--- src/main.rt:124:9
 word-requires-4 : tie.Need-word-requires-4
 word-requires-4 c κs = search needs
 
--- src/main.rt:125:9
 word-requires-5 : tie.Need-word-requires-5
 word-requires-5 c κs = search needs
 
--- src/main.rt:127:9
 with-length-requires : tie.Need-with-length-requires
 with-length-requires c κs = search needs
 
--- src/main.rt:127:9
 returns : tie.Need-returns
 returns c = search needs
 
--- src/main.rt:130:41
 behind-requires : tie.Need-behind-requires
 behind-requires c κs = search needs
 
--- src/main.rt:130:13
 repeated-requires : tie.Need-repeated-requires
 repeated-requires c κs = search needs
 
--- src/main.rt:131:9
 with-length-requires-2 : tie.Need-with-length-requires-2
 with-length-requires-2 c κs = search needs
 
--- src/main.rt:131:9
 same-length : tie.Need-same-length
 same-length c = search needs
 
--- src/main.rt:131:9
 returns-2 : tie.Need-returns-2
 returns-2 c = search needs
 
--- src/main.rt:135:13
 judged-requires : tie.Need-judged-requires
 judged-requires c κs = search needs
 
--- src/main.rt:135:13
 returns-3 : tie.Need-returns-3
 returns-3 c = search needs
 
--- src/main.rt:137:13
 within-requires : tie.Need-within-requires
 within-requires c κs = search needs
 
--- src/main.rt:138:36
 slice-reshare-prefix-answer-is : tie.Need-slice-reshare-prefix-answer-is
 slice-reshare-prefix-answer-is c = search needs
 
--- src/main.rt:138:36
 slice-aggregate-answer-is : tie.Need-slice-aggregate-answer-is
 slice-aggregate-answer-is c = sym (length-take-le _ _ (omega arith))
 
--- src/main.rt:138:26
 answer-is-requires : tie.Need-answer-is-requires
 answer-is-requires c κs = search needs
 
--- src/main.rt:138:9
 judged-requires-2 : tie.Need-judged-requires-2
 judged-requires-2 c κs = search needs
 
--- src/main.rt:138:9
 same-length-2 : tie.Need-same-length-2
 same-length-2 c = search needs
 
--- src/main.rt:138:9
 returns-4 : tie.Need-returns-4
 returns-4 c = search needs
 
--- src/main.rt:140:24
 byte-at-requires : tie.Need-byte-at-requires
 byte-at-requires c κs = search needs
 
--- src/main.rt:140:5
 changed-requires : tie.Need-changed-requires
 changed-requires c κs = search needs
 
--- src/main.rt:120:1
 same-length-3 : tie.Need-same-length-3
 same-length-3 c = search needs
 
--- src/main.rt:120:1
 returns-5 : tie.Need-returns-5
 returns-5 c = search needs
 

@@ -5,12 +5,6 @@ use native.Mathlib.Omega.{arith}
 use borrow.Author.Needs.{needs}
 use Rattle.set_cases.proofs.compare.Statement.{statement}
 use Rattle.set_cases.proofs.compare.Tie as tie
-use Rattle.set_cases.proofs.compare.Reads as reads
-use Rattle.set_cases.proofs.compare.Lts as lts
-use Rattle.set_cases.proofs.apply.Reads as apply-reads
-use Rattle.set_cases.proofs.size_of.Reads as size-of-reads
-use Rattle.set_cases.proofs.within.Reads as within-reads
-use Rattle.std.proofs.num.wrapping_add_u32.Reads as wrapping-add-u32-reads
 
 abbrev Inv-loop : tie.InvT-loop
 Inv-loop set₀ s t₀ at₀ set t at = (at ≤ length s) × (length set ≡ length set₀)
@@ -18,67 +12,51 @@ Inv-loop set₀ s t₀ at₀ set t at = (at ≤ length s) × (length set ≡ len
 abbrev μ-loop : tie.MeasureT-loop
 μ-loop set₀ s t₀ at₀ set t at = length s - at
 
--- src/main.rt:160:5
 loop-holds : tie.Need-loop-holds Inv-loop μ-loop
 loop-holds c = (omega arith, refl)
 
--- src/main.rt:161:24
 sub-apply : tie.Need-sub-apply Inv-loop μ-loop
 sub-apply c = search needs
 
--- src/main.rt:161:24
 part-apply-start : tie.Need-part-apply-start Inv-loop μ-loop
 part-apply-start c = search needs
 
--- src/main.rt:161:24
 part-apply-end : tie.Need-part-apply-end Inv-loop μ-loop
 part-apply-end c = search needs
 
--- src/main.rt:161:9
 apply-requires : tie.Need-apply-requires Inv-loop μ-loop
 apply-requires c κs = search needs
 
--- src/main.rt:162:9
 wrapping-add-u32-requires : tie.Need-wrapping-add-u32-requires Inv-loop μ-loop
 wrapping-add-u32-requires c κs = search needs
 
--- src/main.rt:163:28
 sub-size-of : tie.Need-sub-size-of Inv-loop μ-loop
 sub-size-of c = search needs
 
--- src/main.rt:163:28
 part-size-of-start : tie.Need-part-size-of-start Inv-loop μ-loop
 part-size-of-start c = search needs
 
--- src/main.rt:163:28
 part-size-of-end : tie.Need-part-size-of-end Inv-loop μ-loop
 part-size-of-end c = search needs
 
--- src/main.rt:163:13
 size-of-requires : tie.Need-size-of-requires Inv-loop μ-loop
 size-of-requires c κs = search needs
 
--- src/main.rt:164:21
 add-within : tie.Need-add-within Inv-loop μ-loop
 add-within c = search needs
 
--- src/main.rt:164:9
 within-requires : tie.Need-within-requires Inv-loop μ-loop
 within-requires c κs = search needs
 
--- src/main.rt:160:5
 loop-less : tie.Need-loop-less Inv-loop μ-loop
 loop-less c = omega (arith, c .before .size-of .ensures .0)
 
--- src/main.rt:160:5
 loop-again : tie.Need-loop-again Inv-loop μ-loop
 loop-again c = search needs
 
--- src/main.rt:152:1
 same-length : tie.Need-same-length Inv-loop μ-loop
 same-length c = c .before .loop .inv .1
 
--- src/main.rt:152:1
 returns : tie.Need-returns Inv-loop μ-loop
 returns c = search needs
 
