@@ -11,7 +11,7 @@ use Rattle.wire.specs.Encoding.{Field}
 use Rattle.descriptor.specs.Descriptor.{Bytes}
 use Rattle.descriptor.specs.Decode.{entries, bytes-in, parts}
 use Rattle.limits.specs.Sums.{sum, bit}
-use Rattle.limits.specs.Weights.{text-length, message-below, sort-below, counts, around-below, holds-none, weight, field-weight, tally}
+use Rattle.limits.specs.Weights.{text-length, message-below, value-below, sort-below, counts, around-below, holds-none, weight, field-weight, tally}
 use Rattle.limits.proofs.SumLaws.{sum-same, sum-plus}
 use Rattle.limits.proofs.TallyLaws.{tally-none}
 
@@ -60,7 +60,7 @@ module _ (g : ℕ → Bytes → ℕ) (no-sort : (p : Bytes) → g 0 p ≡ 0) (le
       (λ d. choose-case P (eqb (f .number) 8) (λ e. rw (eqb-true (f .number) 8 e) (omega arith)) (λ h. rw (a, c, d, h, none)))))
 
   enum-field : (f : Field) → g (sort-below 5 left (f .number)) (bytes-in (f .value)) ≡ at-number 2 (g 6) f
-  unfolding sort-below choose
+  unfolding sort-below value-below choose
   enum-field f =
       let b : Bytes = bytes-in (f .value) in
       let none = no-sort b in

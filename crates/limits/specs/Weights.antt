@@ -25,6 +25,9 @@ deep-message = 7
 unfoldable pub message-below : ℕ → ℕ
 message-below left = choose (ltb left 3) deep-message message
 
+unfoldable pub value-below : ℕ → ℕ
+value-below number = choose (eqb number 2) value no-sort
+
 -- the sort of what a message of a sort holds with a field number
 unfoldable pub sort-below : ℕ → ℕ → ℕ → ℕ
 sort-below sort left number =
@@ -32,7 +35,7 @@ sort-below sort left number =
     (choose (eqb sort file) (choose (eqb number 4) (message-below left) (choose (eqb number 5) enum no-sort))
     (choose (eqb sort message)
     (choose (eqb number 2) field (choose (eqb number 3) (message-below left) (choose (eqb number 4) enum (choose (eqb number 8) oneof no-sort))))
-    (choose (eqb sort enum) (choose (eqb number 2) value no-sort) no-sort)))
+    (choose (eqb sort enum) (value-below number) no-sort)))
 
 -- a string by its field number; one that is missing has no bytes
 abbrev pub bytes-or-none : Option Bytes → Bytes

@@ -5,7 +5,7 @@ ghost use lib.ListN.{length};
 ghost use Rattle.descriptor.specs.Limits.{limit-passed};
 ghost use Rattle.limits.specs.Answer.{read-set};
 ghost use Rattle.limits.specs.Sums.{bit};
-ghost use Rattle.limits.specs.Weights.{text-bytes, text-length, long-segment, message-below, sort-below, counts, around-below, tally, most, passes, long-name, long-full-name, holds-none};
+ghost use Rattle.limits.specs.Weights.{value-below, text-bytes, text-length, long-segment, message-below, sort-below, counts, around-below, tally, most, passes, long-name, long-full-name, holds-none};
 use known_fields::Checked;
 use wire::Record;
 use wire::Step;
@@ -100,6 +100,15 @@ fn message_below(left: usize) -> usize
     2
 }
 
+fn value_below(number: u64) -> usize
+    ensures { λ r. ⌜ r ≡ value-below number ⌝ }
+{
+    if number == 2 {
+        return 6;
+    }
+    0
+}
+
 fn sort_below(sort: usize, left: usize, number: u64) -> usize
     ensures { λ r. ⌜ r ≡ sort-below sort left number ⌝ }
 {
@@ -134,10 +143,7 @@ fn sort_below(sort: usize, left: usize, number: u64) -> usize
         return 0;
     }
     if sort == 5 {
-        if number == 2 {
-            return 6;
-        }
-        return 0;
+        return value_below(number);
     }
     0
 }

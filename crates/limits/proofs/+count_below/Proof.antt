@@ -42,96 +42,73 @@ abbrev count-below-μ-loop : count-below-lts.MeasureT-loop
 count-below-μ-loop s limit sort around left fewer at₀ n₀ at n = length s - at
 
 module _ (t : ℕ) where
-  -- src/lib.rt:234:9
   count-below-returns : count-below-lts.Need-returns (count-below-claims t) (count-below-at t) count-below.Post count-below-Inv-loop count-below-μ-loop
   unfolding tally
   count-below-returns c = (rw (c .if1 .taken), omega arith)
 
-  -- src/lib.rt:236:8
   count-below-holds-none-requires : count-below-lts.Need-holds-none-requires (count-below-claims t) (count-below-at t) count-below.Post count-below-Inv-loop count-below-μ-loop
   count-below-holds-none-requires c κs = search needs
 
-  -- src/lib.rt:237:9
   count-below-returns-2 : count-below-lts.Need-returns-2 (count-below-claims t) (count-below-at t) count-below.Post count-below-Inv-loop count-below-μ-loop
   count-below-returns-2 c = (sym (tally-none _ _ _ _ _ (sym (c .before .holds-none .ensures) ∙ c .if2 .taken)), omega arith)
 
-  -- src/lib.rt:239:17
   count-below-sub-fewer : count-below-lts.Need-sub-fewer (count-below-claims t) (count-below-at t) count-below.Post count-below-Inv-loop count-below-μ-loop
   count-below-sub-fewer c = search needs
 
-  -- src/lib.rt:242:5
   count-below-loop-holds : count-below-lts.Need-loop-holds (count-below-claims t) (count-below-at t) count-below.Post count-below-Inv-loop count-below-μ-loop
   count-below-loop-holds c = (omega arith, omega arith, tally-is _ _ _ _ _ (c .before .before .if1 .left))
 
-  -- src/lib.rt:243:15
   count-below-read-step-requires : count-below-lts.Need-read-step-requires (count-below-claims t) (count-below-at t) count-below.Post count-below-Inv-loop count-below-μ-loop
   count-below-read-step-requires c κs = search needs
 
-  -- src/lib.rt:244:26
   count-below-enum-told : count-below-lts.Need-enum-told (count-below-claims t) (count-below-at t) count-below.Post count-below-Inv-loop count-below-μ-loop
   count-below-enum-told c = search needs
 
-  -- src/lib.rt:244:26
   count-below-returns-3 : count-below-lts.Need-returns-3 (count-below-claims t) (count-below-at t) count-below.Post count-below-Inv-loop count-below-μ-loop
   count-below-returns-3 c = (tally-end _ _ _ _ _ _ _ _ (c .before .before .read-step .ensures) _ (c .enum-told .given .1) ∙ c .before .before .before .loop .inv .2, omega (arith, c .before .before .before .loop .inv .0, c .before .before .before .loop .inv .1))
 
-  -- src/lib.rt:245:31
   count-below-enum-told-2 : count-below-lts.Need-enum-told-2 (count-below-claims t) (count-below-at t) count-below.Post count-below-Inv-loop count-below-μ-loop
   count-below-enum-told-2 c = search needs
 
-  -- src/lib.rt:245:31
   count-below-returns-4 : count-below-lts.Need-returns-4 (count-below-claims t) (count-below-at t) count-below.Post count-below-Inv-loop count-below-μ-loop
   count-below-returns-4 c = (tally-fault _ _ _ _ _ _ _ _ (c .before .before .read-step .ensures) _ _ (c .enum-told2 .given .1) ∙ c .before .before .before .loop .inv .2, omega (arith, c .before .before .before .loop .inv .0, c .before .before .before .loop .inv .1))
 
-  -- src/lib.rt:246:25
   count-below-enum-known-f : count-below-lts.Need-enum-known-f (count-below-claims t) (count-below-at t) count-below.Post count-below-Inv-loop count-below-μ-loop
   count-below-enum-known-f c = search needs
 
-  -- src/lib.rt:248:21
   count-below-sort-below-requires : count-below-lts.Need-sort-below-requires (count-below-claims t) (count-below-at t) count-below.Post count-below-Inv-loop count-below-μ-loop
   count-below-sort-below-requires c κs = search needs
 
-  -- src/lib.rt:250:25
   count-below-embedded-requires : count-below-lts.Need-embedded-requires (count-below-claims t) (count-below-at t) count-below.Post count-below-Inv-loop count-below-μ-loop
   count-below-embedded-requires c κs = search needs
 
-  -- src/lib.rt:251:38
   count-below-counts-requires : count-below-lts.Need-counts-requires (count-below-claims t) (count-below-at t) count-below.Post count-below-Inv-loop count-below-μ-loop
   count-below-counts-requires c κs = let l = part-small _ _ _ (c .embedded .ensures) in omega arith
 
-  -- src/lib.rt:251:25
   count-below-one-if-requires : count-below-lts.Need-one-if-requires (count-below-claims t) (count-below-at t) count-below.Post count-below-Inv-loop count-below-μ-loop
   count-below-one-if-requires c κs = search needs
 
-  -- src/lib.rt:252:25
   count-below-around-below-requires : count-below-lts.Need-around-below-requires (count-below-claims t) (count-below-at t) count-below.Post count-below-Inv-loop count-below-μ-loop
   count-below-around-below-requires c κs = let l = part-small _ _ _ (c .before .before .embedded .ensures) in omega arith
 
-  -- src/lib.rt:253:25
   count-below-count-below-requires : count-below-lts.Need-count-below-requires (count-below-claims t) (count-below-at t) count-below.Post count-below-Inv-loop count-below-μ-loop
   count-below-count-below-requires c κs = let l = part-small _ _ _ (c .before .before .before .embedded .ensures) in omega (arith, c .around-below .ensures .1)
 
-  -- src/lib.rt:254:32
   count-below-add-more : count-below-lts.Need-add-more (count-below-claims t) (count-below-at t) count-below.Post count-below-Inv-loop count-below-μ-loop
   count-below-add-more c = search needs
 
-  -- src/lib.rt:255:25
   count-below-add-n : count-below-lts.Need-add-n (count-below-claims t) (count-below-at t) count-below.Post count-below-Inv-loop count-below-μ-loop
   count-below-add-n c = let g = tally-room _ _ _ (c .before .before .before .before .embedded .ensures) _ _ (c .before .before .before .before .before .before .before .before .before .before .read-step .ensures) (c .before .before .before .before .before .before .before .before .f .given .1) _ _ _ (c .before .before .before .before .before .before .before .before .before .before .before .loop .inv .0) (c .before .before .one-if .ensures .1) (c .count-below .ensures .1) in omega arith
 
-  -- src/lib.rt:242:5
   count-below-loop-less : count-below-lts.Need-loop-less (count-below-claims t) (count-below-at t) count-below.Post count-below-Inv-loop count-below-μ-loop
   count-below-loop-less c = search places
 
-  -- src/lib.rt:242:5
   count-below-loop-again : count-below-lts.Need-loop-again (count-below-claims t) (count-below-at t) count-below.Post count-below-Inv-loop count-below-μ-loop
   count-below-loop-again c = (tally-room _ _ _ (c .before .before .before .before .embedded .ensures) _ _ (c .before .before .before .before .before .before .before .before .before .before .read-step .ensures) (c .before .before .before .before .before .before .before .before .f .given .1) _ _ _ (c .before .before .before .before .before .before .before .before .before .before .before .loop .inv .0) (c .before .before .one-if .ensures .1) (c .count-below .ensures .1), search places, tally-found _ _ _ _ _ _ _ _ (c .before .before .before .before .before .before .before .before .before .before .read-step .ensures) _ _ (c .before .before .before .before .before .before .before .before .f .given .1) _ (c .before .before .before .before .before .before .sort-below .ensures) _ (c .before .before .before .before .embedded .ensures) _ (c .before .before .before .counts .ensures) _ (c .before .before .one-if .ensures .0) _ (c .before .around-below .ensures .0) _ (c .count-below .ensures .0) (c .before .before .before .before .before .if3 .taken) ∙ c .before .before .before .before .before .before .before .before .before .before .before .loop .inv .2)
 
-  -- src/lib.rt:242:5
   count-below-loop-less-2 : count-below-lts.Need-loop-less-2 (count-below-claims t) (count-below-at t) count-below.Post count-below-Inv-loop count-below-μ-loop
   count-below-loop-less-2 c = search places
 
-  -- src/lib.rt:242:5
   count-below-loop-again-2 : count-below-lts.Need-loop-again-2 (count-below-claims t) (count-below-at t) count-below.Post count-below-Inv-loop count-below-μ-loop
   count-below-loop-again-2 c = (search places, search places, tally-skip _ _ _ _ _ _ _ _ (c .before .before .before .before .before .read-step .ensures) _ _ (c .before .before .before .f .given .1) _ (c .before .sort-below .ensures) (c .if3 .left) ∙ c .before .before .before .before .before .before .loop .inv .2)
 

@@ -7,46 +7,34 @@ use Rattle.limits.specs.Weights.{around-below, text-length}
 use borrow.Author.Needs.{needs}
 use Rattle.limits.proofs.around_below.Statement.{statement}
 use Rattle.limits.proofs.around_below.Tie as tie
-use Rattle.limits.proofs.around_below.Reads as reads
-use Rattle.limits.proofs.around_below.Lts as lts
-use Rattle.limits.proofs.last_length.Reads as last-length-reads
 
--- src/lib.rt:205:13
 last-length-requires : tie.Need-last-length-requires
 last-length-requires c κs = search needs
 
--- src/lib.rt:207:13
 returns : tie.Need-returns
 unfolding around-below
 returns c = (rw (← c .before .last-length .ensures .0) (search (choices, c .before .before .if1 .taken, c .if2 .taken) depth 16), omega arith)
 
--- src/lib.rt:209:16
 add-result : tie.Need-add-result
 add-result c = search needs
 
--- src/lib.rt:209:9
 returns-2 : tie.Need-returns-2
 unfolding around-below
 returns-2 c = (rw (← c .before .last-length .ensures .0) (search (choices, c .before .before .if1 .taken, c .if2 .left) depth 16), omega (arith, c .before .last-length .ensures .1))
 
--- src/lib.rt:212:13
 last-length-requires-2 : tie.Need-last-length-requires-2
 last-length-requires-2 c κs = search needs
 
--- src/lib.rt:213:19
 add-dot : tie.Need-add-dot
 add-dot c = search needs
 
--- src/lib.rt:214:16
 add-result-2 : tie.Need-add-result-2
 add-result-2 c = search needs
 
--- src/lib.rt:214:9
 returns-3 : tie.Need-returns-3
 unfolding around-below
 returns-3 c = (rw (← c .last-length2 .ensures .0) (search (choices, c .before .before .if1 .left, c .before .if3 .taken) depth 16), omega (arith, c .last-length2 .ensures .1))
 
--- src/lib.rt:200:1
 returns-4 : tie.Need-returns-4
 unfolding around-below
 returns-4 c = (search (choices, c .before .if1 .left, c .if3 .left) depth 16, omega arith)

@@ -10,10 +10,6 @@ use lib.ListN.{length}
 use borrow.Author.Needs.{needs}
 use Rattle.limits.proofs.last_part.Statement.{statement}
 use Rattle.limits.proofs.last_part.Tie as tie
-use Rattle.limits.proofs.last_part.Reads as reads
-use Rattle.limits.proofs.last_part.Lts as lts
-use Rattle.parts.proofs.embedded.Reads as embedded-reads
-use Rattle.wire.proofs.read_step.Reads as read-step-reads
 
 abbrev Inv-loop : tie.InvT-loop
 Inv-loop s number at₀ last₀ at last = bytes-from number s at (bytes-in (value-of s last)) ≡ text-bytes number s
@@ -21,56 +17,43 @@ Inv-loop s number at₀ last₀ at last = bytes-from number s at (bytes-in (valu
 abbrev μ-loop : tie.MeasureT-loop
 μ-loop s number at₀ last₀ at last = length s - at
 
--- src/lib.rt:42:5
 loop-holds : tie.Need-loop-holds Inv-loop μ-loop
 unfolding value-of choose
 loop-holds c = bytes-all _ _
 
--- src/lib.rt:43:15
 read-step-requires : tie.Need-read-step-requires Inv-loop μ-loop
 read-step-requires c κs = search needs
 
--- src/lib.rt:44:26
 enum-told : tie.Need-enum-told Inv-loop μ-loop
 enum-told c = search needs
 
--- src/lib.rt:44:26
 embedded-requires : tie.Need-embedded-requires Inv-loop μ-loop
 embedded-requires c κs = search needs
 
--- src/lib.rt:44:26
 returns : tie.Need-returns Inv-loop μ-loop
 returns c = (c .embedded .ensures ∙ bytes-end _ _ _ _ (c .before .before .before .read-step .ensures) _ (c .before .enum-told .given .1) ∙ c .before .before .before .before .loop .inv, rw (c .embedded .ensures) (inside-length _ _ .1))
 
--- src/lib.rt:45:31
 enum-told-2 : tie.Need-enum-told-2 Inv-loop μ-loop
 enum-told-2 c = search needs
 
--- src/lib.rt:45:31
 embedded-requires-2 : tie.Need-embedded-requires-2 Inv-loop μ-loop
 embedded-requires-2 c κs = search needs
 
--- src/lib.rt:45:31
 returns-2 : tie.Need-returns-2 Inv-loop μ-loop
 returns-2 c = (c .embedded2 .ensures ∙ bytes-fault _ _ _ _ (c .before .before .before .read-step .ensures) _ _ (c .before .enum-told2 .given .1) ∙ c .before .before .before .before .loop .inv, rw (c .embedded2 .ensures) (inside-length _ _ .1))
 
--- src/lib.rt:46:25
 enum-known-f : tie.Need-enum-known-f Inv-loop μ-loop
 enum-known-f c = search needs
 
--- src/lib.rt:42:5
 loop-less : tie.Need-loop-less Inv-loop μ-loop
 loop-less c = search places
 
--- src/lib.rt:42:5
 loop-again : tie.Need-loop-again Inv-loop μ-loop
 loop-again c = bytes-found _ _ _ _ (c .before .before .before .before .before .read-step .ensures) _ _ (c .before .before .before .f .given .1) (c .if1 .taken) ∙ c .before .before .before .before .before .before .loop .inv
 
--- src/lib.rt:42:5
 loop-less-2 : tie.Need-loop-less-2 Inv-loop μ-loop
 loop-less-2 c = search places
 
--- src/lib.rt:42:5
 loop-again-2 : tie.Need-loop-again-2 Inv-loop μ-loop
 loop-again-2 c = bytes-skip _ _ _ _ (c .before .before .before .before .before .read-step .ensures) _ _ (c .before .before .before .f .given .1) (c .if1 .left) ∙ c .before .before .before .before .before .before .loop .inv
 

@@ -4,88 +4,64 @@ use Rattle.limits.proofs.LimitLaws.{limit-is}
 use borrow.Author.Needs.{needs}
 use Rattle.limits.proofs.limit_passed.Statement.{statement}
 use Rattle.limits.proofs.limit_passed.Tie as tie
-use Rattle.limits.proofs.limit_passed.Reads as reads
-use Rattle.limits.proofs.limit_passed.Lts as lts
-use Rattle.limits.proofs.passes.Reads as passes-reads
-use Rattle.parts.proofs.count_parts.Reads as count-parts-reads
 
--- src/lib.rt:300:9
 returns : tie.Need-returns
 returns c = rw (limit-is (c .before .before .args .s .now)) (search (choices, calls, c .if1 .taken) depth 24)
 
--- src/lib.rt:302:20
 count-parts-requires : tie.Need-count-parts-requires
 count-parts-requires c κs = search needs
 
--- src/lib.rt:303:9
 returns-2 : tie.Need-returns-2
 returns-2 c = rw (limit-is (c .before .before .before .before .args .s .now), ← c .before .count-parts .ensures) (search (choices, calls, c .before .before .if1 .left, c .if2 .taken) depth 24)
 
--- src/lib.rt:305:8
 passes-requires : tie.Need-passes-requires
 passes-requires c κs = search needs
 
--- src/lib.rt:306:9
 returns-3 : tie.Need-returns-3
 returns-3 c = rw (limit-is (c .before .before .before .before .before .before .args .s .now), ← c .before .before .before .count-parts .ensures) (else-lt _ _ _ _ _ (c .before .before .before .before .if1 .left) (else-lt _ _ _ _ _ (c .before .before .if2 .left) (call-true _ _ _ _ _ (c .before .passes .ensures) (c .if3 .taken) refl)))
 
--- src/lib.rt:308:8
 passes-requires-2 : tie.Need-passes-requires-2
 passes-requires-2 c κs = search needs
 
--- src/lib.rt:309:9
 returns-4 : tie.Need-returns-4
 returns-4 c = rw (limit-is (c .before .before .before .before .before .before .before .before .args .s .now), ← c .before .before .before .before .before .count-parts .ensures) (else-lt _ _ _ _ _ (c .before .before .before .before .before .before .if1 .left) (else-lt _ _ _ _ _ (c .before .before .before .before .if2 .left) (call-false _ _ _ _ _ (c .before .before .before .passes .ensures) (c .before .before .if3 .left) (call-true _ _ _ _ _ (c .before .passes2 .ensures) (c .if4 .taken) refl))))
 
--- src/lib.rt:311:8
 passes-requires-3 : tie.Need-passes-requires-3
 passes-requires-3 c κs = search needs
 
--- src/lib.rt:312:9
 returns-5 : tie.Need-returns-5
 returns-5 c = rw (limit-is (c .before .before .before .before .before .before .before .before .before .before .args .s .now), ← c .before .before .before .before .before .before .before .count-parts .ensures) (else-lt _ _ _ _ _ (c .before .before .before .before .before .before .before .before .if1 .left) (else-lt _ _ _ _ _ (c .before .before .before .before .before .before .if2 .left) (call-false _ _ _ _ _ (c .before .before .before .before .before .passes .ensures) (c .before .before .before .before .if3 .left) (call-false _ _ _ _ _ (c .before .before .before .passes2 .ensures) (c .before .before .if4 .left) (call-true _ _ _ _ _ (c .before .passes3 .ensures) (c .if5 .taken) refl)))))
 
--- src/lib.rt:314:8
 passes-requires-4 : tie.Need-passes-requires-4
 passes-requires-4 c κs = search needs
 
--- src/lib.rt:315:9
 returns-6 : tie.Need-returns-6
 returns-6 c = rw (limit-is (c .before .before .before .before .before .before .before .before .before .before .before .before .args .s .now), ← c .before .before .before .before .before .before .before .before .before .count-parts .ensures) (else-lt _ _ _ _ _ (c .before .before .before .before .before .before .before .before .before .before .if1 .left) (else-lt _ _ _ _ _ (c .before .before .before .before .before .before .before .before .if2 .left) (call-false _ _ _ _ _ (c .before .before .before .before .before .before .before .passes .ensures) (c .before .before .before .before .before .before .if3 .left) (call-false _ _ _ _ _ (c .before .before .before .before .before .passes2 .ensures) (c .before .before .before .before .if4 .left) (call-false _ _ _ _ _ (c .before .before .before .passes3 .ensures) (c .before .before .if5 .left) (call-true _ _ _ _ _ (c .before .passes4 .ensures) (c .if6 .taken) refl))))))
 
--- src/lib.rt:317:8
 passes-requires-5 : tie.Need-passes-requires-5
 passes-requires-5 c κs = search needs
 
--- src/lib.rt:318:9
 returns-7 : tie.Need-returns-7
 returns-7 c = rw (limit-is (c .before .before .before .before .before .before .before .before .before .before .before .before .before .before .args .s .now), ← c .before .before .before .before .before .before .before .before .before .before .before .count-parts .ensures) (else-lt _ _ _ _ _ (c .before .before .before .before .before .before .before .before .before .before .before .before .if1 .left) (else-lt _ _ _ _ _ (c .before .before .before .before .before .before .before .before .before .before .if2 .left) (call-false _ _ _ _ _ (c .before .before .before .before .before .before .before .before .before .passes .ensures) (c .before .before .before .before .before .before .before .before .if3 .left) (call-false _ _ _ _ _ (c .before .before .before .before .before .before .before .passes2 .ensures) (c .before .before .before .before .before .before .if4 .left) (call-false _ _ _ _ _ (c .before .before .before .before .before .passes3 .ensures) (c .before .before .before .before .if5 .left) (call-false _ _ _ _ _ (c .before .before .before .passes4 .ensures) (c .before .before .if6 .left) (call-true _ _ _ _ _ (c .before .passes5 .ensures) (c .if7 .taken) refl)))))))
 
--- src/lib.rt:320:8
 passes-requires-6 : tie.Need-passes-requires-6
 passes-requires-6 c κs = search needs
 
--- src/lib.rt:321:9
 returns-8 : tie.Need-returns-8
 returns-8 c = rw (limit-is (c .before .before .before .before .before .before .before .before .before .before .before .before .before .before .before .before .args .s .now), ← c .before .before .before .before .before .before .before .before .before .before .before .before .before .count-parts .ensures) (else-lt _ _ _ _ _ (c .before .before .before .before .before .before .before .before .before .before .before .before .before .before .if1 .left) (else-lt _ _ _ _ _ (c .before .before .before .before .before .before .before .before .before .before .before .before .if2 .left) (call-false _ _ _ _ _ (c .before .before .before .before .before .before .before .before .before .before .before .passes .ensures) (c .before .before .before .before .before .before .before .before .before .before .if3 .left) (call-false _ _ _ _ _ (c .before .before .before .before .before .before .before .before .before .passes2 .ensures) (c .before .before .before .before .before .before .before .before .if4 .left) (call-false _ _ _ _ _ (c .before .before .before .before .before .before .before .passes3 .ensures) (c .before .before .before .before .before .before .if5 .left) (call-false _ _ _ _ _ (c .before .before .before .before .before .passes4 .ensures) (c .before .before .before .before .if6 .left) (call-false _ _ _ _ _ (c .before .before .before .passes5 .ensures) (c .before .before .if7 .left) (call-true _ _ _ _ _ (c .before .passes6 .ensures) (c .if8 .taken) refl))))))))
 
--- src/lib.rt:323:8
 passes-requires-7 : tie.Need-passes-requires-7
 passes-requires-7 c κs = search needs
 
--- src/lib.rt:324:9
 returns-9 : tie.Need-returns-9
 returns-9 c = rw (limit-is (c .before .before .before .before .before .before .before .before .before .before .before .before .before .before .before .before .before .before .args .s .now), ← c .before .before .before .before .before .before .before .before .before .before .before .before .before .before .before .count-parts .ensures) (else-lt _ _ _ _ _ (c .before .before .before .before .before .before .before .before .before .before .before .before .before .before .before .before .if1 .left) (else-lt _ _ _ _ _ (c .before .before .before .before .before .before .before .before .before .before .before .before .before .before .if2 .left) (call-false _ _ _ _ _ (c .before .before .before .before .before .before .before .before .before .before .before .before .before .passes .ensures) (c .before .before .before .before .before .before .before .before .before .before .before .before .if3 .left) (call-false _ _ _ _ _ (c .before .before .before .before .before .before .before .before .before .before .before .passes2 .ensures) (c .before .before .before .before .before .before .before .before .before .before .if4 .left) (call-false _ _ _ _ _ (c .before .before .before .before .before .before .before .before .before .passes3 .ensures) (c .before .before .before .before .before .before .before .before .if5 .left) (call-false _ _ _ _ _ (c .before .before .before .before .before .before .before .passes4 .ensures) (c .before .before .before .before .before .before .if6 .left) (call-false _ _ _ _ _ (c .before .before .before .before .before .passes5 .ensures) (c .before .before .before .before .if7 .left) (call-false _ _ _ _ _ (c .before .before .before .passes6 .ensures) (c .before .before .if8 .left) (call-true _ _ _ _ _ (c .before .passes7 .ensures) (c .if9 .taken) refl)))))))))
 
--- src/lib.rt:326:8
 passes-requires-8 : tie.Need-passes-requires-8
 passes-requires-8 c κs = search needs
 
--- src/lib.rt:327:9
 returns-10 : tie.Need-returns-10
 returns-10 c = rw (limit-is (c .before .before .before .before .before .before .before .before .before .before .before .before .before .before .before .before .before .before .before .before .args .s .now), ← c .before .before .before .before .before .before .before .before .before .before .before .before .before .before .before .before .before .count-parts .ensures) (else-lt _ _ _ _ _ (c .before .before .before .before .before .before .before .before .before .before .before .before .before .before .before .before .before .before .if1 .left) (else-lt _ _ _ _ _ (c .before .before .before .before .before .before .before .before .before .before .before .before .before .before .before .before .if2 .left) (call-false _ _ _ _ _ (c .before .before .before .before .before .before .before .before .before .before .before .before .before .before .before .passes .ensures) (c .before .before .before .before .before .before .before .before .before .before .before .before .before .before .if3 .left) (call-false _ _ _ _ _ (c .before .before .before .before .before .before .before .before .before .before .before .before .before .passes2 .ensures) (c .before .before .before .before .before .before .before .before .before .before .before .before .if4 .left) (call-false _ _ _ _ _ (c .before .before .before .before .before .before .before .before .before .before .before .passes3 .ensures) (c .before .before .before .before .before .before .before .before .before .before .if5 .left) (call-false _ _ _ _ _ (c .before .before .before .before .before .before .before .before .before .passes4 .ensures) (c .before .before .before .before .before .before .before .before .if6 .left) (call-false _ _ _ _ _ (c .before .before .before .before .before .before .before .passes5 .ensures) (c .before .before .before .before .before .before .if7 .left) (call-false _ _ _ _ _ (c .before .before .before .before .before .passes6 .ensures) (c .before .before .before .before .if8 .left) (call-false _ _ _ _ _ (c .before .before .before .passes7 .ensures) (c .before .before .if9 .left) (call-true _ _ _ _ _ (c .before .passes8 .ensures) (c .if10 .taken) refl))))))))))
 
--- src/lib.rt:296:1
 returns-11 : tie.Need-returns-11
 returns-11 c = rw (limit-is (c .before .before .before .before .before .before .before .before .before .before .before .before .before .before .before .before .before .before .before .before .args .s .now), ← c .before .before .before .before .before .before .before .before .before .before .before .before .before .before .before .before .before .count-parts .ensures) (else-lt _ _ _ _ _ (c .before .before .before .before .before .before .before .before .before .before .before .before .before .before .before .before .before .before .if1 .left) (else-lt _ _ _ _ _ (c .before .before .before .before .before .before .before .before .before .before .before .before .before .before .before .before .if2 .left) (call-false _ _ _ _ _ (c .before .before .before .before .before .before .before .before .before .before .before .before .before .before .before .passes .ensures) (c .before .before .before .before .before .before .before .before .before .before .before .before .before .before .if3 .left) (call-false _ _ _ _ _ (c .before .before .before .before .before .before .before .before .before .before .before .before .before .passes2 .ensures) (c .before .before .before .before .before .before .before .before .before .before .before .before .if4 .left) (call-false _ _ _ _ _ (c .before .before .before .before .before .before .before .before .before .before .before .passes3 .ensures) (c .before .before .before .before .before .before .before .before .before .before .if5 .left) (call-false _ _ _ _ _ (c .before .before .before .before .before .before .before .before .before .passes4 .ensures) (c .before .before .before .before .before .before .before .before .if6 .left) (call-false _ _ _ _ _ (c .before .before .before .before .before .before .before .passes5 .ensures) (c .before .before .before .before .before .before .if7 .left) (call-false _ _ _ _ _ (c .before .before .before .before .before .passes6 .ensures) (c .before .before .before .before .if8 .left) (call-false _ _ _ _ _ (c .before .before .before .passes7 .ensures) (c .before .before .if9 .left) (call-false _ _ _ _ _ (c .before .passes8 .ensures) (c .if10 .left) (refl)))))))))))
 

@@ -7,8 +7,6 @@ use lib.ListN.{length, drop}
 use borrow.Author.Needs.{needs}
 use Rattle.limits.proofs.long_segment.Statement.{statement}
 use Rattle.limits.proofs.long_segment.Tie as tie
-use Rattle.limits.proofs.long_segment.Reads as reads
-use Rattle.limits.proofs.long_segment.Lts as lts
 
 abbrev Inv-loop : tie.InvT-loop
 Inv-loop s i₀ len₀ i len = (len ≤ i) × (i ≤ length s) × (long-from len (drop i s) ≡ long-segment s)
@@ -16,43 +14,33 @@ Inv-loop s i₀ len₀ i len = (len ≤ i) × (i ≤ length s) × (long-from len
 abbrev μ-loop : tie.MeasureT-loop
 μ-loop s i₀ len₀ i len = length s - i
 
--- src/lib.rt:69:5
 loop-holds : tie.Need-loop-holds Inv-loop μ-loop
 loop-holds c = (omega arith, omega arith, long-all _)
 
--- src/lib.rt:70:20
 shared-slice-read-byte : tie.Need-shared-slice-read-byte Inv-loop μ-loop
 shared-slice-read-byte c = search needs
 
--- src/lib.rt:71:22
 add-longer : tie.Need-add-longer Inv-loop μ-loop
 add-longer c = search needs
 
--- src/lib.rt:72:13
 add-i : tie.Need-add-i Inv-loop μ-loop
 add-i c = search needs
 
--- src/lib.rt:75:17
 returns : tie.Need-returns Inv-loop μ-loop
 returns c = long-at-dot _ _ _ (c .before .before .before .loop-test .taken) (c .before .if1 .taken) (c .if2 .taken) ∙ c .before .before .before .before .loop .inv .2
 
--- src/lib.rt:69:5
 loop-less : tie.Need-loop-less Inv-loop μ-loop
 loop-less c = omega arith
 
--- src/lib.rt:69:5
 loop-again : tie.Need-loop-again Inv-loop μ-loop
 loop-again c = (omega arith, omega arith, long-after-dot _ _ _ (c .before .before .before .loop-test .taken) (c .before .if1 .taken) (c .if2 .left) ∙ c .before .before .before .before .loop .inv .2)
 
--- src/lib.rt:69:5
 loop-less-2 : tie.Need-loop-less-2 Inv-loop μ-loop
 loop-less-2 c = omega arith
 
--- src/lib.rt:69:5
 loop-again-2 : tie.Need-loop-again-2 Inv-loop μ-loop
 loop-again-2 c = (omega arith, omega arith, long-after-byte _ _ _ (c .before .before .loop-test .taken) (c .if1 .left) ∙ c .before .before .before .loop .inv .2)
 
--- src/lib.rt:64:1
 returns-2 : tie.Need-returns-2 Inv-loop μ-loop
 returns-2 c = long-end _ _ _ (c .loop-test .left) ∙ c .before .loop .inv .2
 

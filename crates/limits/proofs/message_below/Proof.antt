@@ -2,15 +2,11 @@ use Rattle.limits.specs.Weights.{message-below}
 use Rattle.base.specs.Choose.{choices}
 use Rattle.limits.proofs.message_below.Statement.{statement}
 use Rattle.limits.proofs.message_below.Tie as tie
-use Rattle.limits.proofs.message_below.Reads as reads
-use Rattle.limits.proofs.message_below.Lts as lts
 
--- src/lib.rt:89:9
 returns : tie.Need-returns
 unfolding message-below
 returns c = search (choices, c .if1 .taken, c .before .args .left, c .before .fits .left) depth 16
 
--- src/lib.rt:85:1
 returns-2 : tie.Need-returns-2
 unfolding message-below
 returns-2 c = search (choices, c .if1 .left, c .before .args .left, c .before .fits .left) depth 16

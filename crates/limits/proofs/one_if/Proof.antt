@@ -2,15 +2,11 @@ use native.Mathlib.Omega.{arith}
 use Rattle.base.specs.Choose.{choose}
 use Rattle.limits.proofs.one_if.Statement.{statement}
 use Rattle.limits.proofs.one_if.Tie as tie
-use Rattle.limits.proofs.one_if.Reads as reads
-use Rattle.limits.proofs.one_if.Lts as lts
 
--- src/lib.rt:223:9
 returns : tie.Need-returns
 unfolding choose
 returns c = (rw (c .if1 .taken), omega arith)
 
--- src/lib.rt:219:1
 returns-2 : tie.Need-returns-2
 unfolding choose
 returns-2 c = (rw (c .if1 .left), omega arith)

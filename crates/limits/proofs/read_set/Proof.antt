@@ -6,43 +6,31 @@ use Rattle.limits.specs.declared.Read.the-variants.{Passed}
 use borrow.Author.Needs.{needs}
 use Rattle.limits.proofs.read_set.Statement.{statement}
 use Rattle.limits.proofs.read_set.Tie as tie
-use Rattle.limits.proofs.read_set.Reads as reads
-use Rattle.limits.proofs.read_set.Lts as lts
-use Rattle.known_fields.proofs.check_set.Reads as check-set-reads
-use Rattle.limits.proofs.limit_passed.Reads as limit-passed-reads
 
--- src/lib.rt:346:9
 returns : tie.Need-returns
 unfolding read-set
 returns c = then-lt _ _ _ _ _ (c .if1 .taken) refl
 
--- src/lib.rt:348:11
 check-set-requires : tie.Need-check-set-requires
 check-set-requires c κs = search needs
 
--- src/lib.rt:349:24
 enum-known-place : tie.Need-enum-known-place
 enum-known-place c = search needs
 
--- src/lib.rt:349:34
 returns-2 : tie.Need-returns-2
 unfolding read-set
 returns-2 c = else-lt _ _ _ _ _ (c .before .before .before .before .if1 .left) (checked-fault _ _ _ _ _ (c .before .before .before .check-set .ensures) _ (c .before .place .given .1) refl)
 
--- src/lib.rt:351:17
 enum-told : tie.Need-enum-told
 enum-told c = search needs
 
--- src/lib.rt:351:17
 limit-passed-requires : tie.Need-limit-passed-requires
 limit-passed-requires c κs = search needs
 
--- src/lib.rt:353:17
 returns-3 : tie.Need-returns-3
 unfolding read-set
 returns-3 c = else-lt _ _ _ _ _ (c .before .before .before .before .before .if1 .left) (checked-fine _ _ _ _ _ (c .before .before .before .before .check-set .ensures) (c .before .before .enum-told .given .1) (rw (← c .before .limit-passed .ensures) (then-eq _ _ _ _ _ (c .if2 .taken) refl)))
 
--- src/lib.rt:355:13
 returns-4 : tie.Need-returns-4
 unfolding read-set
 returns-4 c = else-lt _ _ _ _ _ (c .before .before .before .before .before .if1 .left) (checked-fine _ _ _ _ _ (c .before .before .before .before .check-set .ensures) (c .before .before .enum-told .given .1) (rw (← c .before .limit-passed .ensures) (else-eq _ _ _ _ _ (c .if2 .left) refl)))
