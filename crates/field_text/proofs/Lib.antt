@@ -1,1 +1,2 @@
 pub mod DefaultLaws
+pub mod FullNames

@@ -30,36 +30,36 @@ fn number_or(d: u32, n: Number) -> u32
 pub fn name(s: &[u8], f: FieldView) -> &[u8]
     ensures { λ r. ⌜ now r ≡ text (field-of (now (s .entry)) f .name) ⌝ }
 {
-    let t = f.name;
-    text(s, t)
+    let name = f.name;
+    text(s, name)
 }
 
 pub fn type_name(s: &[u8], f: FieldView) -> &[u8]
     ensures { λ r. ⌜ now r ≡ text (field-of (now (s .entry)) f .type-name) ⌝ }
 {
-    let t = f.typename;
-    text(s, t)
+    let name = f.typename;
+    text(s, name)
 }
 
 pub fn number(s: &[u8], f: FieldView) -> u32
     ensures { λ r. ⌜ r ≡ number (field-of (now (s .entry)) f) ⌝ }
 {
-    let n = f.number;
-    number_or(0, n)
+    let number = f.number;
+    number_or(0, number)
 }
 
 pub fn label(s: &[u8], f: FieldView) -> u32
     ensures { λ r. ⌜ r ≡ label (field-of (now (s .entry)) f) ⌝ }
 {
-    let n = f.label;
-    number_or(1, n)
+    let label = f.label;
+    number_or(1, label)
 }
 
 pub fn kind(s: &[u8], f: FieldView) -> u32
     ensures { λ r. ⌜ r ≡ type (field-of (now (s .entry)) f) ⌝ }
 {
-    let n = f.kind;
-    number_or(1, n)
+    let kind = f.kind;
+    number_or(1, kind)
 }
 
 // The sort of a field's type.

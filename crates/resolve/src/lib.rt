@@ -54,7 +54,15 @@ fn is_message(sort: u8) -> bool
 }
 
 // The Rust type of a field's values.
-pub fn resolve_type(t: &mut [u8], at: usize, o: &[u8], scope: &[u8], s: &[u8], f: FieldView, asbytes: bool) -> usize
+pub fn resolve_type(
+    t: &mut [u8],
+    at: usize,
+    o: &[u8],
+    scope: &[u8],
+    s: &[u8],
+    f: FieldView,
+    asbytes: bool,
+) -> usize
     ensures { λ r. ⌜ Wrote (now (t .entry)) at (flat (resolve-type (settings (now (o .entry))) (now (scope .entry)) asbytes (field-of (now (s .entry)) f))) (now (t .exit)) r ⌝ }
 {
     let sort = accessors::sort(s, f);
@@ -83,7 +91,14 @@ fn tag_ident(t: &mut [u8], at: usize, o: &[u8], scope: &[u8], s: &[u8], f: Field
 }
 
 // The type in a field's tag.
-pub fn field_type_tag(t: &mut [u8], at: usize, o: &[u8], scope: &[u8], s: &[u8], f: FieldView) -> usize
+pub fn field_type_tag(
+    t: &mut [u8],
+    at: usize,
+    o: &[u8],
+    scope: &[u8],
+    s: &[u8],
+    f: FieldView,
+) -> usize
     ensures { λ r. ⌜ Wrote (now (t .entry)) at (flat (field-type-tag (settings (now (o .entry))) (now (scope .entry)) (field-of (now (s .entry)) f))) (now (t .exit)) r ⌝ }
 {
     let sort = accessors::sort(s, f);
@@ -97,7 +112,14 @@ pub fn field_type_tag(t: &mut [u8], at: usize, o: &[u8], scope: &[u8], s: &[u8],
 }
 
 // The type of a map's values in its tag.
-pub fn map_value_type_tag(t: &mut [u8], at: usize, o: &[u8], scope: &[u8], s: &[u8], f: FieldView) -> usize
+pub fn map_value_type_tag(
+    t: &mut [u8],
+    at: usize,
+    o: &[u8],
+    scope: &[u8],
+    s: &[u8],
+    f: FieldView,
+) -> usize
     ensures { λ r. ⌜ Wrote (now (t .entry)) at (flat (map-value-type-tag (settings (now (o .entry))) (now (scope .entry)) (field-of (now (s .entry)) f))) (now (t .exit)) r ⌝ }
 {
     let sort = accessors::sort(s, f);

@@ -52,26 +52,17 @@ fn skip_common(scope: &[u8], ident: &[u8]) -> Places
         let e = name_end(scope, i);
         let f = name_end(ident, j);
         if ident.len() <= f {
-            return Places {
-                scope: i,
-                ident: j,
-            };
+            return Places { scope: i, ident: j };
         }
         let same = base::same_bytes(&scope[i..e], &ident[j..f]);
         if same {
             i = e + 1;
             j = f + 1;
         } else {
-            return Places {
-                scope: i,
-                ident: j,
-            };
+            return Places { scope: i, ident: j };
         }
     }
-    Places {
-        scope: i,
-        ident: j,
-    }
+    Places { scope: i, ident: j }
 }
 
 // `super` for each name of the scope from a place on.

@@ -51,13 +51,13 @@ put-requires-3 : tie.Need-put-requires-3
 put-requires-3 c κs = search needs
 
 -- src/maps.rt:50:1
-same-length : tie.Need-same-length
-same-length c = kept (c .before .before .before .before .before .before .before .before .before .before .before .before .before .before .before .before .before .before .before .before .before .before .before .before .before .before .before .before .before .line-start .ensures ► c .before .before .before .before .before .before .before .before .before .before .before .before .before .before .before .before .before .before .before .before .before .before .before .before .before .map-open .ensures ► c .before .before .before .before .before .before .before .before .before .before .before .before .before .before .before .before .before .before .before .before .before .resolve-type .ensures ► c .before .before .before .before .before .before .before .before .before .before .before .before .before .before .before .before .put .ensures ► c .before .before .before .before .before .before .before .before .before .before .before .before .resolve-type2 .ensures ► c .before .before .before .before .before .before .before .put2 .ensures ► c .before .before .put3 .ensures)
-
--- src/maps.rt:50:1
 returns : tie.Need-returns
 unfolding map-line
 returns c = c .before .before .before .before .before .before .before .before .before .before .before .before .before .before .before .before .before .before .before .before .before .before .before .before .before .before .before .before .before .line-start .ensures ► c .before .before .before .before .before .before .before .before .before .before .before .before .before .before .before .before .before .before .before .before .before .before .before .before .before .map-open .ensures ► c .before .before .before .before .before .before .before .before .before .before .before .before .before .before .before .before .before .before .before .before .before .resolve-type .ensures ► c .before .before .before .before .before .before .before .before .before .before .before .before .before .before .before .before .put .ensures ► c .before .before .before .before .before .before .before .before .before .before .before .before .resolve-type2 .ensures ► c .before .before .before .before .before .before .before .put2 .ensures ► c .before .before .put3 .ensures
+
+-- src/maps.rt:50:1
+same-length : tie.Need-same-length
+same-length c = kept (returns c)
 
 pub map-line-spec : {M : Type 1} → statement M
 map-line-spec =

@@ -73,13 +73,13 @@ put-requires-4 : tie.Need-put-requires-4
 put-requires-4 c κs = search needs
 
 -- src/maps.rt:14:1
-same-length : tie.Need-same-length
-same-length c = kept (c .before .before .before .before .before .before .before .before .before .before .before .before .before .before .before .before .before .before .before .before .before .before .before .before .before .before .before .before .before .before .before .before .before .before .before .put-either .ensures ► c .before .before .before .before .before .before .before .before .before .before .before .before .before .before .before .before .before .before .before .before .before .before .before .before .before .before .before .before .before .before .put .ensures ► c .before .before .before .before .before .before .before .before .before .before .before .before .before .before .before .before .before .before .before .before .before .before .before .before .before .before .field-type-tag .ensures ► c .before .before .before .before .before .before .before .before .before .before .before .before .before .before .before .before .before .before .before .before .before .put2 .ensures ► c .before .before .before .before .before .before .before .before .before .before .before .before .before .before .before .before .before .map-value-type-tag .ensures ► c .before .before .before .before .before .before .before .before .before .before .before .before .put3 .ensures ► c .before .before .before .before .before .before .before .put-number .ensures ► c .before .before .put4 .ensures)
-
--- src/maps.rt:14:1
 returns : tie.Need-returns
 unfolding map-tag
 returns c = rw (← c .before .before .before .before .before .before .before .before .before .number .ensures) (c .before .before .before .before .before .before .before .before .before .before .before .before .before .before .before .before .before .before .before .before .before .before .before .before .before .before .before .before .before .before .before .before .before .before .before .put-either .ensures ► c .before .before .before .before .before .before .before .before .before .before .before .before .before .before .before .before .before .before .before .before .before .before .before .before .before .before .before .before .before .before .put .ensures ► c .before .before .before .before .before .before .before .before .before .before .before .before .before .before .before .before .before .before .before .before .before .before .before .before .before .before .field-type-tag .ensures ► c .before .before .before .before .before .before .before .before .before .before .before .before .before .before .before .before .before .before .before .before .before .put2 .ensures ► c .before .before .before .before .before .before .before .before .before .before .before .before .before .before .before .before .before .map-value-type-tag .ensures ► c .before .before .before .before .before .before .before .before .before .before .before .before .put3 .ensures ► c .before .before .before .before .before .before .before .put-number .ensures ► c .before .before .put4 .ensures)
+
+-- src/maps.rt:14:1
+same-length : tie.Need-same-length
+same-length c = kept (returns c)
 
 pub map-tag-spec : {M : Type 1} → statement M
 map-tag-spec =

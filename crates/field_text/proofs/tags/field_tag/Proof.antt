@@ -63,13 +63,13 @@ put-requires-2 : tie.Need-put-requires-2
 put-requires-2 c κs = search needs
 
 -- src/tags.rt:112:1
-same-length : tie.Need-same-length
-same-length c = kept (c .before .before .before .before .before .before .before .before .before .before .before .before .before .before .before .before .before .before .before .before .before .before .before .before .before .before .before .before .before .before .before .before .before .before .field-type-tag .ensures ► c .before .before .before .before .before .before .before .before .before .before .before .before .before .before .before .before .before .before .before .before .before .before .before .before .before .before .before .before .before .before .bytes-annotation .ensures ► c .before .before .before .before .before .before .before .before .before .before .before .before .before .before .before .before .before .before .before .before .before .before .before .before .before .before .label-tag .ensures ► c .before .before .before .before .before .before .before .before .before .before .before .before .before .before .before .before .before .before .before .before .before .put-if .ensures ► c .before .before .before .before .before .before .before .before .before .before .before .before .before .before .before .before .put .ensures ► c .before .before .before .before .before .before .before .before .before .before .before .put-number .ensures ► c .before .before .before .before .before .before .before .default-tag .ensures ► c .before .before .put2 .ensures)
-
--- src/tags.rt:112:1
 returns : tie.Need-returns
 unfolding field-tag
 returns c = rw (← c .before .before .before .before .before .before .before .before .before .before .before .before .before .number .ensures) (c .before .before .before .before .before .before .before .before .before .before .before .before .before .before .before .before .before .before .before .before .before .before .before .before .before .before .before .before .before .before .before .before .before .before .field-type-tag .ensures ► c .before .before .before .before .before .before .before .before .before .before .before .before .before .before .before .before .before .before .before .before .before .before .before .before .before .before .before .before .before .before .bytes-annotation .ensures ► c .before .before .before .before .before .before .before .before .before .before .before .before .before .before .before .before .before .before .before .before .before .before .before .before .before .before .label-tag .ensures ► c .before .before .before .before .before .before .before .before .before .before .before .before .before .before .before .before .before .before .before .before .before .put-if .ensures ► c .before .before .before .before .before .before .before .before .before .before .before .before .before .before .before .before .put .ensures ► c .before .before .before .before .before .before .before .before .before .before .before .put-number .ensures ► c .before .before .before .before .before .before .before .default-tag .ensures ► c .before .before .put2 .ensures)
+
+-- src/tags.rt:112:1
+same-length : tie.Need-same-length
+same-length c = kept (returns c)
 
 pub field-tag-spec : {M : Type 1} → statement M
 field-tag-spec =
