@@ -9,7 +9,6 @@ use Rattle.base.specs.Choose.{choose}
 use Rattle.wire.specs.Records.{part}
 use Rattle.descriptor.specs.Descriptor.{Bytes}
 use Rattle.descriptor.specs.Views.{field-of}
-use Rattle.descriptor.specs.declared.Text.{Text}
 use Rattle.descriptor.specs.declared.FieldView.{FieldView}
 use Rattle.options.specs.Settings.{Setting}
 use Rattle.code_generator.specs.Piece.{flat}

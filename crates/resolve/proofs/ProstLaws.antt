@@ -1,6 +1,6 @@
 -- The prost path is `::prost` where no row has kind 10. Assumes nothing.
 use mathlib.Core.Path.{_≡_, refl}
-use mathlib.Core.Bool.{Bool, true, false}
+use mathlib.Core.Bool.{true, false}
 use mathlib.Core.Option.{some}
 use mathlib.Core.List.{List, [], _∷_}
 use Prim.Native.Nat.{ℕ, _+_}
@@ -9,7 +9,6 @@ use Rattle.base.specs.Bytes.{b}
 use Rattle.base.specs.Choose.{choose}
 use Rattle.writer.specs.Text.{pick}
 use Rattle.options.specs.Settings.{Setting, first-of-kind, found-at, value-of, or-else, prost-path}
-use Rattle.options.specs.declared.Found.{Found}
 use Rattle.code_generator.specs.Piece.{flat}
 use Rattle.code_generator.specs.Resolve.{prost}
 

@@ -4,19 +4,17 @@ use mathlib.Core.Bool.{Bool, true, false}
 use mathlib.Core.List.{List, [], _∷_, _++_, append-assoc, append-nil}
 use Prim.Native.Nat.{ℕ, zero, suc, _+_, _-_, _≤_, _<_, min}
 use native.Mathlib.Omega.{arith}
-use native.Mathlib.Decide.{decLe, decLt}
-use native.Mathlib.Numerals.{add-one}
-use borrow.Author.Tests.{lt-ltb, le-ltb, le-leb, lt-leb, eq-eqb, ne-eqb}
-use lib.Dec.{eqb, ltb, leb}
-use lib.ListN.{length, take, drop, getD, length-drop, drop-of-length-le}
-use lib.Seq.{drop-cons, drop-drop}
+use native.Mathlib.Decide.{decLt}
+use borrow.Author.Tests.{le-leb, lt-leb, eq-eqb, ne-eqb}
+use lib.ListN.{length, take, drop, getD}
+use lib.Seq.{drop-cons}
 use Rattle.base.specs.Choose.{choose}
 use Rattle.base.specs.Bytes.{b, same}
 use Rattle.writer.specs.Text.{each}
 use Rattle.ident.specs.Ident.{to-snake, to-upper-camel}
 use Rattle.descriptor.specs.Descriptor.{Bytes}
 use Rattle.extern_paths.specs.Split.{begins, split, first-part}
-use Rattle.extern_paths.proofs.SplitLaws.{part-stops, part-goes, part-ends, Parted, Spans, spans, parts-last, parts-more}
+use Rattle.extern_paths.proofs.SplitLaws.{part-stops, part-goes, part-ends, Parted, spans, parts-last, parts-more}
 use Rattle.code_generator.specs.Piece.{through, way-text}
 use Rattle.code_generator.specs.Resolve.{local-path, ident-path, ident-type, front, last-name, skip-common, way}
 use Rattle.resolve.specs.Names.{names, supers, downwards, Left}

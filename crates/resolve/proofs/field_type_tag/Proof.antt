@@ -4,60 +4,41 @@ use Rattle.code_generator.specs.Resolve.{field-type-tag}
 use borrow.Author.Needs.{needs}
 use Rattle.resolve.proofs.field_type_tag.Statement.{statement}
 use Rattle.resolve.proofs.field_type_tag.Tie as tie
-use Rattle.resolve.proofs.field_type_tag.Reads as reads
-use Rattle.resolve.proofs.field_type_tag.Lts as lts
-use Rattle.field_types.proofs.put_tag_word.Reads as put-tag-word-reads
-use Rattle.resolve.proofs.accessors.kind.Reads as kind-reads
-use Rattle.resolve.proofs.accessors.sort.Reads as sort-reads
-use Rattle.resolve.proofs.tag_ident.Reads as tag-ident-reads
-use Rattle.writer.proofs.put.Reads as put-reads
 
--- src/lib.rt:90:9
 sort-requires : tie.Need-sort-requires
 sort-requires c κs = search needs
 
--- src/lib.rt:92:36
 slice-aggregate-put : tie.Need-slice-aggregate-put
 slice-aggregate-put c = search needs
 
--- src/lib.rt:92:13
 put-requires : tie.Need-put-requires
 put-requires c κs = search needs
 
--- src/lib.rt:93:13
 tag-ident-requires : tie.Need-tag-ident-requires
 tag-ident-requires c κs = search needs
 
--- src/lib.rt:94:34
 slice-aggregate-put-2 : tie.Need-slice-aggregate-put-2
 slice-aggregate-put-2 c = search needs
 
--- src/lib.rt:94:9
 put-requires-2 : tie.Need-put-requires-2
 put-requires-2 c κs = search needs
 
--- src/lib.rt:94:9
 same-length : tie.Need-same-length
 same-length c = search needs
 
--- src/lib.rt:94:9
 returns : tie.Need-returns
 unfolding field-type-tag
 returns c = rw (← c .before .before .before .before .before .before .before .before .before .before .before .before .before .before .before .sort .ensures, eq-eqb _ _ (c .before .before .before .before .before .before .before .before .before .before .before .before .before .before .if1 .taken)) (c .before .before .before .before .before .before .before .before .before .before .before .put .ensures ► c .before .before .before .before .before .before .before .tag-ident .ensures ► c .before .before .put2 .ensures)
 
--- src/lib.rt:96:9
 kind-requires : tie.Need-kind-requires
 kind-requires c κs = search needs
 
--- src/lib.rt:97:5
 put-tag-word-requires : tie.Need-put-tag-word-requires
 put-tag-word-requires c κs = search needs
 
--- src/lib.rt:87:1
 same-length-2 : tie.Need-same-length-2
 same-length-2 c = search needs
 
--- src/lib.rt:87:1
 returns-2 : tie.Need-returns-2
 unfolding field-type-tag
 returns-2 c = rw (← c .before .before .before .before .before .before .sort .ensures, ne-eqb _ _ (c .before .before .before .before .before .if1 .left), ← c .before .before .before .before .kind .ensures) (c .before .before .put-tag-word .ensures)

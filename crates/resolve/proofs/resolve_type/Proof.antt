@@ -4,90 +4,61 @@ use Rattle.code_generator.specs.Resolve.{resolve-type}
 use borrow.Author.Needs.{needs}
 use Rattle.resolve.proofs.resolve_type.Statement.{statement}
 use Rattle.resolve.proofs.resolve_type.Tie as tie
-use Rattle.resolve.proofs.resolve_type.Reads as reads
-use Rattle.resolve.proofs.resolve_type.Lts as lts
-use Rattle.field_types.proofs.put_rust_word.Reads as put-rust-word-reads
-use Rattle.resolve.proofs.accessors.kind.Reads as kind-reads
-use Rattle.resolve.proofs.accessors.sort.Reads as sort-reads
-use Rattle.resolve.proofs.accessors.type_name.Reads as type-name-reads
-use Rattle.resolve.proofs.is_message.Reads as is-message-reads
-use Rattle.resolve.proofs.put_prost.Reads as put-prost-reads
-use Rattle.resolve.proofs.resolve_bytes.Reads as resolve-bytes-reads
-use Rattle.resolve.proofs.resolve_ident.Reads as resolve-ident-reads
-use Rattle.writer.proofs.put.Reads as put-reads
 
--- src/lib.rt:61:9
 sort-requires : tie.Need-sort-requires
 sort-requires c κs = search needs
 
--- src/lib.rt:63:13
 put-prost-requires : tie.Need-put-prost-requires
 put-prost-requires c κs = search needs
 
--- src/lib.rt:64:34
 slice-aggregate-put : tie.Need-slice-aggregate-put
 slice-aggregate-put c = search needs
 
--- src/lib.rt:64:9
 put-requires : tie.Need-put-requires
 put-requires c κs = search needs
 
--- src/lib.rt:64:9
 same-length : tie.Need-same-length
 same-length c = search needs
 
--- src/lib.rt:64:9
 returns : tie.Need-returns
 unfolding resolve-type
 returns c = rw (← c .before .before .before .before .before .before .before .before .before .before .sort .ensures, eq-eqb _ _ (c .before .before .before .before .before .before .before .before .before .if1 .taken)) (c .before .before .before .before .before .before .before .put-prost .ensures ► c .before .before .put .ensures)
 
--- src/lib.rt:67:9
 resolve-bytes-requires : tie.Need-resolve-bytes-requires
 resolve-bytes-requires c κs = search needs
 
--- src/lib.rt:67:9
 same-length-2 : tie.Need-same-length-2
 same-length-2 c = search needs
 
--- src/lib.rt:67:9
 returns-2 : tie.Need-returns-2
 unfolding resolve-type
 returns-2 c = rw (← c .before .before .before .before .before .before .sort .ensures, ne-eqb _ _ (c .before .before .before .before .before .if1 .left), eq-eqb _ _ (c .before .before .before .before .if2 .taken)) (c .before .before .resolve-bytes .ensures)
 
--- src/lib.rt:69:9
 is-message-requires : tie.Need-is-message-requires
 is-message-requires c κs = search needs
 
--- src/lib.rt:71:13
 type-name-requires : tie.Need-type-name-requires
 type-name-requires c κs = search needs
 
--- src/lib.rt:72:9
 resolve-ident-requires : tie.Need-resolve-ident-requires
 resolve-ident-requires c κs = search needs
 
--- src/lib.rt:72:9
 same-length-3 : tie.Need-same-length-3
 same-length-3 c = search needs
 
--- src/lib.rt:72:9
 returns-3 : tie.Need-returns-3
 unfolding resolve-type
 returns-3 c = rw (← c .before .before .before .before .before .before .before .before .before .sort .ensures, ne-eqb _ _ (c .before .before .before .before .before .before .before .before .if1 .left), ne-eqb _ _ (c .before .before .before .before .before .before .before .if2 .left), ← c .before .before .before .before .before .before .is-message .ensures, c .before .before .before .before .before .if3 .taken, ← c .before .before .before .before .type-name .ensures) (c .before .before .resolve-ident .ensures)
 
--- src/lib.rt:74:9
 kind-requires : tie.Need-kind-requires
 kind-requires c κs = search needs
 
--- src/lib.rt:75:5
 put-rust-word-requires : tie.Need-put-rust-word-requires
 put-rust-word-requires c κs = search needs
 
--- src/lib.rt:58:1
 same-length-4 : tie.Need-same-length-4
 same-length-4 c = search needs
 
--- src/lib.rt:58:1
 returns-4 : tie.Need-returns-4
 unfolding resolve-type
 returns-4 c = rw (← c .before .before .before .before .before .before .before .before .before .sort .ensures, ne-eqb _ _ (c .before .before .before .before .before .before .before .before .if1 .left), ne-eqb _ _ (c .before .before .before .before .before .before .before .if2 .left), ← c .before .before .before .before .before .before .is-message .ensures, c .before .before .before .before .before .if3 .left, ← c .before .before .before .before .kind .ensures) (c .before .before .put-rust-word .ensures)

@@ -2,23 +2,16 @@ use Rattle.code_generator.specs.Fields.{box-close}
 use borrow.Author.Needs.{needs}
 use Rattle.field_text.proofs.lines.box_close.Statement.{statement}
 use Rattle.field_text.proofs.lines.box_close.Tie as tie
-use Rattle.field_text.proofs.lines.box_close.Reads as reads
-use Rattle.field_text.proofs.lines.box_close.Lts as lts
-use Rattle.writer.proofs.put_if.Reads as put-if-reads
 
--- src/lines.rt:47:34
 slice-aggregate-put-if : tie.Need-slice-aggregate-put-if
 slice-aggregate-put-if c = search needs
 
--- src/lines.rt:47:5
 put-if-requires : tie.Need-put-if-requires
 put-if-requires c κs = search needs
 
--- src/lines.rt:44:1
 same-length : tie.Need-same-length
 same-length c = search needs
 
--- src/lines.rt:44:1
 returns : tie.Need-returns
 unfolding box-close
 returns c = c .before .before .put-if .ensures

@@ -3,33 +3,23 @@ use Rattle.code_generator.specs.Fields.{box-open}
 use borrow.Author.Needs.{needs}
 use Rattle.field_text.proofs.lines.box_open.Statement.{statement}
 use Rattle.field_text.proofs.lines.box_open.Tie as tie
-use Rattle.field_text.proofs.lines.box_open.Reads as reads
-use Rattle.field_text.proofs.lines.box_open.Lts as lts
-use Rattle.resolve.proofs.put_prost.Reads as put-prost-reads
-use Rattle.writer.proofs.put.Reads as put-reads
 
--- src/lines.rt:38:13
 put-prost-requires : tie.Need-put-prost-requires
 put-prost-requires c κs = search needs
 
--- src/lines.rt:39:34
 slice-aggregate-put : tie.Need-slice-aggregate-put
 slice-aggregate-put c = search needs
 
--- src/lines.rt:39:9
 put-requires : tie.Need-put-requires
 put-requires c κs = search needs
 
--- src/lines.rt:39:9
 same-length : tie.Need-same-length
 same-length c = search needs
 
--- src/lines.rt:39:9
 returns : tie.Need-returns
 unfolding box-open
 returns c = rw (c .before .before .before .before .before .before .before .before .before .if1 .taken) (c .before .before .before .before .before .before .before .put-prost .ensures ► c .before .before .put .ensures)
 
--- src/lines.rt:34:1
 returns-2 : tie.Need-returns-2
 unfolding box-open
 returns-2 c = rw (c .if1 .left) (none (search needs))

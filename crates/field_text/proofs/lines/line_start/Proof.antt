@@ -2,46 +2,31 @@ use Rattle.writer.specs.Wrote.{_►_}
 use borrow.Author.Needs.{needs}
 use Rattle.field_text.proofs.lines.line_start.Statement.{statement}
 use Rattle.field_text.proofs.lines.line_start.Tie as tie
-use Rattle.field_text.proofs.lines.line_start.Reads as reads
-use Rattle.field_text.proofs.lines.line_start.Lts as lts
-use Rattle.ident.proofs.put_snake.Reads as put-snake-reads
-use Rattle.resolve.proofs.accessors.name.Reads as name-reads
-use Rattle.writer.proofs.put.Reads as put-reads
-use Rattle.writer.proofs.put_indent.Reads as put-indent-reads
 
--- src/lines.rt:56:9
 put-indent-requires : tie.Need-put-indent-requires
 put-indent-requires c κs = search needs
 
--- src/lines.rt:57:31
 slice-aggregate-put : tie.Need-slice-aggregate-put
 slice-aggregate-put c = search needs
 
--- src/lines.rt:57:9
 put-requires : tie.Need-put-requires
 put-requires c κs = search needs
 
--- src/lines.rt:58:9
 name-requires : tie.Need-name-requires
 name-requires c κs = search needs
 
--- src/lines.rt:59:9
 put-snake-requires : tie.Need-put-snake-requires
 put-snake-requires c κs = search needs
 
--- src/lines.rt:60:32
 slice-aggregate-put-2 : tie.Need-slice-aggregate-put-2
 slice-aggregate-put-2 c = search needs
 
--- src/lines.rt:60:5
 put-requires-2 : tie.Need-put-requires-2
 put-requires-2 c κs = search needs
 
--- src/lines.rt:53:1
 same-length : tie.Need-same-length
 same-length c = search needs
 
--- src/lines.rt:53:1
 returns : tie.Need-returns
 returns c = rw (← c .before .before .before .before .before .before .before .before .before .name .ensures) (c .before .before .before .before .before .before .before .before .before .before .before .before .before .before .before .before .before .put-indent .ensures ► c .before .before .before .before .before .before .before .before .before .before .before .before .put .ensures ► c .before .before .before .before .before .before .before .put-snake .ensures ► c .before .before .put2 .ensures)
 

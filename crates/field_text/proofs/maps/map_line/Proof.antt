@@ -3,59 +3,41 @@ use Rattle.code_generator.specs.MapFields.{map-line}
 use borrow.Author.Needs.{needs}
 use Rattle.field_text.proofs.maps.map_line.Statement.{statement}
 use Rattle.field_text.proofs.maps.map_line.Tie as tie
-use Rattle.field_text.proofs.maps.map_line.Reads as reads
-use Rattle.field_text.proofs.maps.map_line.Lts as lts
-use Rattle.field_text.proofs.lines.line_start.Reads as line-start-reads
-use Rattle.field_text.proofs.maps.map_open.Reads as map-open-reads
-use Rattle.resolve.proofs.resolve_type.Reads as resolve-type-reads
-use Rattle.writer.proofs.put.Reads as put-reads
 
--- src/maps.rt:67:9
 line-start-requires : tie.Need-line-start-requires
 line-start-requires c κs = search needs
 
--- src/maps.rt:68:9
 map-open-requires : tie.Need-map-open-requires
 map-open-requires c κs = search needs
 
--- src/maps.rt:69:9
 resolve-type-requires : tie.Need-resolve-type-requires
 resolve-type-requires c κs = search needs
 
--- src/maps.rt:70:31
 slice-aggregate-put : tie.Need-slice-aggregate-put
 slice-aggregate-put c = search needs
 
--- src/maps.rt:70:9
 put-requires : tie.Need-put-requires
 put-requires c κs = search needs
 
--- src/maps.rt:71:9
 resolve-type-requires-2 : tie.Need-resolve-type-requires-2
 resolve-type-requires-2 c κs = search needs
 
--- src/maps.rt:72:31
 slice-aggregate-put-2 : tie.Need-slice-aggregate-put-2
 slice-aggregate-put-2 c = search needs
 
--- src/maps.rt:72:9
 put-requires-2 : tie.Need-put-requires-2
 put-requires-2 c κs = search needs
 
--- src/maps.rt:73:23
 slice-aggregate-put-3 : tie.Need-slice-aggregate-put-3
 slice-aggregate-put-3 c = search needs
 
--- src/maps.rt:73:5
 put-requires-3 : tie.Need-put-requires-3
 put-requires-3 c κs = search needs
 
--- src/maps.rt:50:1
 returns : tie.Need-returns
 unfolding map-line
 returns c = c .before .before .before .before .before .before .before .before .before .before .before .before .before .before .before .before .before .before .before .before .before .before .before .before .before .before .before .before .before .line-start .ensures ► c .before .before .before .before .before .before .before .before .before .before .before .before .before .before .before .before .before .before .before .before .before .before .before .before .before .map-open .ensures ► c .before .before .before .before .before .before .before .before .before .before .before .before .before .before .before .before .before .before .before .before .before .resolve-type .ensures ► c .before .before .before .before .before .before .before .before .before .before .before .before .before .before .before .before .put .ensures ► c .before .before .before .before .before .before .before .before .before .before .before .before .resolve-type2 .ensures ► c .before .before .before .before .before .before .before .put2 .ensures ► c .before .before .put3 .ensures
 
--- src/maps.rt:50:1
 same-length : tie.Need-same-length
 same-length c = kept (returns c)
 

@@ -3,37 +3,25 @@ use Rattle.writer.specs.Wrote.{_►_, none, named}
 use borrow.Author.Needs.{needs}
 use Rattle.field_text.proofs.tags.default_tag.Statement.{statement}
 use Rattle.field_text.proofs.tags.default_tag.Tie as tie
-use Rattle.field_text.proofs.tags.default_tag.Reads as reads
-use Rattle.field_text.proofs.tags.default_tag.Lts as lts
-use Rattle.field_text.proofs.tags.default_text.Reads as default-text-reads
-use Rattle.name_rules.proofs.text_bytes.Reads as text-bytes-reads
-use Rattle.writer.proofs.put.Reads as put-reads
 
--- src/tags.rt:104:36
 slice-aggregate-put : tie.Need-slice-aggregate-put
 slice-aggregate-put c = search needs
 
--- src/tags.rt:104:13
 put-requires : tie.Need-put-requires
 put-requires c κs = search needs
 
--- src/tags.rt:105:13
 text-bytes-requires : tie.Need-text-bytes-requires
 text-bytes-requires c κs = search needs
 
--- src/tags.rt:106:9
 default-text-requires : tie.Need-default-text-requires
 default-text-requires c κs = search needs
 
--- src/tags.rt:106:9
 same-length : tie.Need-same-length
 same-length c = search needs
 
--- src/tags.rt:106:9
 returns : tie.Need-returns
 returns c = named (has-default (c .before .before .before .before .before .before .before .before .before .before .before .before .before .before .before .args .s .now) (c .before .before .before .before .before .before .before .before .before .before .before .before .before .before .before .args .f) _ (c .before .before .before .before .before .before .before .before .before .before .if1 .taken) _ (c .before .before .before .before .text-bytes .ensures)) (c .before .before .before .before .before .before .before .put .ensures ► c .before .before .default-text .ensures)
 
--- src/tags.rt:99:1
 returns-2 : tie.Need-returns-2
 returns-2 c = named (no-default (c .before .before .before .before .before .args .s .now) (c .before .before .before .before .before .args .f) _ (c .if1 .left)) (none (search needs))
 

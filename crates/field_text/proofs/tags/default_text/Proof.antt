@@ -4,69 +4,48 @@ use Rattle.code_generator.specs.Fields.{default-text}
 use borrow.Author.Needs.{needs}
 use Rattle.field_text.proofs.tags.default_text.Statement.{statement}
 use Rattle.field_text.proofs.tags.default_text.Tie as tie
-use Rattle.field_text.proofs.tags.default_text.Reads as reads
-use Rattle.field_text.proofs.tags.default_text.Lts as lts
-use Rattle.c_escaping.proofs.put_unescaped.Reads as put-unescaped-reads
-use Rattle.field_text.proofs.tags.enum_value.Reads as enum-value-reads
-use Rattle.literal.proofs.put_text.Reads as put-text-reads
-use Rattle.resolve.proofs.accessors.sort.Reads as sort-reads
-use Rattle.writer.proofs.put.Reads as put-reads
 
--- src/tags.rt:87:9
 sort-requires : tie.Need-sort-requires
 sort-requires c κs = search needs
 
--- src/tags.rt:89:36
 slice-aggregate-put : tie.Need-slice-aggregate-put
 slice-aggregate-put c = search needs
 
--- src/tags.rt:89:13
 put-requires : tie.Need-put-requires
 put-requires c κs = search needs
 
--- src/tags.rt:90:13
 put-unescaped-requires : tie.Need-put-unescaped-requires
 put-unescaped-requires c κs = search needs
 
--- src/tags.rt:91:34
 slice-aggregate-put-2 : tie.Need-slice-aggregate-put-2
 slice-aggregate-put-2 c = search needs
 
--- src/tags.rt:91:9
 put-requires-2 : tie.Need-put-requires-2
 put-requires-2 c κs = search needs
 
--- src/tags.rt:91:9
 same-length : tie.Need-same-length
 same-length c = search needs
 
--- src/tags.rt:91:9
 returns : tie.Need-returns
 unfolding default-text
 returns c = rw (← c .before .before .before .before .before .before .before .before .before .before .before .before .before .before .before .sort .ensures, eq-eqb _ _ (c .before .before .before .before .before .before .before .before .before .before .before .before .before .before .if1 .taken)) (c .before .before .before .before .before .before .before .before .before .before .before .put .ensures ► c .before .before .before .before .before .before .before .put-unescaped .ensures ► c .before .before .put2 .ensures)
 
--- src/tags.rt:94:9
 enum-value-requires : tie.Need-enum-value-requires
 enum-value-requires c κs = search needs
 
--- src/tags.rt:94:9
 same-length-2 : tie.Need-same-length-2
 same-length-2 c = search needs
 
--- src/tags.rt:94:9
 returns-2 : tie.Need-returns-2
 unfolding default-text
 returns-2 c = rw (← c .before .before .before .before .before .before .sort .ensures, ne-eqb _ _ (c .before .before .before .before .before .if1 .left), eq-eqb _ _ (c .before .before .before .before .if2 .taken)) (c .before .before .enum-value .ensures)
 
--- src/tags.rt:96:5
 put-text-requires : tie.Need-put-text-requires
 put-text-requires c κs = search needs
 
--- src/tags.rt:84:1
 same-length-3 : tie.Need-same-length-3
 same-length-3 c = search needs
 
--- src/tags.rt:84:1
 returns-3 : tie.Need-returns-3
 unfolding default-text
 returns-3 c = rw (← c .before .before .before .before .before .before .sort .ensures, ne-eqb _ _ (c .before .before .before .before .before .if1 .left), ne-eqb _ _ (c .before .before .before .before .if2 .left)) (c .before .before .put-text .ensures)

@@ -3,71 +3,47 @@ use Rattle.code_generator.specs.Fields.{field-tag}
 use borrow.Author.Needs.{needs}
 use Rattle.field_text.proofs.tags.field_tag.Statement.{statement}
 use Rattle.field_text.proofs.tags.field_tag.Tie as tie
-use Rattle.field_text.proofs.tags.field_tag.Reads as reads
-use Rattle.field_text.proofs.tags.field_tag.Lts as lts
-use Rattle.field_text.proofs.tags.bytes_annotation.Reads as bytes-annotation-reads
-use Rattle.field_text.proofs.tags.default_tag.Reads as default-tag-reads
-use Rattle.field_text.proofs.tags.label_tag.Reads as label-tag-reads
-use Rattle.resolve.proofs.accessors.number.Reads as number-reads
-use Rattle.resolve.proofs.field_type_tag.Reads as field-type-tag-reads
-use Rattle.writer.proofs.put.Reads as put-reads
-use Rattle.writer.proofs.put_if.Reads as put-if-reads
-use Rattle.writer.proofs.put_number.Reads as put-number-reads
 
--- src/tags.rt:125:9
 field-type-tag-requires : tie.Need-field-type-tag-requires
 field-type-tag-requires c κs = search needs
 
--- src/tags.rt:126:9
 bytes-annotation-requires : tie.Need-bytes-annotation-requires
 bytes-annotation-requires c κs = search needs
 
--- src/tags.rt:127:9
 label-tag-requires : tie.Need-label-tag-requires
 label-tag-requires c κs = search needs
 
--- src/tags.rt:128:41
 slice-aggregate-put-if : tie.Need-slice-aggregate-put-if
 slice-aggregate-put-if c = search needs
 
--- src/tags.rt:128:9
 put-if-requires : tie.Need-put-if-requires
 put-if-requires c κs = search needs
 
--- src/tags.rt:129:31
 slice-aggregate-put : tie.Need-slice-aggregate-put
 slice-aggregate-put c = search needs
 
--- src/tags.rt:129:9
 put-requires : tie.Need-put-requires
 put-requires c κs = search needs
 
--- src/tags.rt:130:9
 number-requires : tie.Need-number-requires
 number-requires c κs = search needs
 
--- src/tags.rt:131:9
 put-number-requires : tie.Need-put-number-requires
 put-number-requires c κs = search needs
 
--- src/tags.rt:132:9
 default-tag-requires : tie.Need-default-tag-requires
 default-tag-requires c κs = search needs
 
--- src/tags.rt:133:23
 slice-aggregate-put-2 : tie.Need-slice-aggregate-put-2
 slice-aggregate-put-2 c = search needs
 
--- src/tags.rt:133:5
 put-requires-2 : tie.Need-put-requires-2
 put-requires-2 c κs = search needs
 
--- src/tags.rt:112:1
 returns : tie.Need-returns
 unfolding field-tag
 returns c = rw (← c .before .before .before .before .before .before .before .before .before .before .before .before .before .number .ensures) (c .before .before .before .before .before .before .before .before .before .before .before .before .before .before .before .before .before .before .before .before .before .before .before .before .before .before .before .before .before .before .before .before .before .before .field-type-tag .ensures ► c .before .before .before .before .before .before .before .before .before .before .before .before .before .before .before .before .before .before .before .before .before .before .before .before .before .before .before .before .before .before .bytes-annotation .ensures ► c .before .before .before .before .before .before .before .before .before .before .before .before .before .before .before .before .before .before .before .before .before .before .before .before .before .before .label-tag .ensures ► c .before .before .before .before .before .before .before .before .before .before .before .before .before .before .before .before .before .before .before .before .before .put-if .ensures ► c .before .before .before .before .before .before .before .before .before .before .before .before .before .before .before .before .put .ensures ► c .before .before .before .before .before .before .before .before .before .before .before .put-number .ensures ► c .before .before .before .before .before .before .before .default-tag .ensures ► c .before .before .put2 .ensures)
 
--- src/tags.rt:112:1
 same-length : tie.Need-same-length
 same-length c = kept (returns c)
 

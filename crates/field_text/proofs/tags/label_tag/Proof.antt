@@ -4,81 +4,57 @@ use Rattle.code_generator.specs.Fields.{label-tag}
 use borrow.Author.Needs.{needs}
 use Rattle.field_text.proofs.tags.label_tag.Statement.{statement}
 use Rattle.field_text.proofs.tags.label_tag.Tie as tie
-use Rattle.field_text.proofs.tags.label_tag.Reads as reads
-use Rattle.field_text.proofs.tags.label_tag.Lts as lts
-use Rattle.field_text.proofs.tags.optional.Reads as optional-reads
-use Rattle.field_text.proofs.tags.unpacked.Reads as unpacked-reads
-use Rattle.resolve.proofs.accessors.label.Reads as label-reads
-use Rattle.writer.proofs.put.Reads as put-reads
-use Rattle.writer.proofs.put_if.Reads as put-if-reads
 
--- src/tags.rt:44:9
 label-requires : tie.Need-label-requires
 label-requires c κs = search needs
 
--- src/tags.rt:46:13
 optional-requires : tie.Need-optional-requires
 optional-requires c κs = search needs
 
--- src/tags.rt:47:42
 slice-aggregate-put-if : tie.Need-slice-aggregate-put-if
 slice-aggregate-put-if c = search needs
 
--- src/tags.rt:47:9
 put-if-requires : tie.Need-put-if-requires
 put-if-requires c κs = search needs
 
--- src/tags.rt:47:9
 same-length : tie.Need-same-length
 same-length c = search needs
 
--- src/tags.rt:47:9
 returns : tie.Need-returns
 unfolding label-tag
 returns c = rw (← c .before .before .before .before .before .before .before .label .ensures, eq-eqb _ _ (c .before .before .before .before .before .before .if1 .taken), ← c .before .before .before .before .before .optional .ensures) (c .before .before .put-if .ensures)
 
--- src/tags.rt:50:35
 slice-aggregate-put : tie.Need-slice-aggregate-put
 slice-aggregate-put c = search needs
 
--- src/tags.rt:50:9
 put-requires : tie.Need-put-requires
 put-requires c κs = search needs
 
--- src/tags.rt:50:9
 same-length-2 : tie.Need-same-length-2
 same-length-2 c = search needs
 
--- src/tags.rt:50:9
 returns-2 : tie.Need-returns-2
 unfolding label-tag
 returns-2 c = rw (← c .before .before .before .before .before .before .before .label .ensures, ne-eqb _ _ (c .before .before .before .before .before .before .if1 .left), eq-eqb _ _ (c .before .before .before .before .before .if2 .taken)) (c .before .before .put .ensures)
 
--- src/tags.rt:52:32
 slice-aggregate-put-2 : tie.Need-slice-aggregate-put-2
 slice-aggregate-put-2 c = search needs
 
--- src/tags.rt:52:9
 put-requires-2 : tie.Need-put-requires-2
 put-requires-2 c κs = search needs
 
--- src/tags.rt:53:9
 unpacked-requires : tie.Need-unpacked-requires
 unpacked-requires c κs = search needs
 
--- src/tags.rt:54:30
 slice-aggregate-put-if-2 : tie.Need-slice-aggregate-put-if-2
 slice-aggregate-put-if-2 c = search needs
 
--- src/tags.rt:54:5
 put-if-requires-2 : tie.Need-put-if-requires-2
 put-if-requires-2 c κs = search needs
 
--- src/tags.rt:41:1
 same-length-3 : tie.Need-same-length-3
 same-length-3 c = search needs
 
--- src/tags.rt:41:1
 returns-3 : tie.Need-returns-3
 unfolding label-tag
 returns-3 c = rw (← c .before .before .before .before .before .before .before .before .before .before .before .before .before .label .ensures, ne-eqb _ _ (c .before .before .before .before .before .before .before .before .before .before .before .before .if1 .left), ne-eqb _ _ (c .before .before .before .before .before .before .before .before .before .before .before .if2 .left), ← c .before .before .before .before .before .unpacked .ensures) (c .before .before .before .before .before .before .before .before .put2 .ensures ► c .before .before .put-if2 .ensures)

@@ -1,39 +1,29 @@
-use mathlib.Core.Path.{refl, sym, _∙_}
+use mathlib.Core.Path.{refl}
 use borrow.Author.Tests.{eq-eqb, ne-eqb}
 use Rattle.descriptor.specs.Views.{field-of}
 use Rattle.code_generator.specs.Fields.{optional}
 use borrow.Author.Needs.{needs}
 use Rattle.field_text.proofs.tags.optional.Statement.{statement}
 use Rattle.field_text.proofs.tags.optional.Tie as tie
-use Rattle.field_text.proofs.tags.optional.Reads as reads
-use Rattle.field_text.proofs.tags.optional.Lts as lts
-use Rattle.resolve.proofs.accessors.kind.Reads as kind-reads
-use Rattle.resolve.proofs.accessors.label.Reads as label-reads
 
--- src/tags.rt:15:9
 returns : tie.Need-returns
 unfolding optional field-of
 returns c = rw (c .if1 .taken) refl
 
--- src/tags.rt:17:8
 label-requires : tie.Need-label-requires
 label-requires c κs = search needs
 
--- src/tags.rt:18:9
 returns-2 : tie.Need-returns-2
 unfolding optional field-of
 returns-2 c = rw (c .before .before .if1 .left, ← c .before .label .ensures, ne-eqb _ _ (c .if2 .taken)) refl
 
--- src/tags.rt:20:8
 kind-requires : tie.Need-kind-requires
 kind-requires c κs = search needs
 
--- src/tags.rt:21:9
 returns-3 : tie.Need-returns-3
 unfolding optional field-of
 returns-3 c = rw (c .before .before .before .before .if1 .left, ← c .before .before .before .label .ensures, eq-eqb _ _ (c .before .before .if2 .left), ← c .before .kind .ensures, eq-eqb _ _ (c .if3 .taken)) refl
 
--- src/tags.rt:11:1
 returns-4 : tie.Need-returns-4
 unfolding optional field-of
 returns-4 c = rw (c .before .before .before .before .if1 .left, ← c .before .before .before .label .ensures, eq-eqb _ _ (c .before .before .if2 .left), ← c .before .kind .ensures, ne-eqb _ _ (c .if3 .left)) refl

@@ -1,34 +1,25 @@
-use mathlib.Core.Path.{refl, sym, _∙_}
+use mathlib.Core.Path.{refl}
 use Rattle.base.specs.Choose.{choose}
 use Rattle.descriptor.specs.Views.{field-of}
 use Rattle.code_generator.specs.Fields.{unpacked}
 use borrow.Author.Needs.{needs}
 use Rattle.field_text.proofs.tags.unpacked.Statement.{statement}
 use Rattle.field_text.proofs.tags.unpacked.Tie as tie
-use Rattle.field_text.proofs.tags.unpacked.Reads as reads
-use Rattle.field_text.proofs.tags.unpacked.Lts as lts
-use Rattle.field_types.proofs.can_pack.Reads as can-pack-reads
-use Rattle.resolve.proofs.accessors.kind.Reads as kind-reads
 
--- src/tags.rt:30:9
 kind-requires : tie.Need-kind-requires
 kind-requires c κs = search needs
 
--- src/tags.rt:31:9
 can-pack-requires : tie.Need-can-pack-requires
 can-pack-requires c κs = search needs
 
--- src/tags.rt:34:13
 returns : tie.Need-returns
 unfolding unpacked field-of choose
 returns c = rw (← c .before .before .before .before .kind .ensures, ← c .before .before .before .can-pack .ensures, c .before .before .if1 .taken, c .before .if2 .taken) refl
 
--- src/tags.rt:36:9
 returns-2 : tie.Need-returns-2
 unfolding unpacked field-of choose
 returns-2 c = rw (← c .before .before .before .kind .ensures, ← c .before .before .can-pack .ensures, c .before .if1 .taken, c .if2 .left) refl
 
--- src/tags.rt:27:1
 returns-3 : tie.Need-returns-3
 unfolding unpacked
 returns-3 c = rw (← c .before .before .kind .ensures, ← c .before .can-pack .ensures, c .if1 .left) refl

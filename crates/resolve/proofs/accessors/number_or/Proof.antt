@@ -2,15 +2,11 @@ use mathlib.Core.Path.{refl}
 use Rattle.base.specs.Choose.{choose}
 use Rattle.resolve.proofs.accessors.number_or.Statement.{statement}
 use Rattle.resolve.proofs.accessors.number_or.Tie as tie
-use Rattle.resolve.proofs.accessors.number_or.Reads as reads
-use Rattle.resolve.proofs.accessors.number_or.Lts as lts
 
--- src/accessors.rt:25:9
 returns : tie.Need-returns
 unfolding choose
 returns c = rw (c .if1 .taken) refl
 
--- src/accessors.rt:21:1
 returns-2 : tie.Need-returns-2
 unfolding choose
 returns-2 c = rw (c .if1 .left) refl

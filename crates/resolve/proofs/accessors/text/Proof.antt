@@ -3,32 +3,23 @@ use Rattle.base.specs.Choose.{choose}
 use borrow.Author.Needs.{needs}
 use Rattle.resolve.proofs.accessors.text.Statement.{statement}
 use Rattle.resolve.proofs.accessors.text.Tie as tie
-use Rattle.resolve.proofs.accessors.text.Reads as reads
-use Rattle.resolve.proofs.accessors.text.Lts as lts
-use Rattle.name_rules.proofs.text_bytes.Reads as text-bytes-reads
 
--- src/accessors.rt:16:9
 text-bytes-requires : tie.Need-text-bytes-requires
 text-bytes-requires c κs = search needs
 
--- src/accessors.rt:16:9
 returns : tie.Need-returns
 unfolding choose
 returns c = rw (c .before .if1 .taken) (c .text-bytes .ensures)
 
--- src/accessors.rt:18:5
 sub-result : tie.Need-sub-result
 sub-result c = search needs
 
--- src/accessors.rt:18:5
 part-result-start : tie.Need-part-result-start
 part-result-start c = search needs
 
--- src/accessors.rt:18:5
 part-result-end : tie.Need-part-result-end
 part-result-end c = search needs
 
--- src/accessors.rt:12:1
 returns-2 : tie.Need-returns-2
 unfolding choose
 returns-2 c = rw (c .before .if1 .left) refl

@@ -1,4 +1,4 @@
-use mathlib.Core.Path.{_≡_, refl, _∙_, sym, ap}
+use mathlib.Core.Path.{_≡_, _∙_, sym, ap}
 use borrow.Author.Needs.{needs}
 use native.Mathlib.Omega.{arith}
 use Prim.Native.Nat.{_+_, _-_, _≤_}
@@ -10,9 +10,6 @@ use Rattle.resolve.specs.Names.{names}
 use Rattle.resolve.proofs.WayLaws.{name-within, last-more, last-end, all-names}
 use Rattle.resolve.proofs.way.last_name.Statement.{statement}
 use Rattle.resolve.proofs.way.last_name.Tie as tie
-use Rattle.resolve.proofs.way.last_name.Reads as reads
-use Rattle.resolve.proofs.way.last_name.Lts as lts
-use Rattle.resolve.proofs.way.name_end.Reads as name-end-reads
 
 abbrev Inv-loop : tie.InvT-loop
 Inv-loop s from₀ e₀ from e = (last-name (names s from) ≡ last-name (split (b ".") s)) × (from ≤ length s) × (e ≡ from + first-part (b ".") (drop from s))
@@ -20,43 +17,33 @@ Inv-loop s from₀ e₀ from e = (last-name (names s from) ≡ last-name (split 
 abbrev μ-loop : tie.MeasureT-loop
 μ-loop s from₀ e₀ from e = length s - e
 
--- src/way.rt:37:9
 name-end-requires : tie.Need-name-end-requires Inv-loop μ-loop
 name-end-requires c κs = search needs
 
--- src/way.rt:38:5
 loop-holds : tie.Need-loop-holds Inv-loop μ-loop
 loop-holds c = (ap last-name (all-names _), omega arith, c .name-end .ensures)
 
--- src/way.rt:39:16
 add-from : tie.Need-add-from Inv-loop μ-loop
 add-from c = search needs
 
--- src/way.rt:40:9
 name-end-requires-2 : tie.Need-name-end-requires-2 Inv-loop μ-loop
 name-end-requires-2 c κs = search needs
 
--- src/way.rt:38:5
 loop-less : tie.Need-loop-less Inv-loop μ-loop
 loop-less c = let e = c .name-end2 .ensures in omega arith
 
--- src/way.rt:38:5
 loop-again : tie.Need-loop-again Inv-loop μ-loop
 loop-again c = (sym (last-more _ _ _ (c .before .before .loop .inv .1) (c .before .before .loop .inv .2) (c .before .loop-test .taken)) ∙ c .before .before .loop .inv .0, omega arith, c .name-end2 .ensures)
 
--- src/way.rt:42:5
 sub-result : tie.Need-sub-result Inv-loop μ-loop
 sub-result c = let l = name-within _ _ _ (c .before .loop .inv .1) (c .before .loop .inv .2) in search needs
 
--- src/way.rt:42:5
 part-result-start : tie.Need-part-result-start Inv-loop μ-loop
 part-result-start c = let l = name-within _ _ _ (c .before .loop .inv .1) (c .before .loop .inv .2) in search needs
 
--- src/way.rt:42:5
 part-result-end : tie.Need-part-result-end Inv-loop μ-loop
 part-result-end c = let l = name-within _ _ _ (c .before .loop .inv .1) (c .before .loop .inv .2) in search needs
 
--- src/way.rt:33:1
 returns : tie.Need-returns Inv-loop μ-loop
 returns c = sym (last-end _ _ _ (c .before .before .loop .inv .1) (c .before .before .loop .inv .2) (c .before .loop-test .left)) ∙ c .before .before .loop .inv .0
 

@@ -7,8 +7,6 @@ use Rattle.extern_paths.specs.Split.{first-part}
 use Rattle.base.specs.Bytes.{b}
 use Rattle.resolve.proofs.way.name_end.Statement.{statement}
 use Rattle.resolve.proofs.way.name_end.Tie as tie
-use Rattle.resolve.proofs.way.name_end.Reads as reads
-use Rattle.resolve.proofs.way.name_end.Lts as lts
 
 abbrev Inv-loop : tie.InvT-loop
 Inv-loop s from i₀ i = i + first-part (b ".") (drop i s) ≡ from + first-part (b ".") (drop from s)
@@ -16,31 +14,24 @@ Inv-loop s from i₀ i = i + first-part (b ".") (drop i s) ≡ from + first-part
 abbrev μ-loop : tie.MeasureT-loop
 μ-loop s from i₀ i = length s - i
 
--- src/way.rt:23:5
 loop-holds : tie.Need-loop-holds Inv-loop μ-loop
 loop-holds c = refl
 
--- src/way.rt:24:12
 shared-slice-read-if1 : tie.Need-shared-slice-read-if1 Inv-loop μ-loop
 shared-slice-read-if1 c = search needs
 
--- src/way.rt:25:13
 returns : tie.Need-returns Inv-loop μ-loop
 returns c = name-stops _ _ (c .before .before .loop-test .taken) (c .if1 .taken) ∙ c .before .before .before .loop .inv
 
--- src/way.rt:27:13
 add-i : tie.Need-add-i Inv-loop μ-loop
 add-i c = search needs
 
--- src/way.rt:23:5
 loop-less : tie.Need-loop-less Inv-loop μ-loop
 loop-less c = search needs
 
--- src/way.rt:23:5
 loop-again : tie.Need-loop-again Inv-loop μ-loop
 loop-again c = name-goes _ _ (c .before .before .loop-test .taken) (c .if1 .left) ∙ c .before .before .before .loop .inv
 
--- src/way.rt:19:1
 returns-2 : tie.Need-returns-2 Inv-loop μ-loop
 returns-2 c = name-ends _ _ (c .loop-test .left) ∙ c .before .loop .inv
 

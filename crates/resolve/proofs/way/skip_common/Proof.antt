@@ -1,16 +1,10 @@
-use mathlib.Core.Path.{_≡_, refl, _∙_, sym}
 use borrow.Author.Needs.{needs}
 use native.Mathlib.Omega.{arith}
-use Prim.Native.Nat.{_+_, _-_, _≤_}
-use lib.ListN.{length, drop}
+use Prim.Native.Nat.{_+_, _-_}
+use lib.ListN.{length}
 use Rattle.resolve.proofs.WayLaws.{name-within, Skipping, skip-start, skip-none, skip-ended, skip-apart, skip-on}
 use Rattle.resolve.proofs.way.skip_common.Statement.{statement}
 use Rattle.resolve.proofs.way.skip_common.Tie as tie
-use Rattle.resolve.proofs.way.skip_common.Reads as reads
-use Rattle.resolve.proofs.way.skip_common.Lts as lts
-use Rattle.base.proofs.same_bytes.Reads as same-bytes-reads
-use Rattle.resolve.proofs.way.name_end.Reads as name-end-reads
-use Rattle.writer.proofs.within.Reads as within-reads
 
 abbrev Inv-loop : tie.InvT-loop
 Inv-loop scope ident i₀ j₀ i j = Skipping scope ident i j
@@ -18,75 +12,57 @@ Inv-loop scope ident i₀ j₀ i j = Skipping scope ident i j
 abbrev μ-loop : tie.MeasureT-loop
 μ-loop scope ident i₀ j₀ i j = length scope + 1 - i
 
--- src/way.rt:37:9
 within-requires : tie.Need-within-requires Inv-loop μ-loop
 within-requires c κs = search needs
 
--- src/way.rt:38:5
 loop-holds : tie.Need-loop-holds Inv-loop μ-loop
 loop-holds c = skip-start _ _ _ (c .within .ensures)
 
--- src/way.rt:39:13
 name-end-requires : tie.Need-name-end-requires Inv-loop μ-loop
 name-end-requires c κs = search needs
 
--- src/way.rt:40:13
 name-end-requires-2 : tie.Need-name-end-requires-2 Inv-loop μ-loop
 name-end-requires-2 c κs = search needs
 
--- src/way.rt:42:13
 returns : tie.Need-returns Inv-loop μ-loop
 returns c = skip-ended (c .before .before .before .before .loop .inv) (c .before .before .before .loop-test .taken) (c .before .before .name-end .ensures) (c .before .name-end2 .ensures) (c .if1 .taken)
 
--- src/way.rt:47:37
 sub-same-bytes : tie.Need-sub-same-bytes Inv-loop μ-loop
 sub-same-bytes c = let l = name-within _ _ _ (c .before .before .before .loop-test .taken) (c .before .before .name-end .ensures) in search needs
 
--- src/way.rt:47:37
 part-same-bytes-start : tie.Need-part-same-bytes-start Inv-loop μ-loop
 part-same-bytes-start c = let l = name-within _ _ _ (c .before .before .before .loop-test .taken) (c .before .before .name-end .ensures) in search needs
 
--- src/way.rt:47:37
 part-same-bytes-end : tie.Need-part-same-bytes-end Inv-loop μ-loop
 part-same-bytes-end c = let l = name-within _ _ _ (c .before .before .before .loop-test .taken) (c .before .before .name-end .ensures) in search needs
 
--- src/way.rt:47:51
 sub-same-bytes-2 : tie.Need-sub-same-bytes-2 Inv-loop μ-loop
 sub-same-bytes-2 c = let l = name-within _ _ _ (c .before .before .before .before .before .loop .inv .within) (c .before .before .name-end2 .ensures) in search needs
 
--- src/way.rt:47:51
 part-same-bytes-start-2 : tie.Need-part-same-bytes-start-2 Inv-loop μ-loop
 part-same-bytes-start-2 c = let l = name-within _ _ _ (c .before .before .before .before .before .loop .inv .within) (c .before .before .name-end2 .ensures) in search needs
 
--- src/way.rt:47:51
 part-same-bytes-end-2 : tie.Need-part-same-bytes-end-2 Inv-loop μ-loop
 part-same-bytes-end-2 c = let l = name-within _ _ _ (c .before .before .before .before .before .loop .inv .within) (c .before .before .name-end2 .ensures) in search needs
 
--- src/way.rt:47:13
 same-bytes-requires : tie.Need-same-bytes-requires Inv-loop μ-loop
 same-bytes-requires c κs = search needs
 
--- src/way.rt:49:17
 add-i : tie.Need-add-i Inv-loop μ-loop
 add-i c = let l = name-within _ _ _ (c .before .before .before .before .before .before .before .loop-test .taken) (c .before .before .before .before .before .before .name-end .ensures) in search needs
 
--- src/way.rt:50:17
 add-j : tie.Need-add-j Inv-loop μ-loop
 add-j c = search needs
 
--- src/way.rt:38:5
 loop-less : tie.Need-loop-less Inv-loop μ-loop
 loop-less c = let l = name-within _ _ _ (c .before .before .before .before .before .before .before .loop-test .taken) (c .before .before .before .before .before .before .name-end .ensures) in omega arith
 
--- src/way.rt:38:5
 loop-again : tie.Need-loop-again Inv-loop μ-loop
 loop-again c = skip-on (c .before .before .before .before .before .before .before .before .loop .inv) (c .before .before .before .before .before .before .before .loop-test .taken) (c .before .before .before .before .before .before .name-end .ensures) (c .before .before .before .before .before .name-end2 .ensures) (c .before .before .before .before .if1 .left) _ (c .before .same-bytes .ensures) (c .if2 .taken)
 
--- src/way.rt:52:13
 returns-2 : tie.Need-returns-2 Inv-loop μ-loop
 returns-2 c = skip-apart (c .before .before .before .before .before .before .before .before .loop .inv) (c .before .before .before .before .before .before .before .loop-test .taken) (c .before .before .before .before .before .before .name-end .ensures) (c .before .before .before .before .before .name-end2 .ensures) (c .before .before .before .before .if1 .left) _ (c .before .same-bytes .ensures) (c .if2 .left)
 
--- src/way.rt:33:1
 returns-3 : tie.Need-returns-3 Inv-loop μ-loop
 returns-3 c = skip-none (c .before .loop .inv) (c .loop-test .left)
 
