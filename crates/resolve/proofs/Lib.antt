@@ -1,2 +1,1 @@
-pub mod WayLaws
 pub mod ProstLaws

@@ -1,6 +1,4 @@
 // code_generator.rs, resolve_ident and resolve_type: the paths and types that a text names, and the types in tags.
-pub mod accessors;
-pub mod way;
 
 use descriptor::FieldView;
 ghost use mathlib.Core.Path.{_≡_};

@@ -1,0 +1,14 @@
+use Rattle.descriptor.specs.Views.{field-of}
+use borrow.Author.Needs.{needs}
+use Rattle.accessors.proofs.kind.Statement.{statement}
+use Rattle.accessors.proofs.kind.Tie as tie
+
+number-or-requires : tie.Need-number-or-requires
+number-or-requires c κs = search needs
+
+returns : tie.Need-returns
+unfolding field-of
+returns c = c .number-or .ensures
+
+pub kind-spec : {M : Type 1} → statement M
+kind-spec = tie.close (tie.spec number-or-requires returns)

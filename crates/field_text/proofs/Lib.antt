@@ -1,2 +1,0 @@
-pub mod DefaultLaws
-pub mod FullNames
