@@ -1,0 +1,6 @@
+pub mod PlaceLaws
+pub mod RoomLaws
+pub mod LengthLaws
+pub mod EnumLaws
+pub mod MessageLaws
+pub mod FileLaws
