@@ -4,3 +4,9 @@ pub mod LengthLaws
 pub mod EnumLaws
 pub mod MessageLaws
 pub mod FileLaws
+pub mod TableLaws
+pub mod FullLaws
+pub mod PartLaws
+pub mod GrownLaws
+pub mod DecodedLaws
+pub mod SetLaws
