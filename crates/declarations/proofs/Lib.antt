@@ -10,3 +10,4 @@ pub mod PartLaws
 pub mod GrownLaws
 pub mod DecodedLaws
 pub mod SetLaws
+pub mod ListedLaws

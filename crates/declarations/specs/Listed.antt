@@ -9,7 +9,8 @@ use Rattle.wire.specs.Records.{part}
 use Rattle.descriptor.specs.Descriptor.{Bytes, FieldDescriptor, EnumDescriptor, MessageDescriptor, FileDescriptor}
 use Rattle.descriptor.specs.Decode.{decode-message}
 use Rattle.name_rules.specs.Accessors.{text}
-use Rattle.name_rules.specs.FullNames.{_·_, package-scope, Entry, entries}
+use Rattle.base.specs.Bytes.{same}
+use Rattle.name_rules.specs.FullNames.{_·_, package-scope, Entry, entries, Declaration}
 use Rattle.declarations.specs.Rows.{row-at}
 use Rattle.declarations.specs.declared.Row.{Row}
 
@@ -77,3 +78,18 @@ listed-file file m f = listed-entries file m (file-entries f) ++ listed-enums fi
 unfoldable pub listed-files : ℕ → ℕ → List FileDescriptor → List Listed
 listed-files file m [] = []
 listed-files file m (f ∷ fs) = listed-file file m f ++ listed-files (file + 1) (m + length (file-entries f)) fs
+
+-- ---- what a list declares
+
+abbrev pub declaration-of : Listed → Declaration
+declaration-of l = record { full = l .full; is-enumeration = l .is-enumeration }
+
+-- the number of the first message with a full name; 0 where there is none
+unfoldable pub number-of : Bytes → List Listed → ℕ
+number-of name [] = 0
+number-of name (l ∷ ls) = choose (l .is-enumeration) (number-of name ls) (choose (same (l .full) name) (l .number) (number-of name ls))
+
+-- the number in declaration order of the first message of a set with a full name, those before it counted from m on; 0 where there is none
+unfoldable pub entry-number : Bytes → ℕ → List Entry → ℕ
+entry-number name m [] = 0
+entry-number name m (e ∷ es) = choose (same (e .full) name) m (entry-number name (m + 1) es)
