@@ -61,7 +61,7 @@ module _ (bytes : Bytes) (cap file : ℕ) where
   pub enums-listed : (up : ℕ) (ps : List Place) (x : State) (scope : Bytes) → Wide cap x → full bytes (x .table) up ≡ scope → up ≤ x .rows
       → x .rows + length (listed-enums file scope (map decode-enum (map (bytes-at bytes) ps))) ≤ cap
       → Grown bytes cap x (declare-enums bytes file up ps x) (listed-enums file scope (map decode-enum (map (bytes-at bytes) ps)))
-        (length (listed-enums file scope (map decode-enum (map (bytes-at bytes) ps)))) 0
+      (length (listed-enums file scope (map decode-enum (map (bytes-at bytes) ps)))) 0
   unfolding declare-enums listed-enums choose declaration-row
   enums-listed up [] x scope w e h room = grown-none bytes cap x w
   enums-listed up (p ∷ ps) x scope w e h room =
@@ -83,7 +83,7 @@ module _ (bytes : Bytes) (cap file : ℕ) where
   entries-node : (scope : Bytes) (n : ℕ) (p : Place) (ps : List Place)
       → messages-at scope (suc n) (p ∷ ps)
       ≡ record { full = scope · text (decode-message (bytes-at bytes p) .name); message = decode-message (bytes-at bytes p) }
-        ∷ (messages-at (scope · text (decode-message (bytes-at bytes p) .name)) n (places bytes 3 p) ++ messages-at scope (suc n) ps)
+      ∷ (messages-at (scope · text (decode-message (bytes-at bytes p) .name)) n (places bytes 3 p) ++ messages-at scope (suc n) ps)
   unfolding decode-messages entries
   entries-node scope n p ps = rw (places-are bytes 3 p)
 
@@ -97,13 +97,13 @@ module _ (bytes : Bytes) (cap file : ℕ) where
       (y : State) → Wide cap y → full bytes (y .table) up ≡ scope → up ≤ y .rows
       → y .rows + length (listed-entries file (y .messages) (messages-at scope n ps)) ≤ cap
       → Grown bytes cap y (declare-messages bytes file n up ps y) (listed-entries file (y .messages) (messages-at scope n ps))
-        (length (listed-entries file (y .messages) (messages-at scope n ps))) (length (messages-at scope n ps))
+      (length (listed-entries file (y .messages) (messages-at scope n ps))) (length (messages-at scope n ps))
 
   -- the same, the messages' number being known
   lists-at : (n up : ℕ) (ps : List Place) (scope : Bytes) → Lists n up ps scope → (y : State) (m : ℕ) → y .messages ≡ m → Wide cap y → full bytes (y .table) up ≡ scope → up ≤ y .rows
       → y .rows + length (listed-entries file m (messages-at scope n ps)) ≤ cap
       → Grown bytes cap y (declare-messages bytes file n up ps y) (listed-entries file m (messages-at scope n ps))
-        (length (listed-entries file m (messages-at scope n ps))) (length (messages-at scope n ps))
+      (length (listed-entries file m (messages-at scope n ps))) (length (messages-at scope n ps))
   lists-at n up ps scope lists y m m-is w e h room =
       let same : listed-entries file (y .messages) (messages-at scope n ps) ≡ listed-entries file m (messages-at scope n ps) = ap (λ (k : ℕ). listed-entries file k (messages-at scope n ps)) m-is in
       grown-as bytes cap y _ _ _ _ _ _ _ (lists y w e h (rw same room)) same (ap length same) refl
@@ -156,7 +156,7 @@ module _ (bytes : Bytes) (cap file : ℕ) where
     node-listed : Lists n (x .rows + 1) (places bytes 3 p) scope₁ → Lists (suc n) up ps scope
         → x .rows + length (listed-entries file (x .messages) (messages-at scope (suc n) (p ∷ ps))) ≤ cap
         → Grown bytes cap x (declare-messages bytes file (suc n) up (p ∷ ps) x) (listed-entries file (x .messages) (messages-at scope (suc n) (p ∷ ps)))
-          (length (listed-entries file (x .messages) (messages-at scope (suc n) (p ∷ ps)))) (length (messages-at scope (suc n) (p ∷ ps)))
+        (length (listed-entries file (x .messages) (messages-at scope (suc n) (p ∷ ps)))) (length (messages-at scope (suc n) (p ∷ ps)))
     unfolding declare-messages choose declaration-row
     node-listed nested following room =
         let whole = ap length parts-listed in

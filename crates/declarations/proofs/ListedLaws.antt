@@ -66,4 +66,4 @@ files-numbered name file m (f ∷ fs) =
     let after : List Listed = listed-files (file + 1) (m + length (file-entries f)) fs in
     ap (number-of name) (append-assoc (listed-entries file m (file-entries f)) enums after)
     ∙ entries-numbered name file m (file-entries f) (set-entries fs) (enums ++ after)
-      (enums-numbered name file (package-scope (f .package-name)) (f .enums) after ∙ files-numbered name (file + 1) (m + length (file-entries f)) fs)
+    (enums-numbered name file (package-scope (f .package-name)) (f .enums) after ∙ files-numbered name (file + 1) (m + length (file-entries f)) fs)

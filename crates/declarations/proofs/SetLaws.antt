@@ -106,7 +106,6 @@ abbrev files-of : Bytes → List Place → List FileDescriptor
 files-of bytes ps = map decode-file (map (bytes-at bytes) ps)
 
 module _ (bytes : Bytes) (cap : ℕ) where
-
   files-listed : (file : ℕ) (ps : List Place) (x : State) → Wide cap x → x .rows + length ps + length (listed-files file (x .messages) (files-of bytes ps)) ≤ cap
       → listed bytes (declare-files bytes file ps x .table) (declare-files bytes file ps x .rows) ≡ listed bytes (x .table) (x .rows) ++ listed-files file (x .messages) (files-of bytes ps)
   unfolding declare-files listed-files

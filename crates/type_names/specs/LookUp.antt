@@ -27,3 +27,17 @@ find-from bytes t name sort (suc n) i = choose (fits bytes t name sort i) i (fin
 
 unfoldable pub find-row : Bytes → List ℕ → Bytes → ℕ → ℕ → ℕ
 find-row bytes t name sort count = find-from bytes t name sort count 0
+
+-- ---- a full name declared before
+
+-- does the declaration in row j have the full name of row i?
+unfoldable pub same-row : Bytes → List ℕ → ℕ → ℕ → Bool
+same-row bytes t i j = choose (eqb (cell-at t j 4) 0) false (same (full bytes t (j + 1)) (full bytes t (i + 1)))
+
+-- does one of the first n rows?
+unfoldable pub before-by : Bytes → List ℕ → ℕ → ℕ → Bool
+before-by bytes t i zero = false
+before-by bytes t i (suc n) = choose (same-row bytes t i n) true (before-by bytes t i n)
+
+unfoldable pub declared-before : Bytes → List ℕ → ℕ → Bool
+declared-before bytes t i = choose (ltb 65535 i) false (before-by bytes t i i)

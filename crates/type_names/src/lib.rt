@@ -1,11 +1,13 @@
 // Type names: which declaration of a set has a full name. Full names are compared from their ends, row by row, and none is built.
 ghost use mathlib.Core.Path.{_≡_};
 ghost use mathlib.Core.Bool.{true, false};
-ghost use Prim.Native.Nat.{ℕ};
+ghost use Prim.Native.Nat.{ℕ, _+_, _<_};
 ghost use Rattle.type_names.specs.Cursors.{Sits, Prior, Entered};
 ghost use lib.Dec.{ltb};
 ghost use Rattle.base.specs.Choose.{choose};
-ghost use Rattle.type_names.specs.LookUp.{named, wanted, fits, find-row};
+ghost use Rattle.base.specs.Bytes.{same};
+ghost use Rattle.declarations.specs.Listed.{full};
+ghost use Rattle.type_names.specs.LookUp.{named, wanted, fits, find-row, same-row, declared-before};
 
 // What is left of a full name, without its end: nothing, or the full name with the code `up`, a dot, and `left` bytes of the
 // set from `start` on.
@@ -175,4 +177,60 @@ pub fn find_row(set: &[u8], t: &[usize], count: usize, name: &[u8], sort: usize)
         i = i + 1;
     }
     count
+}
+
+// Do two rows have one full name?
+fn same_name(set: &[u8], t: &[usize], i: usize, j: usize) -> bool
+    requires { ⌜ (i < 65536) × (j < 65536) ⌝ }
+    ensures { λ r. ⌜ r ≡ same (full (now (set .entry)) (now (t .entry)) (i + 1)) (full (now (set .entry)) (now (t .entry)) (j + 1)) ⌝ }
+{
+    let first = i + 1;
+    let second = j + 1;
+    let mut a = enter(set, t, first);
+    let mut b = enter(set, t, second);
+    loop {
+        let x = read_back(set, t, a);
+        let y = read_back(set, t, b);
+        if !x.found {
+            return !y.found;
+        }
+        if !y.found {
+            return false;
+        }
+        if x.byte != y.byte {
+            return false;
+        }
+        a = x.rest;
+        b = y.rest;
+    }
+}
+
+// Does the declaration in row `j` have the full name of row `i`?
+fn row_same(set: &[u8], t: &[usize], i: usize, j: usize) -> bool
+    requires { ⌜ (i < 65536) × (j < 65536) ⌝ }
+    ensures { λ r. ⌜ r ≡ same-row (now (set .entry)) (now (t .entry)) i j ⌝ }
+{
+    let kind = declarations::cell(t, j, 4);
+    if kind == 0 {
+        return false;
+    }
+    same_name(set, t, j, i)
+}
+
+// Is the full name of the row declared in a row before it?
+pub fn declared_before(set: &[u8], t: &[usize], row: usize) -> bool
+    ensures { λ r. ⌜ r ≡ declared-before (now (set .entry)) (now (t .entry)) row ⌝ }
+{
+    if 65535 < row {
+        return false;
+    }
+    let mut j = row;
+    while 0 < j {
+        let k = j - 1;
+        if row_same(set, t, row, k) {
+            return true;
+        }
+        j = k;
+    }
+    false
 }
