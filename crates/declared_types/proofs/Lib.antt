@@ -1,1 +1,4 @@
 pub mod FieldLaws
+pub mod RowLaws
+pub mod FileLaws
+pub mod SevenLaws
