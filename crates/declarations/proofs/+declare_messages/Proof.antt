@@ -52,99 +52,75 @@ abbrev declare-messages-μ-loop : declare-messages-lts.MeasureT-loop
 declare-messages-μ-loop set from to number left file up t₀ fewer s at₀ k₀ m₀ t at k m = length s - at
 
 module _ (t : ℕ) where
-  -- src/lib.rt:189:9
   declare-messages-returns : declare-messages-lts.Need-returns (declare-messages-claims t) (declare-messages-at t) declare-messages.Post declare-messages-Inv-loop declare-messages-μ-loop
   declare-messages-returns c = record { is = none-left _ _ _ _ _ _ (c .if1 .taken); fewer = c .before .before .before .pre .1 .2 }
 
-  -- src/lib.rt:191:17
   declare-messages-sub-fewer : declare-messages-lts.Need-sub-fewer (declare-messages-claims t) (declare-messages-at t) declare-messages.Post declare-messages-Inv-loop declare-messages-μ-loop
   declare-messages-sub-fewer c = search needs
 
-  -- src/lib.rt:192:9
   declare-messages-part-of-requires : declare-messages-lts.Need-part-of-requires (declare-messages-claims t) (declare-messages-at t) declare-messages.Post declare-messages-Inv-loop declare-messages-μ-loop
   declare-messages-part-of-requires c κs = search needs
 
-  -- src/lib.rt:196:5
   declare-messages-loop-holds : declare-messages-lts.Need-loop-holds (declare-messages-claims t) (declare-messages-at t) declare-messages.Post declare-messages-Inv-loop declare-messages-μ-loop
   declare-messages-loop-holds c = going-start _ _ _ _ _ _ _ _ _ _ (c .part-of .ensures) (c .before .before .before .before .pre .1 .2)
 
-  -- src/lib.rt:197:15
   declare-messages-read-step-requires : declare-messages-lts.Need-read-step-requires (declare-messages-claims t) (declare-messages-at t) declare-messages.Post declare-messages-Inv-loop declare-messages-μ-loop
   declare-messages-read-step-requires c κs = search needs
 
-  -- src/lib.rt:199:17
   declare-messages-enum-told : declare-messages-lts.Need-enum-told (declare-messages-claims t) (declare-messages-at t) declare-messages.Post declare-messages-Inv-loop declare-messages-μ-loop
   declare-messages-enum-told c = search needs
 
-  -- src/lib.rt:199:17
   declare-messages-same-length : declare-messages-lts.Need-same-length (declare-messages-claims t) (declare-messages-at t) declare-messages.Post declare-messages-Inv-loop declare-messages-μ-loop
   declare-messages-same-length c = c .before .before .before .loop .inv .long
 
-  -- src/lib.rt:199:17
   declare-messages-returns-2 : declare-messages-lts.Need-returns-2 (declare-messages-claims t) (declare-messages-at t) declare-messages.Post declare-messages-Inv-loop declare-messages-μ-loop
   declare-messages-returns-2 c = going-end _ _ _ _ _ _ _ _ _ _ _ _ _ _ (c .before .before .before .loop .inv) (places-end _ _ _ _ _ (c .before .before .read-step .ensures) (c .enum-told .given .1))
 
-  -- src/lib.rt:205:17
   declare-messages-enum-told-2 : declare-messages-lts.Need-enum-told-2 (declare-messages-claims t) (declare-messages-at t) declare-messages.Post declare-messages-Inv-loop declare-messages-μ-loop
   declare-messages-enum-told-2 c = search needs
 
-  -- src/lib.rt:205:17
   declare-messages-same-length-2 : declare-messages-lts.Need-same-length-2 (declare-messages-claims t) (declare-messages-at t) declare-messages.Post declare-messages-Inv-loop declare-messages-μ-loop
   declare-messages-same-length-2 c = c .before .before .before .loop .inv .long
 
-  -- src/lib.rt:205:17
   declare-messages-returns-3 : declare-messages-lts.Need-returns-3 (declare-messages-claims t) (declare-messages-at t) declare-messages.Post declare-messages-Inv-loop declare-messages-μ-loop
   declare-messages-returns-3 c = going-end _ _ _ _ _ _ _ _ _ _ _ _ _ _ (c .before .before .before .loop .inv) (places-fault _ _ _ _ _ (c .before .before .read-step .ensures) _ (c .enum-told2 .given .1))
 
-  -- src/lib.rt:210:25
   declare-messages-enum-known-f : declare-messages-lts.Need-enum-known-f (declare-messages-claims t) (declare-messages-at t) declare-messages.Post declare-messages-Inv-loop declare-messages-μ-loop
   declare-messages-enum-known-f c = search needs
 
-  -- src/lib.rt:213:25
   declare-messages-room-for-requires : declare-messages-lts.Need-room-for-requires (declare-messages-claims t) (declare-messages-at t) declare-messages.Post declare-messages-Inv-loop declare-messages-μ-loop
   declare-messages-room-for-requires c κs = search needs
 
-  -- src/lib.rt:214:25
   declare-messages-same-length-3 : declare-messages-lts.Need-same-length-3 (declare-messages-claims t) (declare-messages-at t) declare-messages.Post declare-messages-Inv-loop declare-messages-μ-loop
   declare-messages-same-length-3 c = c .before .before .before .before .before .before .before .before .before .loop .inv .long
 
-  -- src/lib.rt:214:25
   declare-messages-returns-4 : declare-messages-lts.Need-returns-4 (declare-messages-claims t) (declare-messages-at t) declare-messages.Post declare-messages-Inv-loop declare-messages-μ-loop
   declare-messages-returns-4 c = going-full _ _ _ _ _ _ _ _ _ _ _ _ _ _ (c .before .before .before .before .before .before .before .before .before .loop .inv) (c .before .before .before .before .before .before .before .before .before .before .before .if1 .left) _ _ (places-found _ _ _ _ _ (c .before .before .before .before .before .before .before .before .read-step .ensures) _ (c .before .before .before .before .before .before .f .given .1) (c .before .before .before .if2 .taken) _ refl) _ (c .before .room-for .ensures) (c .if3 .taken)
 
-  -- src/lib.rt:219:25
   declare-messages-end-of-requires : declare-messages-lts.Need-end-of-requires (declare-messages-claims t) (declare-messages-at t) declare-messages.Post declare-messages-Inv-loop declare-messages-μ-loop
   declare-messages-end-of-requires c κs = search places
 
-  -- src/lib.rt:220:33
   declare-messages-add-start : declare-messages-lts.Need-add-start (declare-messages-claims t) (declare-messages-at t) declare-messages.Post declare-messages-Inv-loop declare-messages-μ-loop
   declare-messages-add-start c = omega (arith, inside-set _ _ _ _ (c .before .before .before .before .before .before .before .before .before .before .before .before .part-of .ensures) (c .before .before .before .before .before .before .before .before .before .before .before .before .before .before .before .before .pre .1 .0) (c .before .before .before .before .before .before .before .before .before .before .before .before .before .before .before .before .pre .1 .1) _ _ _ (c .before .before .before .before .before .before .before .before .before .before .read-step .ensures) (c .before .before .before .before .before .before .before .before .f .given .1) (c .before .before .before .before .before .before .before .before .f .given .0 .0 .start) (search places))
 
-  -- src/lib.rt:221:31
   declare-messages-add-end : declare-messages-lts.Need-add-end (declare-messages-claims t) (declare-messages-at t) declare-messages.Post declare-messages-Inv-loop declare-messages-μ-loop
   declare-messages-add-end c = omega (arith, inside-set _ _ _ _ (c .before .before .before .before .before .before .before .before .before .before .before .before .part-of .ensures) (c .before .before .before .before .before .before .before .before .before .before .before .before .before .before .before .before .pre .1 .0) (c .before .before .before .before .before .before .before .before .before .before .before .before .before .before .before .before .pre .1 .1) _ _ _ (c .before .before .before .before .before .before .before .before .before .before .read-step .ensures) (c .before .before .before .before .before .before .before .before .f .given .1) _ (c .before .end-of .ensures .2))
 
-  -- src/lib.rt:222:32
   declare-messages-add-kind : declare-messages-lts.Need-add-kind (declare-messages-claims t) (declare-messages-at t) declare-messages.Post declare-messages-Inv-loop declare-messages-μ-loop
   declare-messages-add-kind c = omega (arith, c .before .before .before .before .before .before .before .before .before .before .before .loop .inv .fewer, room-is _ _ (sym (c .before .before .before .room-for .ensures) ∙ not-false _ (c .before .before .if3 .left)))
 
-  -- src/lib.rt:223:32
   declare-messages-add-rows : declare-messages-lts.Need-add-rows (declare-messages-claims t) (declare-messages-at t) declare-messages.Post declare-messages-Inv-loop declare-messages-μ-loop
   declare-messages-add-rows c = omega (arith, c .before .before .before .before .before .before .before .before .before .before .before .loop .inv .fewer, room-is _ _ (sym (c .before .before .before .room-for .ensures) ∙ not-false _ (c .before .before .if3 .left)))
 
-  -- src/lib.rt:224:36
   declare-messages-add-messages : declare-messages-lts.Need-add-messages (declare-messages-claims t) (declare-messages-at t) declare-messages.Post declare-messages-Inv-loop declare-messages-μ-loop
   declare-messages-add-messages c = omega (arith, c .before .before .before .before .before .before .before .before .before .before .before .loop .inv .fewer, room-is _ _ (sym (c .before .before .before .room-for .ensures) ∙ not-false _ (c .before .before .if3 .left)))
 
-  -- src/lib.rt:225:35
   declare-messages-declaration-row-requires : declare-messages-lts.Need-declaration-row-requires (declare-messages-claims t) (declare-messages-at t) declare-messages.Post declare-messages-Inv-loop declare-messages-μ-loop
   declare-messages-declaration-row-requires c κs = search needs
 
-  -- src/lib.rt:225:21
   declare-messages-put-row-requires : declare-messages-lts.Need-put-row-requires (declare-messages-claims t) (declare-messages-at t) declare-messages.Post declare-messages-Inv-loop declare-messages-μ-loop
   declare-messages-put-row-requires c κs = room-is _ _ (sym (c .before .before .before .before .before .room-for .ensures) ∙ not-false _ (c .before .before .before .before .if3 .left))
 
-  -- src/lib.rt:227:25
   declare-messages-declare-enums-requires : declare-messages-lts.Need-declare-enums-requires (declare-messages-claims t) (declare-messages-at t) declare-messages.Post declare-messages-Inv-loop declare-messages-μ-loop
   declare-messages-declare-enums-requires c κs =
       let i = inside-set _ _ _ _ (c .before .before .before .before .before .before .before .before .before .before .before .before .before .before .before .before .before .before .part-of .ensures) (c .before .before .before .before .before .before .before .before .before .before .before .before .before .before .before .before .before .before .before .before .before .before .pre .1 .0) (c .before .before .before .before .before .before .before .before .before .before .before .before .before .before .before .before .before .before .before .before .before .before .pre .1 .1) _ _ _ (c .before .before .before .before .before .before .before .before .before .before .before .before .before .before .before .before .read-step .ensures) (c .before .before .before .before .before .before .before .before .before .before .before .before .before .before .f .given .1) _ (c .before .before .before .before .before .before .before .end-of .ensures .2) in
@@ -152,26 +128,21 @@ module _ (t : ℕ) where
       let e = c .before .before .before .before .before .before .before .end-of .ensures .1 in
       (omega arith, i, omega arith)
 
-  -- src/lib.rt:228:25
   declare-messages-declare-messages-requires : declare-messages-lts.Need-declare-messages-requires (declare-messages-claims t) (declare-messages-at t) declare-messages.Post declare-messages-Inv-loop declare-messages-μ-loop
   declare-messages-declare-messages-requires c κs =
       let i = inside-set _ _ _ _ (c .before .before .before .before .before .before .before .before .before .before .before .before .before .before .before .before .before .before .before .before .before .before .part-of .ensures) (c .before .before .before .before .before .before .before .before .before .before .before .before .before .before .before .before .before .before .before .before .before .before .before .before .before .before .pre .1 .0) (c .before .before .before .before .before .before .before .before .before .before .before .before .before .before .before .before .before .before .before .before .before .before .before .before .before .before .pre .1 .1) _ _ _ (c .before .before .before .before .before .before .before .before .before .before .before .before .before .before .before .before .before .before .before .before .read-step .ensures) (c .before .before .before .before .before .before .before .before .before .before .before .before .before .before .before .before .before .before .f .given .1) _ (c .before .before .before .before .before .before .before .before .before .before .before .end-of .ensures .2) in
       let e = c .before .before .before .before .before .before .before .before .before .before .before .end-of .ensures .1 in
       (omega (arith, c .before .before .before .before .before .before .before .before .before .before .before .before .before .before .before .before .before .before .before .before .before .before .before .if1 .left, c .before .before .before .before .before .before .before .before .before .before .before .before .before .before .before .before .before .before .before .before .before .before .before .before .before .before .pre .0), (omega arith, i, c .before .before .before .declare-enums .ensures .fewer))
 
-  -- src/lib.rt:196:5
   declare-messages-loop-less : declare-messages-lts.Need-loop-less (declare-messages-claims t) (declare-messages-at t) declare-messages.Post declare-messages-Inv-loop declare-messages-μ-loop
   declare-messages-loop-less c = closer _ _ _ _ (c .before .before .before .before .before .before .before .before .before .before .before .before .before .before .before .before .before .before .before .before .before .before .before .read-step .ensures) (c .before .before .before .before .before .before .before .before .before .before .before .before .before .before .before .before .before .before .before .before .before .f .given .1)
 
-  -- src/lib.rt:196:5
   declare-messages-loop-again : declare-messages-lts.Need-loop-again (declare-messages-claims t) (declare-messages-at t) declare-messages.Post declare-messages-Inv-loop declare-messages-μ-loop
   declare-messages-loop-again c = going-more _ _ _ _ _ _ _ _ _ _ _ _ _ _ (c .before .before .before .before .before .before .before .before .before .before .before .before .before .before .before .before .before .before .before .before .before .before .before .before .loop .inv) (c .before .before .before .before .before .before .before .before .before .before .before .before .before .before .before .before .before .before .before .before .before .before .before .before .before .before .if1 .left) _ _ (places-found _ _ _ _ _ (c .before .before .before .before .before .before .before .before .before .before .before .before .before .before .before .before .before .before .before .before .before .before .before .read-step .ensures) _ (c .before .before .before .before .before .before .before .before .before .before .before .before .before .before .before .before .before .before .before .before .before .f .given .1) (c .before .before .before .before .before .before .before .before .before .before .before .before .before .before .before .before .before .before .if2 .taken) _ (c .before .before .before .before .before .before .before .before .before .before .before .before .before .before .end-of .ensures .0)) _ (c .before .before .before .before .before .before .before .before .before .before .before .before .before .before .before .before .room-for .ensures) (c .before .before .before .before .before .before .before .before .before .before .before .before .before .before .before .if3 .left) _ (c .before .before .before .before .before .before .before .before .before .before .before .declaration-row .ensures) _ (c .before .before .before .before .before .before .before .before .before .before .put-row .ensures) _ _ _ _ (c .before .before .before .before .before .before .declare-enums .ensures) (c .before .before .declare-messages .ensures) _ refl
 
-  -- src/lib.rt:196:5
   declare-messages-loop-less-2 : declare-messages-lts.Need-loop-less-2 (declare-messages-claims t) (declare-messages-at t) declare-messages.Post declare-messages-Inv-loop declare-messages-μ-loop
   declare-messages-loop-less-2 c = search places
 
-  -- src/lib.rt:196:5
   declare-messages-loop-again-2 : declare-messages-lts.Need-loop-again-2 (declare-messages-claims t) (declare-messages-at t) declare-messages.Post declare-messages-Inv-loop declare-messages-μ-loop
   declare-messages-loop-again-2 c = going-skip _ _ _ _ _ _ _ _ _ _ _ _ _ _ (c .before .before .before .before .before .before .loop .inv) _ (places-skip _ _ _ _ _ (c .before .before .before .before .before .read-step .ensures) _ (c .before .before .before .f .given .1) (c .if2 .left))
 

@@ -5,41 +5,31 @@ use mathlib.Core.Path.{_≡_, refl, sym, _∙_, ap}
 use borrow.Author.Needs.{needs}
 use Rattle.declarations.proofs.cell.Statement.{statement}
 use Rattle.declarations.proofs.cell.Tie as tie
-use Rattle.declarations.proofs.cell.Reads as reads
-use Rattle.declarations.proofs.cell.Lts as lts
 
--- src/lib.rt:35:9
 returns : tie.Need-returns
 unfolding cell-at
 returns c = search choices depth 9
 
--- src/lib.rt:38:9
 returns-2 : tie.Need-returns-2
 unfolding cell-at
 returns-2 c = search choices depth 9
 
--- src/lib.rt:40:17
 mul-first : tie.Need-mul-first
 mul-first c = search needs
 
--- src/lib.rt:41:14
 add-at : tie.Need-add-at
 add-at c = search needs
 
--- src/lib.rt:43:16
 mul-result : tie.Need-mul-result
 mul-result c = search needs
 
--- src/lib.rt:43:16
 shared-slice-read-result : tie.Need-shared-slice-read-result
 shared-slice-read-result c = search needs
 
--- src/lib.rt:43:9
 returns-3 : tie.Need-returns-3
 unfolding cell-at
 returns-3 c = search choices depth 9
 
--- src/lib.rt:31:1
 returns-4 : tie.Need-returns-4
 unfolding cell-at
 returns-4 c = let z = sym (List·getD-eq-default (c .before .before .before .args .t .now) 0 (c .if3 .left)) in search (choices, z) depth 9

@@ -2,15 +2,10 @@ use Rattle.declarations.specs.Rows.{declaration-row}
 use borrow.Author.Needs.{needs}
 use Rattle.declarations.proofs.declaration_row.Statement.{statement}
 use Rattle.declarations.proofs.declaration_row.Tie as tie
-use Rattle.declarations.proofs.declaration_row.Reads as reads
-use Rattle.declarations.proofs.declaration_row.Lts as lts
-use Rattle.descriptor.proofs.name_view.Reads as name-view-reads
 
--- src/lib.rt:122:9
 name-view-requires : tie.Need-name-view-requires
 name-view-requires c κs = search needs
 
--- src/lib.rt:112:1
 returns : tie.Need-returns
 unfolding declaration-row
 returns c = rw (c .name-view .ensures)

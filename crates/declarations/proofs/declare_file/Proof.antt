@@ -6,58 +6,40 @@ use mathlib.Core.Path.{refl, sym, _∙_}
 use borrow.Author.Needs.{needs}
 use Rattle.declarations.proofs.declare_file.Statement.{statement}
 use Rattle.declarations.proofs.declare_file.Tie as tie
-use Rattle.declarations.proofs.declare_file.Reads as reads
-use Rattle.declarations.proofs.declare_file.Lts as lts
-use Rattle.declarations.proofs.declare_members.Reads as declare-members-reads
-use Rattle.declarations.proofs.put_row.Reads as put-row-reads
-use Rattle.declarations.proofs.room_for.Reads as room-for-reads
-use Rattle.descriptor.proofs.file_view.Reads as file-view-reads
 
--- src/lib.rt:265:19
 file-view-requires : tie.Need-file-view-requires
 file-view-requires c κs = search needs
 
--- src/lib.rt:268:13
 room-for-requires : tie.Need-room-for-requires
 room-for-requires c κs = search needs
 
--- src/lib.rt:269:13
 same-length : tie.Need-same-length
 same-length c = search needs
 
--- src/lib.rt:269:13
 returns : tie.Need-returns
 returns c = package-full _ _ _ _ _ _ (c .before .before .before .before .before .file-view .ensures) (c .before .before .before .if1 .taken) _ (c .before .room-for .ensures) (c .if2 .taken) (c .before .before .before .before .before .before .before .before .pre .2)
 
--- src/lib.rt:280:20
 add-rows : tie.Need-add-rows
 add-rows c = omega (arith, room-is _ _ (sym (c .before .room-for .ensures) ∙ not-false _ (c .if2 .left)))
 
--- src/lib.rt:281:9
 put-row-requires : tie.Need-put-row-requires
 put-row-requires c κs = room-is _ _ (sym (c .before .before .room-for .ensures) ∙ not-false _ (c .before .if2 .left))
 
--- src/lib.rt:286:9
 declare-members-requires : tie.Need-declare-members-requires
 declare-members-requires c κs = search needs
 
--- src/lib.rt:286:9
 same-length-2 : tie.Need-same-length-2
 same-length-2 c = search needs
 
--- src/lib.rt:286:9
 returns-2 : tie.Need-returns-2
 returns-2 c = package-put _ _ _ _ _ _ (c .before .before .before .before .before .before .before .before .before .before .before .before .before .file-view .ensures) (c .before .before .before .before .before .before .before .before .before .before .before .if1 .taken) _ (c .before .before .before .before .before .before .before .before .before .room-for .ensures) (c .before .before .before .before .before .before .before .before .if2 .left) _ (c .before .before .before .before .before .before .put-row .ensures) _ _ (c .before .before .declare-members .ensures)
 
--- src/lib.rt:288:5
 declare-members-requires-2 : tie.Need-declare-members-requires-2
 declare-members-requires-2 c κs = search needs
 
--- src/lib.rt:254:1
 same-length-3 : tie.Need-same-length-3
 same-length-3 c = search needs
 
--- src/lib.rt:254:1
 returns-3 : tie.Need-returns-3
 returns-3 c = no-package _ _ _ _ _ _ (c .before .before .before .before .before .before .file-view .ensures) (c .before .before .before .before .if1 .left) _ _ (c .before .before .declare-members2 .ensures)
 

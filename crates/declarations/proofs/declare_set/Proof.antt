@@ -9,11 +9,6 @@ use Prim.Native.Nat.{_-_, _+_}
 use mathlib.Core.Path.{refl, sym, _∙_}
 use Rattle.declarations.proofs.declare_set.Statement.{statement}
 use Rattle.declarations.proofs.declare_set.Tie as tie
-use Rattle.declarations.proofs.declare_set.Reads as reads
-use Rattle.declarations.proofs.declare_set.Lts as lts
-use Rattle.declarations.proofs.declare_file.Reads as declare-file-reads
-use Rattle.declarations.proofs.end_of.Reads as end-of-reads
-use Rattle.wire.proofs.read_step.Reads as read-step-reads
 
 abbrev Inv-loop : tie.InvT-loop
 Inv-loop set t₀ at₀ file₀ k₀ m₀ t at file k m = Going set t₀ t at file k m
@@ -21,74 +16,58 @@ Inv-loop set t₀ at₀ file₀ k₀ m₀ t at file k m = Going set t₀ t at fi
 abbrev μ-loop : tie.MeasureT-loop
 μ-loop set t₀ at₀ file₀ k₀ m₀ t at file k m = length set - at
 
--- src/lib.rt:299:5
 loop-holds : tie.Need-loop-holds Inv-loop μ-loop
 loop-holds c = going-start _ _
 
--- src/lib.rt:300:15
 read-step-requires : tie.Need-read-step-requires Inv-loop μ-loop
 read-step-requires c κs = search needs
 
--- src/lib.rt:302:17
 enum-told : tie.Need-enum-told Inv-loop μ-loop
 enum-told c = search needs
 
--- src/lib.rt:302:17
 same-length : tie.Need-same-length Inv-loop μ-loop
 same-length c = c .before .before .before .loop .inv .long
 
--- src/lib.rt:302:17
 returns : tie.Need-returns Inv-loop μ-loop
 returns c = going-end _ _ _ _ _ _ _ (c .before .before .before .loop .inv) (places-end _ _ _ _ _ (c .before .before .read-step .ensures) (c .enum-told .given .1))
 
--- src/lib.rt:308:17
 enum-told-2 : tie.Need-enum-told-2 Inv-loop μ-loop
 enum-told-2 c = search needs
 
--- src/lib.rt:308:17
 same-length-2 : tie.Need-same-length-2 Inv-loop μ-loop
 same-length-2 c = c .before .before .before .loop .inv .long
 
--- src/lib.rt:308:17
 returns-2 : tie.Need-returns-2 Inv-loop μ-loop
 returns-2 c = going-end _ _ _ _ _ _ _ (c .before .before .before .loop .inv) (places-fault _ _ _ _ _ (c .before .before .read-step .ensures) _ (c .enum-told2 .given .1))
 
--- src/lib.rt:313:25
 enum-known-f : tie.Need-enum-known-f Inv-loop μ-loop
 enum-known-f c = search needs
 
--- src/lib.rt:316:25
 end-of-requires : tie.Need-end-of-requires Inv-loop μ-loop
 end-of-requires c κs = search places
 
--- src/lib.rt:321:25
 declare-file-requires : tie.Need-declare-file-requires Inv-loop μ-loop
 declare-file-requires c κs =
     let l = lies _ _ _ _ (c .before .before .before .before .before .before .before .read-step .ensures) (c .before .before .before .before .before .f .given .1) in
     let e = c .before .end-of .ensures .2 in
     (c .before .end-of .ensures .1, omega arith, c .before .before .before .before .before .before .before .before .loop .inv .fewer)
 
--- src/lib.rt:324:28
 add-file : tie.Need-add-file Inv-loop μ-loop
 add-file c =
     let l = lies _ _ _ _ (c .before .before .before .before .before .before .before .before .before .before .read-step .ensures) (c .before .before .before .before .before .before .before .before .f .given .1) in
     omega (arith, c .before .before .before .before .before .before .before .before .before .before .before .loop .inv .files, c .before .before .before .before .before .before .before .before .before .before .before .loop .inv .in-set)
 
--- src/lib.rt:299:5
 loop-less : tie.Need-loop-less Inv-loop μ-loop
 loop-less c = search places
 
--- src/lib.rt:299:5
 loop-again : tie.Need-loop-again Inv-loop μ-loop
 loop-again c =
     let l = lies _ _ _ _ (c .before .before .before .before .before .before .before .before .before .before .read-step .ensures) (c .before .before .before .before .before .before .before .before .f .given .1) in
     going-more _ _ _ _ _ _ _ (c .before .before .before .before .before .before .before .before .before .before .before .loop .inv) _ (omega arith) (l .to) _ _ (places-found _ _ _ _ _ (c .before .before .before .before .before .before .before .before .before .before .read-step .ensures) _ (c .before .before .before .before .before .before .before .before .f .given .1) (c .before .before .before .before .before .if1 .taken) _ (c .before .before .before .before .end-of .ensures .0)) _ _ (c .before .before .declare-file .ensures)
 
--- src/lib.rt:299:5
 loop-less-2 : tie.Need-loop-less-2 Inv-loop μ-loop
 loop-less-2 c = search places
 
--- src/lib.rt:299:5
 loop-again-2 : tie.Need-loop-again-2 Inv-loop μ-loop
 loop-again-2 c =
     let l = lies _ _ _ _ (c .before .before .before .before .before .read-step .ensures) (c .before .before .before .f .given .1) in

@@ -3,15 +3,11 @@ use Rattle.index.specs.Places.{end-in}
 use native.Mathlib.Omega.{arith}
 use Rattle.declarations.proofs.end_of.Statement.{statement}
 use Rattle.declarations.proofs.end_of.Tie as tie
-use Rattle.declarations.proofs.end_of.Reads as reads
-use Rattle.declarations.proofs.end_of.Lts as lts
 
--- src/lib.rt:107:9
 returns : tie.Need-returns
 unfolding end-in
 returns c = (search choices depth 9, omega arith, omega arith)
 
--- src/lib.rt:102:1
 returns-2 : tie.Need-returns-2
 unfolding end-in
 returns-2 c = (search choices depth 9, omega arith, omega arith)

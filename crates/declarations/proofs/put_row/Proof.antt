@@ -5,98 +5,73 @@ use mathlib.Core.Path.{refl}
 use borrow.Author.Needs.{needs}
 use Rattle.declarations.proofs.put_row.Statement.{statement}
 use Rattle.declarations.proofs.put_row.Tie as tie
-use Rattle.declarations.proofs.put_row.Reads as reads
-use Rattle.declarations.proofs.put_row.Lts as lts
 
--- src/lib.rt:85:13
 mul-a : tie.Need-mul-a
 mul-a c = search needs
 
--- src/lib.rt:86:13
 add-b : tie.Need-add-b
 add-b c = search needs
 
--- src/lib.rt:87:13
 add-c : tie.Need-add-c
 add-c c = search needs
 
--- src/lib.rt:88:13
 add-d : tie.Need-add-d
 add-d c = search needs
 
--- src/lib.rt:89:13
 add-e : tie.Need-add-e
 add-e c = search needs
 
--- src/lib.rt:90:13
 add-f : tie.Need-add-f
 add-f c = search needs
 
--- src/lib.rt:91:13
 add-g : tie.Need-add-g
 add-g c = search needs
 
--- src/lib.rt:92:5
 mul-t : tie.Need-mul-t
 mul-t c = search needs
 
--- src/lib.rt:92:5
 slice-write-t : tie.Need-slice-write-t
 slice-write-t c = search needs
 
--- src/lib.rt:93:5
 mul-t-2 : tie.Need-mul-t-2
 mul-t-2 c = search needs
 
--- src/lib.rt:93:5
 slice-write-t-2 : tie.Need-slice-write-t-2
 slice-write-t-2 c = simp length-set (omega arith)
 
--- src/lib.rt:94:5
 mul-t-3 : tie.Need-mul-t-3
 mul-t-3 c = search needs
 
--- src/lib.rt:94:5
 slice-write-t-3 : tie.Need-slice-write-t-3
 slice-write-t-3 c = simp length-set (omega arith)
 
--- src/lib.rt:95:5
 mul-t-4 : tie.Need-mul-t-4
 mul-t-4 c = search needs
 
--- src/lib.rt:95:5
 slice-write-t-4 : tie.Need-slice-write-t-4
 slice-write-t-4 c = simp length-set (omega arith)
 
--- src/lib.rt:96:5
 mul-t-5 : tie.Need-mul-t-5
 mul-t-5 c = search needs
 
--- src/lib.rt:96:5
 slice-write-t-5 : tie.Need-slice-write-t-5
 slice-write-t-5 c = simp length-set (omega arith)
 
--- src/lib.rt:97:5
 mul-t-6 : tie.Need-mul-t-6
 mul-t-6 c = search needs
 
--- src/lib.rt:97:5
 slice-write-t-6 : tie.Need-slice-write-t-6
 slice-write-t-6 c = simp length-set (omega arith)
 
--- src/lib.rt:98:5
 mul-t-7 : tie.Need-mul-t-7
 mul-t-7 c = search needs
 
--- src/lib.rt:98:5
 slice-write-t-7 : tie.Need-slice-write-t-7
 slice-write-t-7 c = simp length-set (omega arith)
 
--- src/lib.rt:81:1
 same-length : tie.Need-same-length
 same-length c = search needs
 
--- src/lib.rt:81:1
 returns : tie.Need-returns
 unfolding put
 returns c = refl

@@ -2,39 +2,28 @@ use Rattle.declarations.specs.Rows.{row-at}
 use borrow.Author.Needs.{needs}
 use Rattle.declarations.proofs.row_of.Statement.{statement}
 use Rattle.declarations.proofs.row_of.Tie as tie
-use Rattle.declarations.proofs.row_of.Reads as reads
-use Rattle.declarations.proofs.row_of.Lts as lts
-use Rattle.declarations.proofs.cell.Reads as cell-reads
 
--- src/lib.rt:51:9
 cell-requires : tie.Need-cell-requires
 cell-requires c κs = search needs
 
--- src/lib.rt:52:9
 cell-requires-2 : tie.Need-cell-requires-2
 cell-requires-2 c κs = search needs
 
--- src/lib.rt:53:9
 cell-requires-3 : tie.Need-cell-requires-3
 cell-requires-3 c κs = search needs
 
--- src/lib.rt:54:9
 cell-requires-4 : tie.Need-cell-requires-4
 cell-requires-4 c κs = search needs
 
--- src/lib.rt:55:9
 cell-requires-5 : tie.Need-cell-requires-5
 cell-requires-5 c κs = search needs
 
--- src/lib.rt:56:9
 cell-requires-6 : tie.Need-cell-requires-6
 cell-requires-6 c κs = search needs
 
--- src/lib.rt:57:9
 cell-requires-7 : tie.Need-cell-requires-7
 cell-requires-7 c κs = search needs
 
--- src/lib.rt:48:1
 returns : tie.Need-returns
 unfolding row-at
 returns c = let a = c .before .before .before .before .before .before .cell .ensures in cc
