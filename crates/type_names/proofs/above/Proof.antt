@@ -1,14 +1,10 @@
 use Rattle.base.specs.Choose.{choices}
 use Rattle.type_names.proofs.above.Statement.{statement}
 use Rattle.type_names.proofs.above.Tie as tie
-use Rattle.type_names.proofs.above.Reads as reads
-use Rattle.type_names.proofs.above.Lts as lts
 
--- src/lib.rt:72:9
 returns : tie.Need-returns
 returns c = search choices depth 9
 
--- src/lib.rt:68:1
 returns-2 : tie.Need-returns-2
 returns-2 c = search choices depth 9
 

@@ -3,9 +3,6 @@ use native.Mathlib.Omega.{arith}
 use borrow.Author.Needs.{needs}
 use Rattle.type_names.proofs.declared_before.Statement.{statement}
 use Rattle.type_names.proofs.declared_before.Tie as tie
-use Rattle.type_names.proofs.declared_before.Reads as reads
-use Rattle.type_names.proofs.declared_before.Lts as lts
-use Rattle.type_names.proofs.row_same.Reads as row-same-reads
 
 abbrev Inv-loop : tie.InvT-loop
 Inv-loop set t row j₀ j = Left set t row j
@@ -13,35 +10,27 @@ Inv-loop set t row j₀ j = Left set t row j
 abbrev μ-loop : tie.MeasureT-loop
 μ-loop set t row j₀ j = j
 
--- src/lib.rt:225:9
 returns : tie.Need-returns Inv-loop μ-loop
 returns c = past _ _ _ (c .if1 .taken)
 
--- src/lib.rt:228:5
 loop-holds : tie.Need-loop-holds Inv-loop μ-loop
 loop-holds c = left-start _ _ _ (c .if1 .left)
 
--- src/lib.rt:229:17
 sub-k : tie.Need-sub-k Inv-loop μ-loop
 sub-k c = search needs
 
--- src/lib.rt:230:12
 row-same-requires : tie.Need-row-same-requires Inv-loop μ-loop
 row-same-requires c κs = let a = c .before .loop .inv .few in let b = c .before .loop .inv .inside in (omega arith, omega arith)
 
--- src/lib.rt:231:13
 returns-2 : tie.Need-returns-2 Inv-loop μ-loop
 returns-2 c = left-found _ _ _ _ (c .before .before .before .loop .inv) (c .before .before .loop-test .taken) _ (c .before .row-same .ensures) (c .if2 .taken)
 
--- src/lib.rt:228:5
 loop-less : tie.Need-loop-less Inv-loop μ-loop
 loop-less c = omega (arith, c .before .before .loop-test .taken)
 
--- src/lib.rt:228:5
 loop-again : tie.Need-loop-again Inv-loop μ-loop
 loop-again c = left-more _ _ _ _ (c .before .before .before .loop .inv) (c .before .before .loop-test .taken) _ (c .before .row-same .ensures) (c .if2 .left)
 
--- src/lib.rt:221:1
 returns-3 : tie.Need-returns-3 Inv-loop μ-loop
 returns-3 c = left-end _ _ _ _ (c .before .loop .inv) (c .loop-test .left)
 

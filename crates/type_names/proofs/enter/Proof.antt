@@ -2,48 +2,34 @@ use Rattle.type_names.proofs.NamedLaws.{entered-none, entered-past, ent
 use borrow.Author.Needs.{needs}
 use Rattle.type_names.proofs.enter.Statement.{statement}
 use Rattle.type_names.proofs.enter.Tie as tie
-use Rattle.type_names.proofs.enter.Reads as reads
-use Rattle.type_names.proofs.enter.Lts as lts
-use Rattle.declarations.proofs.cell.Reads as cell-reads
-use Rattle.type_names.proofs.above.Reads as above-reads
 
--- src/lib.rt:31:9
 returns : tie.Need-returns
 returns c = entered-none _ _ _ (c .if1 .taken)
 
--- src/lib.rt:38:13
 sub-i : tie.Need-sub-i
 sub-i c = search needs
 
--- src/lib.rt:39:9
 cell-requires : tie.Need-cell-requires
 cell-requires c κs = search needs
 
--- src/lib.rt:40:9
 cell-requires-2 : tie.Need-cell-requires-2
 cell-requires-2 c κs = search needs
 
--- src/lib.rt:41:20
 cell-requires-3 : tie.Need-cell-requires-3
 cell-requires-3 c κs = search needs
 
--- src/lib.rt:41:9
 above-requires : tie.Need-above-requires
 above-requires c κs = search needs
 
--- src/lib.rt:43:9
 returns-2 : tie.Need-returns-2
 returns-2 c = entered-past _ _ _ (c .before .before .before .before .before .if1 .left) _ _ _ _ (c .before .before .before .before .cell .ensures) (c .before .before .before .cell2 .ensures) (c .before .before .cell3 .ensures) (c .before .above .ensures) (c .if2 .taken)
 
--- src/lib.rt:50:16
 sub-room : tie.Need-sub-room
 sub-room c = search needs
 
--- src/lib.rt:52:9
 returns-3 : tie.Need-returns-3
 returns-3 c = entered-cut _ _ _ (c .before .before .before .before .before .before .if1 .left) _ _ _ _ (c .before .before .before .before .before .cell .ensures) (c .before .before .before .before .cell2 .ensures) (c .before .before .before .cell3 .ensures) (c .before .before .above .ensures) (c .before .if2 .left) (c .if3 .taken)
 
--- src/lib.rt:27:1
 returns-4 : tie.Need-returns-4
 returns-4 c = entered-all _ _ _ (c .before .before .before .before .before .before .if1 .left) _ _ _ _ (c .before .before .before .before .before .cell .ensures) (c .before .before .before .before .cell2 .ensures) (c .before .before .before .cell3 .ensures) (c .before .before .above .ensures) (c .before .if2 .left) (c .if3 .left)
 

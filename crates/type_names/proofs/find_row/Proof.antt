@@ -4,9 +4,6 @@ use native.Mathlib.Omega.{arith}
 use Prim.Native.Nat.{_-_}
 use Rattle.type_names.proofs.find_row.Statement.{statement}
 use Rattle.type_names.proofs.find_row.Tie as tie
-use Rattle.type_names.proofs.find_row.Reads as reads
-use Rattle.type_names.proofs.find_row.Lts as lts
-use Rattle.type_names.proofs.row_fits.Reads as row-fits-reads
 
 abbrev Inv-loop : tie.InvT-loop
 Inv-loop set t count name sort i₀ i = Going set t name sort count i
@@ -14,31 +11,24 @@ Inv-loop set t count name sort i₀ i = Going set t name sort count i
 abbrev μ-loop : tie.MeasureT-loop
 μ-loop set t count name sort i₀ i = count - i
 
--- src/lib.rt:171:5
 loop-holds : tie.Need-loop-holds Inv-loop μ-loop
 loop-holds c = going-start _ _ _ _ _
 
--- src/lib.rt:172:12
 row-fits-requires : tie.Need-row-fits-requires Inv-loop μ-loop
 row-fits-requires c κs = search needs
 
--- src/lib.rt:173:13
 returns : tie.Need-returns Inv-loop μ-loop
 returns c = going-found _ _ _ _ _ _ (c .before .before .before .loop .inv) (c .before .before .loop-test .taken) _ (c .before .row-fits .ensures) (c .if1 .taken)
 
--- src/lib.rt:175:13
 add-i : tie.Need-add-i Inv-loop μ-loop
 add-i c = search needs
 
--- src/lib.rt:171:5
 loop-less : tie.Need-loop-less Inv-loop μ-loop
 loop-less c = omega (arith, c .before .before .loop-test .taken)
 
--- src/lib.rt:171:5
 loop-again : tie.Need-loop-again Inv-loop μ-loop
 loop-again c = going-more _ _ _ _ _ _ (c .before .before .before .loop .inv) (c .before .before .loop-test .taken) _ (c .before .row-fits .ensures) (c .if1 .left)
 
--- src/lib.rt:167:1
 returns-2 : tie.Need-returns-2 Inv-loop μ-loop
 returns-2 c = going-end _ _ _ _ _ _ (c .before .loop .inv) (c .loop-test .left)
 

@@ -2,25 +2,19 @@ use Rattle.base.specs.Choose.{choices}
 use Rattle.type_names.specs.LookUp.{wanted}
 use Rattle.type_names.proofs.is_wanted.Statement.{statement}
 use Rattle.type_names.proofs.is_wanted.Tie as tie
-use Rattle.type_names.proofs.is_wanted.Reads as reads
-use Rattle.type_names.proofs.is_wanted.Lts as lts
 
--- src/lib.rt:144:9
 returns : tie.Need-returns
 unfolding wanted
 returns c = search choices depth 12
 
--- src/lib.rt:147:9
 returns-2 : tie.Need-returns-2
 unfolding wanted
 returns-2 c = search choices depth 12
 
--- src/lib.rt:150:9
 returns-3 : tie.Need-returns-3
 unfolding wanted
 returns-3 c = search choices depth 12
 
--- src/lib.rt:140:1
 returns-4 : tie.Need-returns-4
 unfolding wanted
 returns-4 c = search choices depth 12

@@ -2,29 +2,19 @@ use Rattle.type_names.proofs.FindLaws.{fits-named, fits-not}
 use borrow.Author.Needs.{needs}
 use Rattle.type_names.proofs.row_fits.Statement.{statement}
 use Rattle.type_names.proofs.row_fits.Tie as tie
-use Rattle.type_names.proofs.row_fits.Reads as reads
-use Rattle.type_names.proofs.row_fits.Lts as lts
-use Rattle.declarations.proofs.cell.Reads as cell-reads
-use Rattle.type_names.proofs.is_named.Reads as is-named-reads
-use Rattle.type_names.proofs.is_wanted.Reads as is-wanted-reads
 
--- src/lib.rt:158:9
 cell-requires : tie.Need-cell-requires
 cell-requires c κs = search needs
 
--- src/lib.rt:159:8
 is-wanted-requires : tie.Need-is-wanted-requires
 is-wanted-requires c κs = search needs
 
--- src/lib.rt:160:9
 is-named-requires : tie.Need-is-named-requires
 is-named-requires c κs = search needs
 
--- src/lib.rt:160:9
 returns : tie.Need-returns
 returns c = fits-named _ _ _ _ _ _ _ _ (c .before .before .before .cell .ensures) (c .before .before .is-wanted .ensures) (c .before .if1 .taken) (c .is-named .ensures)
 
--- src/lib.rt:155:1
 returns-2 : tie.Need-returns-2
 returns-2 c = fits-not _ _ _ _ _ _ _ (c .before .before .cell .ensures) (c .before .is-wanted .ensures) (c .if1 .left)
 

@@ -5,10 +5,6 @@ use borrow.Author.Needs.{needs}
 use native.Mathlib.Omega.{arith}
 use Rattle.type_names.proofs.same_name.Statement.{statement}
 use Rattle.type_names.proofs.same_name.Tie as tie
-use Rattle.type_names.proofs.same_name.Reads as reads
-use Rattle.type_names.proofs.same_name.Lts as lts
-use Rattle.type_names.proofs.enter.Reads as enter-reads
-use Rattle.type_names.proofs.read_back.Reads as read-back-reads
 
 abbrev Inv-loop : tie.InvT-loop
 Inv-loop set t i j first second a₀ b₀ a b = Going set t first second a b
@@ -16,51 +12,39 @@ Inv-loop set t i j first second a₀ b₀ a b = Going set t first second a b
 abbrev μ-loop : tie.MeasureT-loop
 μ-loop set t i j first second a₀ b₀ a b = length (spelled set t a)
 
--- src/lib.rt:187:17
 add-first : tie.Need-add-first Inv-loop μ-loop
 add-first c = omega (arith, c .before .before .pre .0, c .before .before .pre .1)
 
--- src/lib.rt:188:18
 add-second : tie.Need-add-second Inv-loop μ-loop
 add-second c = omega (arith, c .before .before .pre .0, c .before .before .pre .1)
 
--- src/lib.rt:189:9
 enter-requires : tie.Need-enter-requires Inv-loop μ-loop
 enter-requires c κs = search needs
 
--- src/lib.rt:190:9
 enter-requires-2 : tie.Need-enter-requires-2 Inv-loop μ-loop
 enter-requires-2 c κs = search needs
 
--- src/lib.rt:191:5
 loop-holds : tie.Need-loop-holds Inv-loop μ-loop
 loop-holds c = going-start _ _ _ _ _ _ (c .before .enter .ensures) (c .enter2 .ensures)
 
--- src/lib.rt:192:13
 read-back-requires : tie.Need-read-back-requires Inv-loop μ-loop
 read-back-requires c κs = c .loop .inv .sits-a
 
--- src/lib.rt:193:13
 read-back-requires-2 : tie.Need-read-back-requires-2 Inv-loop μ-loop
 read-back-requires-2 c κs = c .before .loop .inv .sits-b
 
--- src/lib.rt:195:13
 returns : tie.Need-returns Inv-loop μ-loop
 returns c = going-end _ _ _ _ _ _ (c .before .before .before .before .before .loop .inv) _ _ (c .before .before .before .before .read-back .ensures) (c .before .before .before .read-back2 .ensures) (c .before .if1 .taken)
 
--- src/lib.rt:198:13
 returns-2 : tie.Need-returns-2 Inv-loop μ-loop
 returns-2 c = going-longer _ _ _ _ _ _ (c .before .before .before .before .before .before .loop .inv) _ _ (c .before .before .before .before .before .read-back .ensures) (c .before .before .before .before .read-back2 .ensures) (c .before .before .if1 .left) (c .if2 .taken)
 
--- src/lib.rt:201:13
 returns-3 : tie.Need-returns-3 Inv-loop μ-loop
 returns-3 c = going-unlike _ _ _ _ _ _ (c .before .before .before .before .before .before .before .before .before .loop .inv) _ _ (c .before .before .before .before .before .before .before .before .read-back .ensures) (c .before .before .before .before .before .before .before .read-back2 .ensures) (c .before .before .before .before .before .if1 .left) (c .before .before .before .if2 .left) (c .if3 .taken)
 
--- src/lib.rt:191:5
 loop-less : tie.Need-loop-less Inv-loop μ-loop
 loop-less c = going-less _ _ _ _ _ _ (c .before .before .before .before .before .before .before .before .before .before .before .loop .inv) _ _ (c .before .before .before .before .before .before .before .before .before .before .read-back .ensures) (c .before .before .before .before .before .before .before .before .before .read-back2 .ensures) (c .before .before .before .before .before .before .before .if1 .left) (c .before .before .before .before .before .if2 .left)
 
--- src/lib.rt:191:5
 loop-again : tie.Need-loop-again Inv-loop μ-loop
 loop-again c = going-more _ _ _ _ _ _ (c .before .before .before .before .before .before .before .before .before .before .before .loop .inv) _ _ (c .before .before .before .before .before .before .before .before .before .before .read-back .ensures) (c .before .before .before .before .before .before .before .before .before .read-back2 .ensures) (c .before .before .before .before .before .before .before .if1 .left) (c .before .before .before .before .before .if2 .left) (c .before .before .if3 .left)
 
