@@ -4,11 +4,6 @@ use native.Mathlib.Omega.{arith}
 use Prim.Native.Nat.{_-_}
 use Rattle.declared_types.proofs.first_undeclared.Statement.{statement}
 use Rattle.declared_types.proofs.first_undeclared.Tie as tie
-use Rattle.declared_types.proofs.first_undeclared.Reads as reads
-use Rattle.declared_types.proofs.first_undeclared.Lts as lts
-use Rattle.declarations.proofs.cell.Reads as cell-reads
-use Rattle.declared_types.proofs.is_row_good.Reads as is-row-good-reads
-use Rattle.parts.proofs.count_parts.Reads as count-parts-reads
 
 abbrev Inv-loop : tie.InvT-loop
 Inv-loop set t count files i₀ i = Going set t count i
@@ -16,39 +11,30 @@ Inv-loop set t count files i₀ i = Going set t count i
 abbrev μ-loop : tie.MeasureT-loop
 μ-loop set t count files i₀ i = count - i
 
--- src/lib.rt:108:9
 count-parts-requires : tie.Need-count-parts-requires Inv-loop μ-loop
 count-parts-requires c κs = search needs
 
--- src/lib.rt:110:5
 loop-holds : tie.Need-loop-holds Inv-loop μ-loop
 loop-holds c = going-start _ _ _
 
--- src/lib.rt:111:13
 is-row-good-requires : tie.Need-is-row-good-requires Inv-loop μ-loop
 is-row-good-requires c κs = search needs
 
--- src/lib.rt:112:13
 cell-requires : tie.Need-cell-requires Inv-loop μ-loop
 cell-requires c κs = search needs
 
--- src/lib.rt:112:13
 returns : tie.Need-returns Inv-loop μ-loop
 returns c = going-bad _ _ _ _ (c .before .before .before .before .loop .inv) (c .before .before .before .loop-test .taken) _ (c .before .before .is-row-good .ensures) (c .before .if1 .taken) _ (c .cell .ensures)
 
--- src/lib.rt:114:13
 add-i : tie.Need-add-i Inv-loop μ-loop
 add-i c = search needs
 
--- src/lib.rt:110:5
 loop-less : tie.Need-loop-less Inv-loop μ-loop
 loop-less c = omega (arith, c .before .before .loop-test .taken)
 
--- src/lib.rt:110:5
 loop-again : tie.Need-loop-again Inv-loop μ-loop
 loop-again c = going-more _ _ _ _ (c .before .before .before .loop .inv) (c .before .before .loop-test .taken) _ (c .before .is-row-good .ensures) (c .if1 .left)
 
--- src/lib.rt:105:1
 returns-2 : tie.Need-returns-2 Inv-loop μ-loop
 returns-2 c = going-end _ _ _ _ (c .before .loop .inv) (c .loop-test .left) _ (c .before .before .count-parts .ensures)
 

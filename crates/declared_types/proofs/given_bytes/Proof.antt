@@ -3,32 +3,23 @@ use mathlib.Core.Path.{refl, sym, _∙_}
 use borrow.Author.Needs.{needs}
 use Rattle.declared_types.proofs.given_bytes.Statement.{statement}
 use Rattle.declared_types.proofs.given_bytes.Tie as tie
-use Rattle.declared_types.proofs.given_bytes.Reads as reads
-use Rattle.declared_types.proofs.given_bytes.Lts as lts
-use Rattle.name_rules.proofs.text_bytes.Reads as text-bytes-reads
 
--- src/lib.rt:31:9
 text-bytes-requires : tie.Need-text-bytes-requires
 text-bytes-requires c κs = search needs
 
--- src/lib.rt:31:9
 returns : tie.Need-returns
 unfolding choose
 returns c = rw (c .before .if1 .taken) (c .text-bytes .ensures)
 
--- src/lib.rt:33:5
 sub-result : tie.Need-sub-result
 sub-result c = search needs
 
--- src/lib.rt:33:5
 part-result-start : tie.Need-part-result-start
 part-result-start c = search needs
 
--- src/lib.rt:33:5
 part-result-end : tie.Need-part-result-end
 part-result-end c = search needs
 
--- src/lib.rt:27:1
 returns-2 : tie.Need-returns-2
 unfolding choose
 returns-2 c = rw (c .before .if1 .left)

@@ -2,50 +2,34 @@ use Rattle.declared_types.proofs.FieldLaws.{good-package, good-before, 
 use borrow.Author.Needs.{needs}
 use Rattle.declared_types.proofs.is_row_good.Statement.{statement}
 use Rattle.declared_types.proofs.is_row_good.Tie as tie
-use Rattle.declared_types.proofs.is_row_good.Reads as reads
-use Rattle.declared_types.proofs.is_row_good.Lts as lts
-use Rattle.declarations.proofs.cell.Reads as cell-reads
-use Rattle.declared_types.proofs.types_good.Reads as types-good-reads
-use Rattle.descriptor.proofs.part_of.Reads as part-of-reads
-use Rattle.type_names.proofs.declared_before.Reads as declared-before-reads
 
--- src/lib.rt:89:9
 cell-requires : tie.Need-cell-requires
 cell-requires c κs = search needs
 
--- src/lib.rt:91:9
 returns : tie.Need-returns
 returns c = good-package _ _ _ _ _ (c .before .cell .ensures) (c .if1 .taken)
 
--- src/lib.rt:93:8
 declared-before-requires : tie.Need-declared-before-requires
 declared-before-requires c κs = search needs
 
--- src/lib.rt:94:9
 returns-2 : tie.Need-returns-2
 returns-2 c = good-before _ _ _ _ _ (c .before .before .before .cell .ensures) (c .before .before .if1 .left) _ (c .before .declared-before .ensures) (c .if2 .taken)
 
--- src/lib.rt:97:9
 returns-3 : tie.Need-returns-3
 returns-3 c = good-enum _ _ _ _ _ (c .before .before .before .before .cell .ensures) (c .before .before .before .if1 .left) _ (c .before .before .declared-before .ensures) (c .before .if2 .left) (c .if3 .taken)
 
--- src/lib.rt:99:9
 cell-requires-2 : tie.Need-cell-requires-2
 cell-requires-2 c κs = search needs
 
--- src/lib.rt:100:9
 cell-requires-3 : tie.Need-cell-requires-3
 cell-requires-3 c κs = search needs
 
--- src/lib.rt:101:16
 part-of-requires : tie.Need-part-of-requires
 part-of-requires c κs = search needs
 
--- src/lib.rt:101:5
 types-good-requires : tie.Need-types-good-requires
 types-good-requires c κs = search needs
 
--- src/lib.rt:86:1
 returns-4 : tie.Need-returns-4
 returns-4 c = good-message _ _ _ _ _ (c .before .before .before .before .before .before .before .before .cell .ensures) (c .before .before .before .before .before .before .before .if1 .left) _ (c .before .before .before .before .before .before .declared-before .ensures) (c .before .before .before .before .before .if2 .left) (c .before .before .before .before .if3 .left) _ _ (c .before .before .before .cell2 .ensures) (c .before .before .cell3 .ensures) _ (c .before .part-of .ensures) _ (c .types-good .ensures)
 

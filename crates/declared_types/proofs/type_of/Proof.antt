@@ -2,15 +2,11 @@ use Rattle.base.specs.Choose.{choose}
 use mathlib.Core.Path.{refl}
 use Rattle.declared_types.proofs.type_of.Statement.{statement}
 use Rattle.declared_types.proofs.type_of.Tie as tie
-use Rattle.declared_types.proofs.type_of.Reads as reads
-use Rattle.declared_types.proofs.type_of.Lts as lts
 
--- src/lib.rt:21:9
 returns : tie.Need-returns
 unfolding choose
 returns c = rw (c .if1 .taken)
 
--- src/lib.rt:17:1
 returns-2 : tie.Need-returns-2
 unfolding choose
 returns-2 c = rw (c .if1 .left)

@@ -9,11 +9,6 @@ use lib.ListN.{length}
 use borrow.Author.Needs.{needs}
 use Rattle.declared_types.proofs.types_good.Statement.{statement}
 use Rattle.declared_types.proofs.types_good.Tie as tie
-use Rattle.declared_types.proofs.types_good.Reads as reads
-use Rattle.declared_types.proofs.types_good.Lts as lts
-use Rattle.declared_types.proofs.type_good.Reads as type-good-reads
-use Rattle.parts.proofs.embedded.Reads as embedded-reads
-use Rattle.wire.proofs.read_step.Reads as read-step-reads
 
 abbrev Inv-loop : tie.InvT-loop
 Inv-loop s set t count at₀ at = all (type-known set t count) (parts-from 2 s at) ≡ all (type-known set t count) (parts 2 (entries s))
@@ -21,60 +16,46 @@ Inv-loop s set t count at₀ at = all (type-known set t count) (parts-from 2 s a
 abbrev μ-loop : tie.MeasureT-loop
 μ-loop s set t count at₀ at = length s - at
 
--- src/lib.rt:69:5
 loop-holds : tie.Need-loop-holds Inv-loop μ-loop
 unfolding entries
 loop-holds c = refl
 
--- src/lib.rt:70:15
 read-step-requires : tie.Need-read-step-requires Inv-loop μ-loop
 read-step-requires c κs = search needs
 
--- src/lib.rt:71:26
 enum-told : tie.Need-enum-told Inv-loop μ-loop
 enum-told c = search needs
 
--- src/lib.rt:71:26
 returns : tie.Need-returns Inv-loop μ-loop
 returns c = all-end _ _ _ _ (c .before .before .read-step .ensures) _ (c .enum-told .given .1) ∙ c .before .before .before .loop .inv
 
--- src/lib.rt:72:31
 enum-told-2 : tie.Need-enum-told-2 Inv-loop μ-loop
 enum-told-2 c = search needs
 
--- src/lib.rt:72:31
 returns-2 : tie.Need-returns-2 Inv-loop μ-loop
 returns-2 c = all-fault _ _ _ _ (c .before .before .read-step .ensures) _ _ (c .enum-told2 .given .1) ∙ c .before .before .before .loop .inv
 
--- src/lib.rt:73:25
 enum-known-f : tie.Need-enum-known-f Inv-loop μ-loop
 enum-known-f c = search needs
 
--- src/lib.rt:76:35
 embedded-requires : tie.Need-embedded-requires Inv-loop μ-loop
 embedded-requires c κs = search needs
 
--- src/lib.rt:76:25
 type-good-requires : tie.Need-type-good-requires Inv-loop μ-loop
 type-good-requires c κs = search needs
 
--- src/lib.rt:77:25
 returns-3 : tie.Need-returns-3 Inv-loop μ-loop
 returns-3 c = all-bad _ _ _ _ (c .before .before .before .before .before .before .before .before .read-step .ensures) _ (c .before .before .before .before .before .before .f .given .1) (type-known (c .before .before .before .before .before .before .before .before .before .before .before .before .before .args .set .now) (c .before .before .before .before .before .before .before .before .before .before .before .before .before .args .t .now) (c .before .before .before .before .before .before .before .before .before .before .before .before .before .args .count)) (c .before .before .before .if1 .taken) _ (c .before .before .embedded .ensures) _ (c .before .type-good .ensures) (c .if2 .taken) ∙ c .before .before .before .before .before .before .before .before .before .loop .inv
 
--- src/lib.rt:69:5
 loop-less : tie.Need-loop-less Inv-loop μ-loop
 loop-less c = search places
 
--- src/lib.rt:69:5
 loop-again : tie.Need-loop-again Inv-loop μ-loop
 loop-again c = all-good _ _ _ _ (c .before .before .before .before .before .before .before .before .read-step .ensures) _ (c .before .before .before .before .before .before .f .given .1) (type-known (c .before .before .before .before .before .before .before .before .before .before .before .before .before .args .set .now) (c .before .before .before .before .before .before .before .before .before .before .before .before .before .args .t .now) (c .before .before .before .before .before .before .before .before .before .before .before .before .before .args .count)) (c .before .before .before .if1 .taken) _ (c .before .before .embedded .ensures) _ (c .before .type-good .ensures) (c .if2 .left) ∙ c .before .before .before .before .before .before .before .before .before .loop .inv
 
--- src/lib.rt:69:5
 loop-less-2 : tie.Need-loop-less-2 Inv-loop μ-loop
 loop-less-2 c = search places
 
--- src/lib.rt:69:5
 loop-again-2 : tie.Need-loop-again-2 Inv-loop μ-loop
 loop-again-2 c = ap (all (type-known (c .before .before .before .before .before .before .before .before .before .before .args .set .now) (c .before .before .before .before .before .before .before .before .before .before .args .t .now) (c .before .before .before .before .before .before .before .before .before .before .args .count))) (sym (parts-skip _ _ _ _ (c .before .before .before .before .before .read-step .ensures) _ (c .before .before .before .f .given .1) (c .if1 .left))) ∙ c .before .before .before .before .before .before .loop .inv
 
