@@ -21,6 +21,7 @@ use Rattle.declarations.proofs.ListedLaws.{files-declared}
 use Rattle.declarations.proofs.SetLaws.{set-listed}
 use Rattle.type_names.specs.LookUp.{declared-before}
 use Rattle.declared_types.specs.Undeclared.{field-known, type-known, row-good, undeclared-from, first-undeclared-row}
+use Rattle.declared_types.proofs.CountLaws.{declared-few}
 use Rattle.declared_types.proofs.RowLaws.{D, D-append, listed-from, listed-all, by-kind, known-is, declared-before-is}
 use Rattle.declared_types.proofs.FileLaws.{good, bad-file, files-bad}
 
@@ -99,8 +100,7 @@ module _ (bytes t : List ℕ) (count : ℕ) (few : count ≤ 65536) where
 -- refusal 7 of a set, by the table of its declarations
 pub first-undeclared-is : (bytes t : List ℕ) (cap : ℕ) → cap ≤ 65536 → cap * 7 ≤ length t
     → length (decode-set bytes) + length (listed-files 0 0 (decode-set bytes)) ≤ cap
-    → declared-table bytes t .rows ≤ 65536
     → first-undeclared-row bytes (declared-table bytes t .table) (declared-table bytes t .rows) ≡ first-seven (decode-set bytes)
 unfolding decode-set
-first-undeclared-is bytes t cap small wide room few =
-    first-row-is bytes (declared-table bytes t .table) (declared-table bytes t .rows) few (decode-set bytes) (sym (map-length decode-file (parts 1 (entries bytes)))) (set-listed bytes t cap small wide room)
+first-undeclared-is bytes t cap small wide room =
+    first-row-is bytes (declared-table bytes t .table) (declared-table bytes t .rows) (declared-few bytes t) (decode-set bytes) (sym (map-length decode-file (parts 1 (entries bytes)))) (set-listed bytes t cap small wide room)
