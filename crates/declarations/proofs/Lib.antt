@@ -1,0 +1,13 @@
+pub mod PlaceLaws
+pub mod RoomLaws
+pub mod LengthLaws
+pub mod EnumLaws
+pub mod MessageLaws
+pub mod FileLaws
+pub mod TableLaws
+pub mod FullLaws
+pub mod PartLaws
+pub mod GrownLaws
+pub mod DecodedLaws
+pub mod SetLaws
+pub mod ListedLaws

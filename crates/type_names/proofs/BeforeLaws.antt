@@ -1,0 +1,100 @@
+-- The loops of `same_name` and `declared_before`. Assumes nothing.
+use mathlib.Core.Path.{_≡_, refl, sym, ap, _∙_}
+use mathlib.Core.Bool.{Bool, true, false, not}
+use mathlib.Core.List.{List, [], _∷_, _++_}
+use Prim.Native.Nat.{ℕ, zero, suc, _+_, _-_, _≤_, _<_}
+use native.Mathlib.Omega.{arith}
+use lib.ListN.{length, length-append}
+use borrow.Author.Tests.{not-true, not-false, le-ltb, lt-ltb, eq-eqb, ne-eqb}
+use Rattle.base.specs.Bytes.{same}
+use Rattle.base.specs.Choose.{choose}
+use Rattle.descriptor.specs.Descriptor.{Bytes}
+use Rattle.declarations.specs.Rows.{cell-at}
+use Rattle.declarations.specs.Listed.{full}
+use Rattle.type_names.specs.Cursors.{spelled, Sits, Entered, Prior}
+use Rattle.type_names.specs.LookUp.{same-row, before-by, declared-before}
+use Rattle.type_names.specs.declared.Cursor.{Cursor}
+use Rattle.type_names.specs.declared.Back.{Back}
+use Rattle.type_names.proofs.CursorLaws.{last-alike, last-unlike, longer, shorter}
+
+module _ (bytes t : List ℕ) (i j : ℕ) where
+  abbrev whole : Bool
+  whole = same (full bytes t i) (full bytes t j)
+
+  pub record Going (a b : Cursor) : Type 0 where
+    pub sits-a : Sits bytes a
+    pub sits-b : Sits bytes b
+    pub left : same (spelled bytes t a) (spelled bytes t b) ≡ whole
+
+  pub going-start : (a b : Cursor) → Entered bytes t i a → Entered bytes t j b → Going a b
+  going-start a b x y = record { sits-a = x .sits; sits-b = y .sits; left = rw (x .whole, y .whole) }
+
+  module _ (a b : Cursor) (going : Going a b) (x y : Back) (prior-a : Prior bytes t a x) (prior-b : Prior bytes t b y) where
+    pub going-end : not (x .found) ≡ true → not (y .found) ≡ whole
+    unfolding same
+    going-end h = by-found (y .found) refl
+      where
+        by-found : (f : Bool) → y .found ≡ f → not f ≡ whole
+        by-found false e = rw (prior-a .ended (not-true (x .found) h), prior-b .ended e) at (going .left)
+        by-found true e = sym (shorter (spelled bytes t (y .rest)) (y .byte)) ∙ (rw (prior-a .ended (not-true (x .found) h), prior-b .read e) at (going .left))
+
+    module _ (h : not (x .found) ≡ false) where
+      more-a : spelled bytes t a ≡ spelled bytes t (x .rest) ++ (x .byte ∷ [])
+      more-a = prior-a .read (not-false (x .found) h)
+
+      pub going-longer : not (y .found) ≡ true → false ≡ whole
+      going-longer k = sym (longer (spelled bytes t (x .rest)) (x .byte)) ∙ (rw (more-a, prior-b .ended (not-true (y .found) k)) at (going .left))
+
+      module _ (k : not (y .found) ≡ false) where
+        both : same (spelled bytes t (x .rest) ++ (x .byte ∷ [])) (spelled bytes t (y .rest) ++ (y .byte ∷ [])) ≡ whole
+        both = rw (← more-a, ← prior-b .read (not-false (y .found) k)) (going .left)
+
+        pub going-unlike : (x .byte ≡ y .byte → ⊥) → false ≡ whole
+        going-unlike n = sym (last-unlike (spelled bytes t (x .rest)) (spelled bytes t (y .rest)) (x .byte) (y .byte) n) ∙ both
+
+        pub going-more : x .byte ≡ y .byte → Going (x .rest) (y .rest)
+        going-more e =
+            record { sits-a = prior-a .sits; sits-b = prior-b .sits; left = sym (last-alike (spelled bytes t (x .rest)) (spelled bytes t (y .rest)) (x .byte) (y .byte) e) ∙ both }
+
+        pub going-less : length (spelled bytes t (x .rest)) < length (spelled bytes t a)
+        going-less = let e = ap length more-a in let l = length-append (spelled bytes t (x .rest)) (x .byte ∷ []) in omega arith
+
+module _ (bytes t : List ℕ) (i : ℕ) where
+  pub row-package : (j kind : ℕ) → kind ≡ cell-at t j 4 → kind ≡ 0 → false ≡ same-row bytes t i j
+  unfolding same-row choose
+  row-package j kind e z = rw (← e, eq-eqb kind 0 z)
+
+  pub row-is : (j kind : ℕ) → kind ≡ cell-at t j 4 → (kind ≡ 0 → ⊥) → (r : Bool) → r ≡ same (full bytes t (j + 1)) (full bytes t (i + 1)) → r ≡ same-row bytes t i j
+  unfolding same-row choose
+  row-is j kind e z r h = rw (← e, ne-eqb kind 0 z) h
+
+  pub past : 65535 < i → false ≡ declared-before bytes t i
+  unfolding declared-before choose
+  past h = rw (lt-ltb 65535 i h)
+
+  pub record Left (j : ℕ) : Type 0 where
+    pub few : i ≤ 65535
+    pub inside : j ≤ i
+    pub is : before-by bytes t i j ≡ declared-before bytes t i
+
+  pub left-start : i ≤ 65535 → Left i
+  unfolding declared-before choose
+  left-start few = record { few = few; inside = omega arith; is = rw (le-ltb 65535 i few) }
+
+  module _ (j : ℕ) (left : Left j) where
+    pub left-end : j ≤ 0 → false ≡ declared-before bytes t i
+    unfolding before-by
+    left-end h = let z : j ≡ 0 = omega arith in rw z at (left .is)
+
+    module _ (h : 0 < j) (r : Bool) (r-is : r ≡ same-row bytes t i (j - 1)) where
+      opened : choose r true (before-by bytes t i (j - 1)) ≡ declared-before bytes t i
+      unfolding before-by
+      opened = let z : j ≡ suc (j - 1) = omega arith in rw r-is (sym (ap (before-by bytes t i) z) ∙ left .is)
+
+      pub left-found : r ≡ true → true ≡ declared-before bytes t i
+      unfolding choose
+      left-found e = rw e at opened
+
+      pub left-more : r ≡ false → Left (j - 1)
+      unfolding choose
+      left-more e = let k = left .inside in record { few = left .few; inside = omega arith; is = rw e at opened }

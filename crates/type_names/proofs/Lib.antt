@@ -1,0 +1,6 @@
+pub mod CursorLaws
+pub mod NamedLaws
+pub mod FindLaws
+pub mod BeforeLaws
+pub mod FreshLaws
+pub mod SevenTheorems

@@ -1,0 +1,50 @@
+use Rattle.type_names.proofs.BeforeLaws.{past, Left, left-start, left-end, left-found, left-more}
+use native.Mathlib.Omega.{arith}
+use borrow.Author.Needs.{needs}
+use Rattle.type_names.proofs.declared_before.Statement.{statement}
+use Rattle.type_names.proofs.declared_before.Tie as tie
+
+abbrev Inv-loop : tie.InvT-loop
+Inv-loop set t row j₀ j = Left set t row j
+
+abbrev μ-loop : tie.MeasureT-loop
+μ-loop set t row j₀ j = j
+
+returns : tie.Need-returns Inv-loop μ-loop
+returns c = past _ _ _ (c .if1 .taken)
+
+loop-holds : tie.Need-loop-holds Inv-loop μ-loop
+loop-holds c = left-start _ _ _ (c .if1 .left)
+
+sub-k : tie.Need-sub-k Inv-loop μ-loop
+sub-k c = search needs
+
+row-same-requires : tie.Need-row-same-requires Inv-loop μ-loop
+row-same-requires c κs = let a = c .before .loop .inv .few in let b = c .before .loop .inv .inside in (omega arith, omega arith)
+
+returns-2 : tie.Need-returns-2 Inv-loop μ-loop
+returns-2 c = left-found _ _ _ _ (c .before .before .before .loop .inv) (c .before .before .loop-test .taken) _ (c .before .row-same .ensures) (c .if2 .taken)
+
+loop-less : tie.Need-loop-less Inv-loop μ-loop
+loop-less c = omega (arith, c .before .before .loop-test .taken)
+
+loop-again : tie.Need-loop-again Inv-loop μ-loop
+loop-again c = left-more _ _ _ _ (c .before .before .before .loop .inv) (c .before .before .loop-test .taken) _ (c .before .row-same .ensures) (c .if2 .left)
+
+returns-3 : tie.Need-returns-3 Inv-loop μ-loop
+returns-3 c = left-end _ _ _ _ (c .before .loop .inv) (c .loop-test .left)
+
+pub declared-before-spec : {M : Type 1} → statement M
+declared-before-spec =
+    tie.close
+    (tie.spec
+    Inv-loop
+    μ-loop
+    returns
+    loop-holds
+    sub-k
+    row-same-requires
+    returns-2
+    loop-less
+    loop-again
+    returns-3)
