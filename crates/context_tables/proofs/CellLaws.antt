@@ -1,0 +1,38 @@
+-- What the code reads for a cell is what the definitions say. Assumes nothing.
+use mathlib.Core.Path.{_≡_, refl, sym, ap, _∙_}
+use mathlib.Core.Bool.{Bool, not}
+use mathlib.Core.List.{List}
+use Prim.Native.Nat.{ℕ, _-_, _/_, _%_}
+use lib.Dec.{eqb}
+use lib.ListN.{getD}
+use Rattle.wire.specs.Records.{part}
+use Rattle.descriptor.specs.Decode.{decode-message}
+use Rattle.descriptor.specs.Views.{message-in}
+use Rattle.descriptor.specs.declared.MessageView.{MessageView}
+use Rattle.descriptor.proofs.ViewTheorems.{message-entry-is}
+use Rattle.index.specs.Tree.{row-at, row-bytes}
+use Rattle.index.specs.declared.Row.{Row}
+use Rattle.context_tables.specs.Cells.{is-set-at, entry-at, message-number, message-cell, field-number, field-cell}
+
+pub set-read : (bytes : List ℕ) (i x : ℕ) → x ≡ getD bytes i 0 → not (eqb x 0) ≡ is-set-at bytes i
+unfolding is-set-at
+set-read bytes i x e = ap (λ (n : ℕ). not (eqb n 0)) e
+
+pub message-read : (rows first : List ℕ) (copy eq : List Bool) (at r : ℕ) → r ≡ message-number rows first copy eq (at / 4) (at % 4) → r ≡ message-cell rows first copy eq at
+unfolding message-cell
+message-read rows first copy eq at r e = e
+
+pub field-read : (rows target kind label : List ℕ) (boxed settings copy eq entries : List Bool) (at r : ℕ)
+    → r ≡ field-number rows target kind label boxed settings copy eq entries (at / 5) (at % 5) → r ≡ field-cell rows target kind label boxed settings copy eq entries at
+unfolding field-cell
+field-read rows target kind label boxed settings copy eq entries at r e = e
+
+pub entry-read : (set rows : List ℕ) (i : ℕ) (row : Row) → row ≡ row-at rows i → (start end : ℕ) → start ≡ row .start → end ≡ row .end
+    → (v : MessageView) → v ≡ message-in start (part set start (end - start)) → v .entry ≡ entry-at set rows i
+unfolding entry-at
+entry-read set rows i row row-is start end start-is end-is v view-is =
+    ap (λ (w : MessageView). w .entry) view-is
+    ∙ message-entry-is set start (end - start)
+    ∙ ap (λ (a : ℕ). decode-message (part set a (end - a)) .map-entry) start-is
+    ∙ ap (λ (a : ℕ). decode-message (part set (row .start) (a - row .start)) .map-entry) end-is
+    ∙ ap (λ (x : Row). decode-message (row-bytes set x) .map-entry) row-is
