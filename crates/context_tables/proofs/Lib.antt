@@ -1,3 +1,5 @@
 pub mod CellLaws
 pub mod RowLaws
 pub mod TargetLaws
+pub mod SetTables
+pub mod NamedRows
