@@ -3,3 +3,4 @@ pub mod RowLaws
 pub mod TargetLaws
 pub mod SetTables
 pub mod NamedRows
+pub mod SettingLaws
