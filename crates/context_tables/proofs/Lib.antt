@@ -4,3 +4,4 @@ pub mod TargetLaws
 pub mod SetTables
 pub mod NamedRows
 pub mod SettingLaws
+pub mod FitLaws
