@@ -5,3 +5,4 @@ pub mod SetTables
 pub mod NamedRows
 pub mod SettingLaws
 pub mod FitLaws
+pub mod SettingColumn

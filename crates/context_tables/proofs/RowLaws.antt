@@ -14,7 +14,8 @@ use Rattle.derives.specs.declared.Derive.the-variants.{Copy, Eq}
 use Rattle.text_tables.specs.Rows.{message-row, field-row}
 use Rattle.context_tables.specs.Cells.{bit, message-number, message-cell, field-can, entry-row, field-number, field-cell}
 
-bit-flag : (b : Bool) → not (eqb (bit b) 0) ≡ b
+-- a flag is read as it was put
+pub bit-flag : (b : Bool) → not (eqb (bit b) 0) ≡ b
 unfolding bit choose
 bit-flag true = refl
 bit-flag false = refl

@@ -42,7 +42,7 @@ map-self : {A : Type 0} (xs : List A) → map (λ (x : A). x) xs ≡ xs
 map-self [] = refl
 map-self {A} (x ∷ xs) = ap (λ (l : List A). x ∷ l) (map-self xs)
 
-rows-fields : (i : ℕ) (es : List Entry) → map (λ (r : Row). r .field) (rows-from i es) ≡ fields-of-entries es
+pub rows-fields : (i : ℕ) (es : List Entry) → map (λ (r : Row). r .field) (rows-from i es) ≡ fields-of-entries es
 unfolding rows-from fields-of-entries
 rows-fields i [] = refl
 rows-fields i (e ∷ es) =
