@@ -12,7 +12,13 @@ use Rattle.descriptor.specs.declared.MessageView.{MessageView}
 use Rattle.descriptor.proofs.ViewTheorems.{message-entry-is}
 use Rattle.index.specs.Tree.{row-at, row-bytes}
 use Rattle.index.specs.declared.Row.{Row}
-use Rattle.context_tables.specs.Cells.{is-set-at, entry-at, message-number, message-cell, field-number, field-cell}
+use Rattle.message_graph.specs.Limit.{messages}
+use Rattle.message_graph.specs.Fields.{Fields}
+use Rattle.message_graph.specs.Boxes.{boxed-by-loop}
+use Rattle.message_graph.specs.Tab.{tab}
+use Rattle.derives.specs.declared.Derive.the-variants.{Copy, Eq}
+use Rattle.field_columns.specs.Columns.{start-at}
+use Rattle.context_tables.specs.Cells.{is-set-at, entry-at, message-number, message-cell, field-number, field-cell, can, message-table, field-table}
 
 pub set-read : (bytes : List ℕ) (i x : ℕ) → x ≡ getD bytes i 0 → not (eqb x 0) ≡ is-set-at bytes i
 unfolding is-set-at
@@ -36,3 +42,15 @@ entry-read set rows i row row-is start end start-is end-is v view-is =
     ∙ ap (λ (a : ℕ). decode-message (part set a (end - a)) .map-entry) start-is
     ∙ ap (λ (a : ℕ). decode-message (part set (row .start) (a - row .start)) .map-entry) end-is
     ∙ ap (λ (x : Row). decode-message (row-bytes set x) .map-entry) row-is
+
+module _ (f : Fields) (settings copy eq : List Bool) (copy-is : copy ≡ can Copy f settings) (eq-is : eq ≡ can Eq f settings) where
+  pub messages-filled : (size : ℕ) (rows table first : List ℕ) (n m : ℕ) → m ≡ messages → first ≡ tab m (start-at table n)
+      → (r : List ℕ) → r ≡ tab size (message-cell rows first copy eq) → r ≡ message-table size rows table n f settings
+  unfolding message-table
+  messages-filled size rows table first n m whole first-is r is =
+      is ∙ rw (first-is, whole, copy-is, eq-is)
+
+  pub fields-filled : (size m : ℕ) (rows : List ℕ) (boxed entries : List Bool) → boxed ≡ tab m (boxed-by-loop f)
+      → (r : List ℕ) → r ≡ tab size (field-cell rows (f .target) (f .kind) (f .label) boxed settings copy eq entries) → r ≡ field-table size m rows f settings entries
+  unfolding field-table
+  fields-filled size m rows boxed entries boxed-is r is = is ∙ rw (boxed-is, copy-is, eq-is)

@@ -6,3 +6,4 @@ pub mod NamedRows
 pub mod SettingLaws
 pub mod FitLaws
 pub mod SettingColumn
+pub mod EntryPlaces

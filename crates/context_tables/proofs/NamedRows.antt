@@ -14,7 +14,7 @@ use Rattle.descriptor.specs.Descriptor.{Bytes, FileDescriptor}
 use Rattle.descriptor.specs.Decode.{decode-set}
 use Rattle.descriptor.specs.Limits.{messages-in, max-messages}
 use Rattle.options.specs.Settings.{Setting}
-use Rattle.name_rules.specs.Accessors.{text, type, is-repeated, is-message, is-group}
+use Rattle.name_rules.specs.Accessors.{text, type, label, is-repeated, is-message, is-group}
 use Rattle.name_rules.specs.FullNames.{_·_, Entry, set-entries}
 use Rattle.name_rules.specs.Answer.{names}
 use Rattle.name_rules.specs.declared.Names.the-variants.{Good}
@@ -35,7 +35,7 @@ use Rattle.field_columns.specs.declared.Column.the-variants.{Kind, Label}
 use Rattle.context_laws.specs.At.{At, at-within}
 use Rattle.context_laws.specs.Tables.{Row, rows-of, number-of, type-name-of, tables-of, settings-of, Sound}
 use Rattle.context_laws.specs.Numbers.{number-below}
-use Rattle.context_laws.specs.Rows.{first-row, row-kind, row-target, row-within}
+use Rattle.context_laws.specs.Rows.{first-row, row-kind, row-label, row-target, row-within}
 use Rattle.context_laws.specs.Rows as table-rows
 use Rattle.context_laws.specs.Boxed.{should-box-by-number}
 use Rattle.context_laws.specs.Derived.{message-copy-by-number, message-eq-by-number, field-copy-by-number, field-eq-by-number}
@@ -124,6 +124,17 @@ module _ (set rows : List ℕ) (count : ℕ) (table : MessageTable set rows coun
         message-at-is target i (omega arith) ∙ is ∙ sym (row-target s (p .1)))
         (λ w. both-ways (subst (λ (k : ℕ). (eqb k type-message || eqb k type-group) ≡ true) (no-type i (ltb-false i (size T) w)) h) refl)
         (bool-cases (ltb i (size T)))
+
+    -- what the columns have of the field k
+    module _ {r : Row} {k : ℕ} (p : At r (rows-of es) k) where
+      pub kind-at : getD (columns .kind) k 0 ≡ type (r .field)
+      kind-at = ap (λ (l : List ℕ). getD l k 0) (kind-is set rows count table t fields-table n holds room few good) ∙ row-kind s p
+
+      pub label-at : getD (columns .label) k 0 ≡ label (r .field)
+      label-at = ap (λ (l : List ℕ). getD l k 0) (label-is set rows count table t fields-table n holds room few good) ∙ row-label s p
+
+      pub target-at : (is-message (r .field) || is-group (r .field)) ≡ true → message-at target k ≡ number-of es (type-name-of r)
+      target-at h = agree k (subst (λ (x : ℕ). (eqb x type-message || eqb x type-group) ≡ true) (sym (row-kind s p)) h) ∙ row-target s p
 
     -- the answers that `can_derive` gives over the columns
     module _ (rs : List Setting) where

@@ -8,10 +8,15 @@ use Rattle.base.specs.Choose.{choose}
 use Rattle.descriptor.specs.Decode.{decode-message}
 use Rattle.index.specs.Tree.{row-at, row-bytes}
 use Rattle.index.specs.declared.Row.{Row}
-use Rattle.message_graph.specs.Fields.{message-at, type-message, label-repeated}
+use Rattle.message_graph.specs.Limit.{messages}
+use Rattle.message_graph.specs.Fields.{Fields, fields, message-at, type-message, label-repeated}
+use Rattle.message_graph.specs.Boxes.{boxed-by-loop}
+use Rattle.message_graph.specs.Tab.{tab}
 use Rattle.derives.specs.declared.Derive.{Derive}
 use Rattle.derives.specs.declared.Derive.the-variants.{Copy, Eq}
 use Rattle.derives.specs.Rules.{rule}
+use Rattle.derives.specs.Can.{can-message-derive}
+use Rattle.field_columns.specs.Columns.{start-at}
 
 unfoldable pub bit : Bool → ℕ
 bit b = choose b 1 0
@@ -64,3 +69,20 @@ module _ (rows target kind label : List ℕ) (boxed settings copy eq entries : L
 
   unfoldable pub field-cell : ℕ → ℕ
   field-cell at = field-number (at / 5) (at % 5)
+
+-- ---- both, from the columns over the fields
+
+abbrev pub columns : List ℕ → List ℕ → List ℕ → List ℕ → Fields
+columns owner target kind label = fields owner target kind label
+
+abbrev pub can : Derive → Fields → List Bool → List Bool
+can d f settings = tab messages (can-message-derive d f settings)
+
+-- size numbers; n is how many rows the table of fields has
+unfoldable pub message-table : ℕ → List ℕ → List ℕ → ℕ → Fields → List Bool → List ℕ
+message-table size rows table n f settings = tab size (message-cell rows (tab messages (start-at table n)) (can Copy f settings) (can Eq f settings))
+
+-- size numbers; m is how far the table of boxes goes
+unfoldable pub field-table : ℕ → ℕ → List ℕ → Fields → List Bool → List Bool → List ℕ
+field-table size m rows f settings entries =
+    tab size (field-cell rows (f .target) (f .kind) (f .label) (tab m (boxed-by-loop f)) settings (can Copy f settings) (can Eq f settings) entries)

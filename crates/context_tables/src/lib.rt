@@ -5,12 +5,14 @@ ghost use Prim.Native.Nat.{_/_, _%_, _<_};
 ghost use lib.ListN.{length, getD};
 ghost use Rattle.derives.specs.Rules.{rule};
 ghost use Rattle.message_graph.specs.Fields.{message-at};
+ghost use Rattle.message_graph.specs.Boxes.{boxed-by-loop};
 ghost use Rattle.message_graph.specs.Tab.{tab};
-ghost use Rattle.context_tables.specs.Cells.{bit, is-set-at, entry-at, message-number, message-cell, field-can, names-entry, entry-row, field-number, field-cell};
+ghost use Rattle.context_tables.specs.Cells.{bit, is-set-at, entry-at, message-number, message-cell, field-can, names-entry, entry-row, field-number, field-cell, columns, message-table, field-table};
 use derives::Derive;
 use index::Row;
 use message_graph::Index;
 use message_graph::LABEL_REPEATED;
+use message_graph::MESSAGES;
 use message_graph::TYPE_MESSAGE;
 
 fn bit(b: bool) -> u16
@@ -250,4 +252,44 @@ pub fn fill_fields(
         );
         i += 1;
     }
+}
+
+// Both tables, from the columns over the fields: `n` is how many rows `fields` has. `boxed` is left with the fields that are boxed by a
+// loop.
+pub fn fill_rows(
+    messages: &mut [u16],
+    t: &mut [u16],
+    boxed: &mut [bool],
+    rows: &[u16],
+    fields: &[u16],
+    n: usize,
+    owner: &[Index],
+    target: &[Index],
+    kind: &[u8],
+    label: &[u8],
+    settings: &[bool],
+    entries: &[bool],
+)
+    ensures { λ _. ⌜ now (messages .exit) ≡ message-table (length (now (messages .entry))) (now (rows .entry)) (now (fields .entry)) n (columns (now (owner .entry)) (now (target .entry)) (now (kind .entry)) (now (label .entry))) (now (settings .entry)) ⌝ }
+    ensures { λ _. ⌜ now (t .exit) ≡ field-table (length (now (t .entry))) (length (now (boxed .entry))) (now (rows .entry)) (columns (now (owner .entry)) (now (target .entry)) (now (kind .entry)) (now (label .entry))) (now (settings .entry)) (now (entries .entry)) ⌝ }
+    ensures { λ _. ⌜ now (boxed .exit) ≡ tab (length (now (boxed .entry))) (boxed-by-loop (columns (now (owner .entry)) (now (target .entry)) (now (kind .entry)) (now (label .entry)))) ⌝ }
+{
+    let mut first = [0u16; MESSAGES];
+    field_columns::fill_starts(fields, n, &mut first);
+    let can = derives::can_derive(owner, target, kind, label, settings, boxed);
+    let copy = can.copy;
+    let eq = can.eq;
+    fill_messages(messages, rows, &first, &copy, &eq);
+    fill_fields(
+        t,
+        rows,
+        target,
+        kind,
+        label,
+        boxed,
+        settings,
+        &copy,
+        &eq,
+        entries,
+    );
 }
