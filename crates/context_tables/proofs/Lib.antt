@@ -7,3 +7,4 @@ pub mod SettingLaws
 pub mod FitLaws
 pub mod SettingColumn
 pub mod EntryPlaces
+pub mod TableTheorems
