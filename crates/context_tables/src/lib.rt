@@ -1,0 +1,295 @@
+// The two tables that the text's writers read: four numbers for each message of a set, and five for each field.
+ghost use mathlib.Core.Path.{_≡_};
+ghost use mathlib.Core.Bool.{false};
+ghost use Prim.Native.Nat.{_/_, _%_, _<_};
+ghost use lib.ListN.{length, getD};
+ghost use Rattle.derives.specs.Rules.{rule};
+ghost use Rattle.message_graph.specs.Fields.{message-at};
+ghost use Rattle.message_graph.specs.Boxes.{boxed-by-loop};
+ghost use Rattle.message_graph.specs.Tab.{tab};
+ghost use Rattle.context_tables.specs.Cells.{bit, is-set-at, entry-at, message-number, message-cell, field-can, names-entry, entry-row, field-number, field-cell, columns, message-table, field-table};
+use derives::Derive;
+use index::Row;
+use message_graph::Index;
+use message_graph::LABEL_REPEATED;
+use message_graph::MESSAGES;
+use message_graph::TYPE_MESSAGE;
+
+fn bit(b: bool) -> u16
+    ensures { λ r. ⌜ r ≡ bit b ⌝ }
+{
+    if b {
+        return 1;
+    }
+    0
+}
+
+// The flag that a table has at i, and false past its end.
+fn flag_at(s: &[bool], i: usize) -> bool
+    ensures { λ r. ⌜ r ≡ getD (now (s .entry)) i false ⌝ }
+{
+    if i < s.len() {
+        return s[i];
+    }
+    false
+}
+
+// The number that a table has at i, and 0 past its end.
+fn word_at(t: &[u16], i: usize) -> u16
+    ensures { λ r. ⌜ r ≡ getD (now (t .entry)) i 0 ⌝ }
+{
+    if i < t.len() {
+        return t[i];
+    }
+    0
+}
+
+fn wide(x: u16) -> usize
+    ensures { λ r. ⌜ r ≡ x ⌝ }
+{
+    x as usize
+}
+
+// For each place of `out`, whether the byte there isn't 0: the boxed settings.
+pub fn fill_settings(bytes: &[u8], out: &mut [bool])
+    ensures { λ _. ⌜ now (out .exit) ≡ tab (length (now (out .entry))) (is-set-at (now (bytes .entry))) ⌝ }
+{
+    let mut i = 0;
+    while i < out.len() {
+        let x = base::byte_at(bytes, i);
+        out[i] = x != 0;
+        i += 1;
+    }
+}
+
+fn entry_at(set: &[u8], rows: &[u16], i: usize) -> bool
+    ensures { λ r. ⌜ r ≡ entry-at (now (set .entry)) (now (rows .entry)) i ⌝ }
+{
+    let row = index::row_of(rows, i);
+    let start = wide(row.start);
+    let end = wide(row.end);
+    let view = descriptor::message_view(set, start, end);
+    view.entry
+}
+
+// For each place of `out`, whether the message with that number is a map entry.
+pub fn fill_entries(set: &[u8], rows: &[u16], out: &mut [bool])
+    ensures { λ _. ⌜ now (out .exit) ≡ tab (length (now (out .entry))) (entry-at (now (set .entry)) (now (rows .entry))) ⌝ }
+{
+    let mut i = 0;
+    while i < out.len() {
+        out[i] = entry_at(set, rows, i);
+        i += 1;
+    }
+}
+
+// The number in a column of the row of message `i`.
+fn message_number(
+    rows: &[u16],
+    first: &[u16],
+    copy: &[bool],
+    eq: &[bool],
+    i: usize,
+    column: usize,
+) -> u16
+    ensures { λ r. ⌜ r ≡ message-number (now (rows .entry)) (now (first .entry)) (now (copy .entry)) (now (eq .entry)) i column ⌝ }
+{
+    if column == 0 {
+        let can = flag_at(copy, i);
+        return bit(can);
+    }
+    if column == 1 {
+        let can = flag_at(eq, i);
+        return bit(can);
+    }
+    if column == 2 {
+        return word_at(first, i);
+    }
+    let row = index::row_of(rows, i);
+    row.after
+}
+
+// The rows of the messages: `rows` has their places, `first` where the fields of each begin, `copy` and `eq` what each can derive.
+pub fn fill_messages(t: &mut [u16], rows: &[u16], first: &[u16], copy: &[bool], eq: &[bool])
+    ensures { λ _. ⌜ now (t .exit) ≡ tab (length (now (t .entry))) (message-cell (now (rows .entry)) (now (first .entry)) (now (copy .entry)) (now (eq .entry))) ⌝ }
+{
+    let mut i = 0;
+    while i < t.len() {
+        let message = i / 4;
+        let column = i % 4;
+        t[i] = message_number(rows, first, copy, eq, message, column);
+        i += 1;
+    }
+}
+
+// Can field `k` derive it? `can` has the messages' answers.
+fn field_can(
+    derive: Derive,
+    target: &[Index],
+    kind: &[u8],
+    label: &[u8],
+    boxed: &[bool],
+    settings: &[bool],
+    can: &[bool],
+    k: usize,
+) -> bool
+    ensures { λ r. ⌜ r ≡ field-can derive (now (target .entry)) (now (kind .entry)) (now (label .entry)) (now (boxed .entry)) (now (settings .entry)) (now (can .entry)) k ⌝ }
+{
+    let x = base::byte_at(kind, k);
+    let y = base::byte_at(label, k);
+    let looped = flag_at(boxed, k);
+    let set = flag_at(settings, k);
+    let message = message_graph::message_at(target, k);
+    let answer = flag_at(can, message);
+    derives::can_field_derive(derive, x, y, looped, set, answer)
+}
+
+// Is field `k` a repeated field of type message whose type is a map entry?
+fn names_entry(target: &[Index], kind: &[u8], label: &[u8], entries: &[bool], k: usize) -> bool
+    ensures { λ r. ⌜ r ≡ names-entry (now (target .entry)) (now (kind .entry)) (now (label .entry)) (now (entries .entry)) k ⌝ }
+{
+    if base::byte_at(kind, k) == TYPE_MESSAGE {
+        if base::byte_at(label, k) == LABEL_REPEATED {
+            let message = message_graph::message_at(target, k);
+            return flag_at(entries, message);
+        }
+        return false;
+    }
+    false
+}
+
+// The row of the map entry that field `k` names; nothing but 0 where it names none.
+fn entry_row(
+    rows: &[u16],
+    target: &[Index],
+    kind: &[u8],
+    label: &[u8],
+    entries: &[bool],
+    k: usize,
+) -> Row
+    ensures { λ r. ⌜ r ≡ entry-row (now (rows .entry)) (now (target .entry)) (now (kind .entry)) (now (label .entry)) (now (entries .entry)) k ⌝ }
+{
+    if names_entry(target, kind, label, entries, k) {
+        let message = message_graph::message_at(target, k);
+        return index::row_of(rows, message);
+    }
+    Row {
+        start: 0,
+        end: 0,
+        file: 0,
+        up: 0,
+        after: 0,
+    }
+}
+
+// The number in a column of the row of field `k`.
+fn field_number(
+    rows: &[u16],
+    target: &[Index],
+    kind: &[u8],
+    label: &[u8],
+    boxed: &[bool],
+    settings: &[bool],
+    copy: &[bool],
+    eq: &[bool],
+    entries: &[bool],
+    k: usize,
+    column: usize,
+) -> u16
+    ensures { λ r. ⌜ r ≡ field-number (now (rows .entry)) (now (target .entry)) (now (kind .entry)) (now (label .entry)) (now (boxed .entry)) (now (settings .entry)) (now (copy .entry)) (now (eq .entry)) (now (entries .entry)) k column ⌝ }
+{
+    if column == 0 {
+        let looped = flag_at(boxed, k);
+        return bit(looped);
+    }
+    if column == 1 {
+        let can = field_can(Derive::Copy, target, kind, label, boxed, settings, copy, k);
+        return bit(can);
+    }
+    if column == 2 {
+        let can = field_can(Derive::Eq, target, kind, label, boxed, settings, eq, k);
+        return bit(can);
+    }
+    let row = entry_row(rows, target, kind, label, entries, k);
+    if column == 3 {
+        return row.start;
+    }
+    row.end
+}
+
+// The rows of the fields: `boxed` has those that are boxed by a loop, `settings` those with a boxed setting, `copy` and `eq` what each
+// message can derive, `entries` which messages are map entries.
+pub fn fill_fields(
+    t: &mut [u16],
+    rows: &[u16],
+    target: &[Index],
+    kind: &[u8],
+    label: &[u8],
+    boxed: &[bool],
+    settings: &[bool],
+    copy: &[bool],
+    eq: &[bool],
+    entries: &[bool],
+)
+    ensures { λ _. ⌜ now (t .exit) ≡ tab (length (now (t .entry))) (field-cell (now (rows .entry)) (now (target .entry)) (now (kind .entry)) (now (label .entry)) (now (boxed .entry)) (now (settings .entry)) (now (copy .entry)) (now (eq .entry)) (now (entries .entry))) ⌝ }
+{
+    let mut i = 0;
+    while i < t.len() {
+        let k = i / 5;
+        let column = i % 5;
+        t[i] = field_number(
+            rows,
+            target,
+            kind,
+            label,
+            boxed,
+            settings,
+            copy,
+            eq,
+            entries,
+            k,
+            column,
+        );
+        i += 1;
+    }
+}
+
+// Both tables, from the columns over the fields: `n` is how many rows `fields` has. `boxed` is left with the fields that are boxed by a
+// loop.
+pub fn fill_rows(
+    messages: &mut [u16],
+    t: &mut [u16],
+    boxed: &mut [bool],
+    rows: &[u16],
+    fields: &[u16],
+    n: usize,
+    owner: &[Index],
+    target: &[Index],
+    kind: &[u8],
+    label: &[u8],
+    settings: &[bool],
+    entries: &[bool],
+)
+    ensures { λ _. ⌜ now (messages .exit) ≡ message-table (length (now (messages .entry))) (now (rows .entry)) (now (fields .entry)) n (columns (now (owner .entry)) (now (target .entry)) (now (kind .entry)) (now (label .entry))) (now (settings .entry)) ⌝ }
+    ensures { λ _. ⌜ now (t .exit) ≡ field-table (length (now (t .entry))) (length (now (boxed .entry))) (now (rows .entry)) (columns (now (owner .entry)) (now (target .entry)) (now (kind .entry)) (now (label .entry))) (now (settings .entry)) (now (entries .entry)) ⌝ }
+    ensures { λ _. ⌜ now (boxed .exit) ≡ tab (length (now (boxed .entry))) (boxed-by-loop (columns (now (owner .entry)) (now (target .entry)) (now (kind .entry)) (now (label .entry)))) ⌝ }
+{
+    let mut first = [0u16; MESSAGES];
+    field_columns::fill_starts(fields, n, &mut first);
+    let can = derives::can_derive(owner, target, kind, label, settings, boxed);
+    let copy = can.copy;
+    let eq = can.eq;
+    fill_messages(messages, rows, &first, &copy, &eq);
+    fill_fields(
+        t,
+        rows,
+        target,
+        kind,
+        label,
+        boxed,
+        settings,
+        &copy,
+        &eq,
+        entries,
+    );
+}
