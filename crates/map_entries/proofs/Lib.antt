@@ -1,0 +1,4 @@
+pub mod CountLaws
+pub mod UseLaws
+pub mod PassLaws
+pub mod EntryRowLaws
