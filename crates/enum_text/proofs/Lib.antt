@@ -1,0 +1,4 @@
+pub mod KeptLaws
+pub mod ValueLaws
+pub mod WalkLaws
+pub mod EnumLaws

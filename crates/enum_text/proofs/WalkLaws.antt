@@ -1,0 +1,106 @@
+-- An enum by its part: where its text is left out; and the enums of a part, one record on. Assumes nothing.
+use Prim.Native.Nat.{ℕ, _-_, _≤_, _<_}
+use mathlib.Core.Path.{_≡_, refl, sym, ap, ap₂, subst, _∙_}
+use mathlib.Core.Bool.{Bool, true, false}
+use mathlib.Core.List.{List, [], _∷_, _++_, map}
+use lib.ListN.{length, take, drop}
+use Rattle.writer.specs.Text.{pick}
+use Rattle.writer.specs.Wrote.{Wrote, named}
+use Rattle.wire.specs.Step.{stepAt}
+use Rattle.wire.specs.Records.{part}
+use Rattle.wire.specs.Contents.{value-of}
+use Rattle.wire.specs.declared.Record.{Record}
+use Rattle.wire.specs.declared.Step.{Step}
+use Rattle.wire.specs.declared.Step.the-variants.{End, Fault, Found}
+use Rattle.descriptor.specs.Descriptor.{Bytes, EnumDescriptor, ValueDescriptor}
+use Rattle.descriptor.specs.Decode.{bytes-in, decode-value, decode-enum, decode-oneof}
+use Rattle.descriptor.specs.Views.{text-of, name-in}
+use Rattle.descriptor.specs.declared.Text.{Text}
+use Rattle.parts.proofs.PartLaws.{parts-from, parts-end, parts-fault, parts-skip, parts-found}
+use Rattle.options.specs.Settings.{Setting}
+use Rattle.extern_paths.specs.ExternPaths.{taken}
+use Rattle.name_rules.specs.Accessors.{text}
+use Rattle.name_rules.specs.FullNames.{_·_}
+use Rattle.name_rules.proofs.ViewedLaws.{oneof-is}
+use Rattle.joined.specs.Joined.{max-path, fits, has-room, no-room, held}
+use Rattle.code_generator.specs.Enums.{value-number, build-enum-value-mappings}
+use Rattle.enum_text.specs.Kept.{no-values, note, noted, values-in, marked-in}
+use Rattle.enum_text.specs.declared.Kept.{Kept}
+use Rattle.enum_text.specs.EnumText.{first-values, written-text, enum-text, enum-texts}
+use Rattle.enum_text.proofs.KeptLaws.{kept-values}
+
+-- the values that are kept of an enum's part
+pub kept-in : (s : List ℕ) (x : Kept) → x ≡ noted no-values (values-in s) → marked-in (x .marks) s ≡ build-enum-value-mappings (first-values (decode-enum s))
+unfolding decode-enum
+kept-in s x e = kept-values x (values-in s) e
+
+pub own-name : (s : List ℕ) (v : Text) → v ≡ name-in 0 (part s 0 (length s - 0)) → (own : List ℕ) → own ≡ text (text-of s v) → own ≡ text (decode-enum s .name)
+unfolding decode-enum decode-oneof
+own-name s v ev own eo = eo ∙ ap text (oneof-is s v ev)
+
+-- the enum's full name is joined in a buffer of which n bytes were needed
+module _ (rs : List Setting) (d : ℕ) (scope : Bytes) (e : EnumDescriptor) (own : Bytes) (is : own ≡ text (e .name)) {t t' : List ℕ} {n : ℕ} (w : Wrote t 0 (scope · own) t' n) (size : length t ≡ max-path) where
+  joined-name : Wrote t 0 (scope · text (e .name)) t' n
+  joined-name = named (ap (λ (x : Bytes). scope · x) is) w
+
+  pub enum-unfit : max-path < n → [] ≡ enum-text rs d scope e
+  unfolding enum-text fits
+  enum-unfit h = rw (no-room joined-name size h)
+
+  module _ (h : n ≤ max-path) (r : Bool) (answer : r ≡ taken rs (take (n - 0) (drop 0 t'))) where
+    is-taken : r ≡ taken rs (scope · text (e .name))
+    is-taken = answer ∙ ap (taken rs) (held joined-name size h)
+
+    pub enum-taken : r ≡ true → [] ≡ enum-text rs d scope e
+    unfolding enum-text fits
+    enum-taken q = rw (has-room joined-name size h, ← is-taken, q)
+
+    pub enum-there : r ≡ false → (k : ℕ) → k ≡ d → written-text rs k (take (n - 0) (drop 0 t')) own (build-enum-value-mappings (first-values e)) ≡ enum-text rs d scope e
+    unfolding enum-text fits
+    enum-there q k same =
+        rw (has-room joined-name size h, ← is-taken, q)
+        (ap (λ (x : ℕ). written-text rs x (take (n - 0) (drop 0 t')) own (build-enum-value-mappings (first-values e))) same
+        ∙ ap₂ (λ (x y : Bytes). written-text rs d x y (build-enum-value-mappings (first-values e))) (held joined-name size h) is)
+
+-- ---- the enums of a part, from a record on
+module _ (rs : List Setting) (d : ℕ) (scope : Bytes) where
+  abbrev pub enums-from : ℕ → List ℕ → ℕ → Bytes
+  enums-from number s at = enum-texts rs d scope (map decode-enum (parts-from number s at))
+
+  module _ (number : ℕ) (s : List ℕ) (at : ℕ) (r : Step) (e : r ≡ stepAt s at) where
+    pub enums-end : r ≡ End → enums-from number s at ≡ []
+    unfolding enum-texts
+    enums-end is = rw (parts-end number s at r e is)
+
+    pub enums-fault : (key : ℕ) → r ≡ Fault key → enums-from number s at ≡ []
+    unfolding enum-texts
+    enums-fault key is = rw (parts-fault number s at r e key is)
+
+    module _ (f : Record) (is : r ≡ Found f) where
+      pub enums-skip : (f .number ≡ number → ⊥) → enums-from number s at ≡ enums-from number s (f .next)
+      enums-skip ne = rw (parts-skip number s at r e f is ne)
+
+      pub enums-more : f .number ≡ number → (x : List ℕ) → x ≡ bytes-in (value-of s f) → enums-from number s at ≡ enum-text rs d scope (decode-enum x) ++ enums-from number s (f .next)
+      unfolding enum-texts
+      enums-more q x ex = rw (parts-found number s at r e f is q, ex)
+
+-- ---- which values are kept, from a record on
+abbrev pub noted-from : List ℕ → ℕ → Kept → Kept
+noted-from s at x = noted x (map decode-value (parts-from 2 s at))
+
+module _ (s : List ℕ) (at : ℕ) (r : Step) (e : r ≡ stepAt s at) (x : Kept) where
+  pub noted-end : r ≡ End → x ≡ noted-from s at x
+  unfolding noted
+  noted-end is = rw (parts-end 2 s at r e is)
+
+  pub noted-fault : (key : ℕ) → r ≡ Fault key → x ≡ noted-from s at x
+  unfolding noted
+  noted-fault key is = rw (parts-fault 2 s at r e key is)
+
+  module _ (f : Record) (is : r ≡ Found f) where
+    pub noted-skip : (f .number ≡ 2 → ⊥) → noted-from s (f .next) x ≡ noted-from s at x
+    noted-skip ne = rw (parts-skip 2 s at r e f is ne)
+
+    pub noted-value : f .number ≡ 2 → (p : List ℕ) → p ≡ bytes-in (value-of s f) → (n : ℕ) → n ≡ value-number (decode-value p) → (y : Kept) → y ≡ note n x → noted-from s (f .next) y ≡ noted-from s at x
+    unfolding noted
+    noted-value q p there n number y turn = rw (parts-found 2 s at r e f is q, turn, number, there)
