@@ -23,7 +23,7 @@ use Rattle.code_generator.specs.Enums.{value-number, is-used, mappings-from, bu
 use Rattle.enum_text.specs.EnumText.{values-fit, enum-fits, variant-text, value-text, value-texts, declaration-text, written-text, enum-text, enum-texts}
 
 -- what holds of all values holds of those that are kept
-all-kept : (p : ValueDescriptor → Bool) (us : List ℕ) (vs : List ValueDescriptor) → all p vs ≡ true → all p (mappings-from us vs) ≡ true
+pub all-kept : (p : ValueDescriptor → Bool) (us : List ℕ) (vs : List ValueDescriptor) → all p vs ≡ true → all p (mappings-from us vs) ≡ true
 unfolding all mappings-from
 all-kept p us [] h = refl
 all-kept p us (v ∷ vs) h =

@@ -2,3 +2,4 @@ pub mod KeptLaws
 pub mod ValueLaws
 pub mod WalkLaws
 pub mod EnumLaws
+pub mod OverlapLaws

@@ -4,7 +4,7 @@ use mathlib.Core.Path.{_≡_, refl, sym, ap, ap₂, subst, _∙_}
 use mathlib.Core.Bool.{Bool, true, false}
 use mathlib.Core.List.{List, [], _∷_, _++_, map}
 use lib.ListN.{length, take, drop}
-use Rattle.writer.specs.Text.{pick}
+use Rattle.base.specs.Choose.{choose}
 use Rattle.writer.specs.Wrote.{Wrote, named}
 use Rattle.wire.specs.Step.{stepAt}
 use Rattle.wire.specs.Records.{part}
@@ -24,6 +24,8 @@ use Rattle.name_rules.specs.FullNames.{_·_}
 use Rattle.name_rules.proofs.ViewedLaws.{oneof-is}
 use Rattle.joined.specs.Joined.{max-path, fits, has-room, no-room, held}
 use Rattle.code_generator.specs.Enums.{value-number, build-enum-value-mappings}
+use Rattle.code_generator.specs.Refusals.{overlap}
+use Rattle.enum_text.specs.Overlap.{names, enum-meets}
 use Rattle.enum_text.specs.Kept.{no-values, note, noted, values-in, marked-in}
 use Rattle.enum_text.specs.declared.Kept.{Kept}
 use Rattle.enum_text.specs.EnumText.{first-values, written-text, enum-text, enum-texts}
@@ -39,28 +41,51 @@ unfolding decode-enum decode-oneof
 own-name s v ev own eo = eo ∙ ap text (oneof-is s v ev)
 
 -- the enum's full name is joined in a buffer of which n bytes were needed
-module _ (rs : List Setting) (d : ℕ) (scope : Bytes) (e : EnumDescriptor) (own : Bytes) (is : own ≡ text (e .name)) {t t' : List ℕ} {n : ℕ} (w : Wrote t 0 (scope · own) t' n) (size : length t ≡ max-path) where
-  joined-name : Wrote t 0 (scope · text (e .name)) t' n
-  joined-name = named (ap (λ (x : Bytes). scope · x) is) w
+module _ (scope : Bytes) (e : EnumDescriptor) (own : Bytes) (is : own ≡ text (e .name)) {t t' : List ℕ} {n : ℕ} (w : Wrote t 0 (scope · own) t' n) (size : length t ≡ max-path) where
+  full-unfit : max-path < n → fits scope (text (e .name)) ≡ false
+  unfolding fits
+  full-unfit h = no-room (named (ap (λ (x : Bytes). scope · x) is) w) size h
 
-  pub enum-unfit : max-path < n → [] ≡ enum-text rs d scope e
-  unfolding enum-text fits
-  enum-unfit h = rw (no-room joined-name size h)
+  full-fits : n ≤ max-path → fits scope (text (e .name)) ≡ true
+  unfolding fits
+  full-fits h = has-room (named (ap (λ (x : Bytes). scope · x) is) w) size h
 
-  module _ (h : n ≤ max-path) (r : Bool) (answer : r ≡ taken rs (take (n - 0) (drop 0 t'))) where
-    is-taken : r ≡ taken rs (scope · text (e .name))
-    is-taken = answer ∙ ap (taken rs) (held joined-name size h)
+  full-held : n ≤ max-path → take (n - 0) (drop 0 t') ≡ scope · text (e .name)
+  full-held h = held (named (ap (λ (x : Bytes). scope · x) is) w) size h
 
-    pub enum-taken : r ≡ true → [] ≡ enum-text rs d scope e
-    unfolding enum-text fits
-    enum-taken q = rw (has-room joined-name size h, ← is-taken, q)
+  module _ (rs : List Setting) where
+    pub enum-unfit : (d : ℕ) → max-path < n → [] ≡ enum-text rs d scope e
+    unfolding enum-text
+    enum-unfit d h = rw (full-unfit h)
 
-    pub enum-there : r ≡ false → (k : ℕ) → k ≡ d → written-text rs k (take (n - 0) (drop 0 t')) own (build-enum-value-mappings (first-values e)) ≡ enum-text rs d scope e
-    unfolding enum-text fits
-    enum-there q k same =
-        rw (has-room joined-name size h, ← is-taken, q)
-        (ap (λ (x : ℕ). written-text rs x (take (n - 0) (drop 0 t')) own (build-enum-value-mappings (first-values e))) same
-        ∙ ap₂ (λ (x y : Bytes). written-text rs d x y (build-enum-value-mappings (first-values e))) (held joined-name size h) is)
+    pub meets-unfit : max-path < n → false ≡ enum-meets rs scope e
+    unfolding enum-meets choose
+    meets-unfit h = rw (full-unfit h)
+
+    module _ (h : n ≤ max-path) (r : Bool) (answer : r ≡ taken rs (take (n - 0) (drop 0 t'))) where
+      is-taken : r ≡ taken rs (scope · text (e .name))
+      is-taken = answer ∙ ap (taken rs) (full-held h)
+
+      pub enum-taken : (d : ℕ) → r ≡ true → [] ≡ enum-text rs d scope e
+      unfolding enum-text
+      enum-taken d q = rw (full-fits h, ← is-taken, q)
+
+      pub enum-there : (d : ℕ) → r ≡ false → (k : ℕ) → k ≡ d → written-text rs k (take (n - 0) (drop 0 t')) own (build-enum-value-mappings (first-values e)) ≡ enum-text rs d scope e
+      unfolding enum-text
+      enum-there d q k same =
+          rw (full-fits h, ← is-taken, q)
+          (ap (λ (x : ℕ). written-text rs x (take (n - 0) (drop 0 t')) own (build-enum-value-mappings (first-values e))) same
+          ∙ ap₂ (λ (x y : Bytes). written-text rs d x y (build-enum-value-mappings (first-values e))) (full-held h) is)
+
+      pub meets-taken : r ≡ true → false ≡ enum-meets rs scope e
+      unfolding enum-meets choose
+      meets-taken q = rw (full-fits h, ← is-taken, q)
+
+      pub meets-there : r ≡ false → (vs : List ValueDescriptor) → vs ≡ build-enum-value-mappings (first-values e) → (u : Bool) → u ≡ overlap (names rs own vs) → u ≡ enum-meets rs scope e
+      unfolding enum-meets choose
+      meets-there q vs kept u met =
+          rw (full-fits h, ← is-taken, q)
+          (met ∙ ap₂ (λ (x : Bytes) (ws : List ValueDescriptor). overlap (names rs x ws)) is kept)
 
 -- ---- the enums of a part, from a record on
 module _ (rs : List Setting) (d : ℕ) (scope : Bytes) where

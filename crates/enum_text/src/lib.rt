@@ -15,6 +15,9 @@ ghost use Rattle.code_generator.specs.Piece.{flat, spelt, variant};
 ghost use Rattle.code_generator.specs.Enums.{value-number, is-used, build-enum-value-mappings, variant-lines, as-str-arm, from-str-arm, as-str-arms, from-str-arms, enum-derive, as-str-name, from-str-name, enum-impl};
 ghost use Rattle.enum_text.specs.Kept.{numbers-before, no-values, note, noted, values-in, marked-in};
 ghost use Rattle.enum_text.specs.EnumText.{value-with, first-values, impl-line, variant-text, value-text, value-texts, declaration-text, written-text, enum-text, enum-texts, enums-in};
+
+pub mod overlap;
+
 use descriptor::Number;
 use descriptor::Text;
 use wire::Step;

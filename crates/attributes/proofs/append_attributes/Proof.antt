@@ -12,11 +12,6 @@ use Rattle.code_generator.specs.Attributes.{attributes}
 use Rattle.attributes.proofs.Onward.{Onward, begun, turned, done}
 use Rattle.attributes.proofs.append_attributes.Statement.{statement}
 use Rattle.attributes.proofs.append_attributes.Tie as tie
-use Rattle.attributes.proofs.append_attributes.Reads as reads
-use Rattle.attributes.proofs.append_attributes.Lts as lts
-use Rattle.attributes.proofs.put_attribute.Reads as put-attribute-reads
-use Rattle.options.proofs.bodies_at.Reads as bodies-at-reads
-use Rattle.path.proofs.next_match.Reads as next-match-reads
 
 abbrev Inv-loop : tie.InvT-loop
 Inv-loop t₀ at o kind path d a₀ i₀ from₀ t a i from = Onward t₀ at (flat (attributes d (values-from o kind path 0 from₀))) t a (flat (attributes d (values-from o kind path i from)))
@@ -24,49 +19,38 @@ Inv-loop t₀ at o kind path d a₀ i₀ from₀ t a i from = Onward t₀ at (fl
 abbrev μ-loop : tie.MeasureT-loop
 μ-loop t₀ at o kind path d a₀ i₀ from₀ t a i from = row-count o - i
 
--- src/lib.rt:53:9
 bodies-at-requires : tie.Need-bodies-at-requires Inv-loop μ-loop
 bodies-at-requires c κs = search needs
 
--- src/lib.rt:54:5
 loop-holds : tie.Need-loop-holds Inv-loop μ-loop
 loop-holds c = begun (search needs)
 
--- src/lib.rt:55:13
 next-match-requires : tie.Need-next-match-requires Inv-loop μ-loop
 next-match-requires c κs = search needs
 
--- src/lib.rt:57:13
 returns : tie.Need-returns Inv-loop μ-loop
 returns c =
     named (ap (λ (l : List (List ℕ)). flat (attributes (c .before .before .before .before .before .before .before .before .args .d) l)) (values-all _ _ _ _ (c .before .before .before .before .bodies-at .ensures .0)))
     (done (c .before .before .before .loop .inv) (attributes-end (c .before .before .next-match .ensures) _ (c .if1 .taken)))
 
--- src/lib.rt:57:13
 same-length : tie.Need-same-length Inv-loop μ-loop
 same-length c = kept (returns c)
 
--- src/lib.rt:61:36
 sub-put-attribute : tie.Need-sub-put-attribute Inv-loop μ-loop
 sub-put-attribute c = c .before .before .before .next-match .ensures .starts
 
--- src/lib.rt:61:36
 part-put-attribute-start : tie.Need-part-put-attribute-start Inv-loop μ-loop
 part-put-attribute-start c = search needs
 
--- src/lib.rt:61:36
 part-put-attribute-end : tie.Need-part-put-attribute-end Inv-loop μ-loop
 part-put-attribute-end c = c .before .before .before .next-match .ensures .ends
 
--- src/lib.rt:61:9
 put-attribute-requires : tie.Need-put-attribute-requires Inv-loop μ-loop
 put-attribute-requires c κs = search needs
 
--- src/lib.rt:54:5
 loop-less : tie.Need-loop-less Inv-loop μ-loop
 loop-less c = fewer (c .before .before .before .before .before .before .before .next-match .ensures) 0 (c .before .before .before .before .before .if1 .left)
 
--- src/lib.rt:54:5
 loop-again : tie.Need-loop-again Inv-loop μ-loop
 loop-again c = turned (c .before .before .before .before .before .before .before .before .loop .inv) (attributes-more (c .before .before .before .before .before .before .before .next-match .ensures) _ (c .before .before .before .before .before .if1 .left)) (c .before .before .put-attribute .ensures)
 

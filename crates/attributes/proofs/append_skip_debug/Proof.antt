@@ -8,19 +8,15 @@ use Rattle.writer.specs.Wrote.{kept, named}
 use Rattle.attributes.proofs.append_skip_debug.Statement.{statement}
 use Rattle.attributes.proofs.append_skip_debug.Tie as tie
 
--- src/lib.rt:125:9
 find-first-requires : tie.Need-find-first-requires
 find-first-requires c κs = tt
 
--- src/lib.rt:126:36
 slice-aggregate-put-line-if : tie.Need-slice-aggregate-put-line-if
 slice-aggregate-put-line-if c = refl
 
--- src/lib.rt:126:5
 put-line-if-requires : tie.Need-put-line-if-requires
 put-line-if-requires c κs = tt
 
--- src/lib.rt:122:1
 -- refused: unfolding append-skip-debug settings
 -- refused: returns c =
 -- refused: rw (← (c .before .before .before .before .before .find-first .ensures))
@@ -29,7 +25,6 @@ returns : tie.Need-returns
 unfolding append-skip-debug
 returns c = named (ap (λ (f : Found). pick (f .found) (indent (c .before .before .before .before .before .before .before .before .before .args .d) ++ b "#[prost(skip_debug)]\n") []) (c .before .before .before .before .before .find-first .ensures)) (c .before .before .put-line-if .ensures)
 
--- src/lib.rt:122:1
 same-length : tie.Need-same-length
 same-length c = kept (returns c)
 

@@ -6,7 +6,6 @@ use Rattle.attributes.specs.Lines.{attribute}
 use Rattle.attributes.proofs.put_attribute.Statement.{statement}
 use Rattle.attributes.proofs.put_attribute.Tie as tie
 
--- src/lib.rt:41:9
 put-line-requires : tie.Need-put-line-requires
 put-line-requires c κs = search needs
 

@@ -5,82 +5,57 @@ use Rattle.enum_text.proofs.WalkLaws.{own-name, enum-unfit, enum-taken,
 use borrow.Author.Needs.{needs}
 use Rattle.enum_text.proofs.append_enum.Statement.{statement}
 use Rattle.enum_text.proofs.append_enum.Tie as tie
-use Rattle.enum_text.proofs.append_enum.Reads as reads
-use Rattle.enum_text.proofs.append_enum.Lts as lts
-use Rattle.descriptor.proofs.name_view.Reads as name-view-reads
-use Rattle.enum_text.proofs.append_written.Reads as append-written-reads
-use Rattle.enum_text.proofs.text_in.Reads as text-in-reads
-use Rattle.enum_text.proofs.wide.Reads as wide-reads
-use Rattle.extern_paths.proofs.resolve.is_taken.Reads as is-taken-reads
-use Rattle.joined.proofs.join.Reads as join-reads
 
--- src/lib.rt:509:9
 name-view-requires : tie.Need-name-view-requires
 name-view-requires c κs = search needs
 
--- src/lib.rt:510:9
 text-in-requires : tie.Need-text-in-requires
 text-in-requires c κs = search needs
 
--- src/lib.rt:512:26
 slice-aggregate-join : tie.Need-slice-aggregate-join
 slice-aggregate-join c = search needs
 
--- src/lib.rt:512:9
 join-requires : tie.Need-join-requires
 join-requires c κs = search needs
 
--- src/lib.rt:514:56
 sub-is-taken : tie.Need-sub-is-taken
 sub-is-taken c = search needs
 
--- src/lib.rt:514:56
 part-is-taken-start : tie.Need-part-is-taken-start
 part-is-taken-start c = search needs
 
--- src/lib.rt:514:56
 part-is-taken-end : tie.Need-part-is-taken-end
 part-is-taken-end c = search needs
 
--- src/lib.rt:514:13
 is-taken-requires : tie.Need-is-taken-requires
 is-taken-requires c κs = search needs
 
--- src/lib.rt:516:13
 returns : tie.Need-returns
-returns c = named (enum-taken _ _ _ _ _ (own-name _ _ (c .before .before .before .before .before .before .before .before .before .name-view .ensures) _ (c .before .before .before .before .before .before .before .before .text-in .ensures)) (c .before .before .before .before .before .before .join .ensures) (length-replicate {A = ℕ} 512 0) (c .before .before .before .before .if1 .taken) _ (c .before .is-taken .ensures) (c .if2 .taken)) (none (search needs))
+returns c = named (enum-taken _ _ _ (own-name _ _ (c .before .before .before .before .before .before .before .before .before .name-view .ensures) _ (c .before .before .before .before .before .before .before .before .text-in .ensures)) (c .before .before .before .before .before .before .join .ensures) (length-replicate {A = ℕ} 512 0) _ (c .before .before .before .before .if1 .taken) _ (c .before .is-taken .ensures) _ (c .if2 .taken)) (none (search needs))
 
--- src/lib.rt:518:13
 wide-requires : tie.Need-wide-requires
 wide-requires c κs = search needs
 
--- src/lib.rt:519:44
 sub-append-written : tie.Need-sub-append-written
 sub-append-written c = search needs
 
--- src/lib.rt:519:44
 part-append-written-start : tie.Need-part-append-written-start
 part-append-written-start c = search needs
 
--- src/lib.rt:519:44
 part-append-written-end : tie.Need-part-append-written-end
 part-append-written-end c = search needs
 
--- src/lib.rt:519:9
 append-written-requires : tie.Need-append-written-requires
 append-written-requires c κs = search needs
 
--- src/lib.rt:519:9
 same-length : tie.Need-same-length
 same-length c = search needs
 
--- src/lib.rt:519:9
 returns-2 : tie.Need-returns-2
-returns-2 c = named (enum-there _ _ _ _ _ (own-name _ _ (c .before .before .before .before .before .before .before .before .before .before .before .before .before .before .before .before .name-view .ensures) _ (c .before .before .before .before .before .before .before .before .before .before .before .before .before .before .before .text-in .ensures)) (c .before .before .before .before .before .before .before .before .before .before .before .before .before .join .ensures) (length-replicate {A = ℕ} 512 0) (c .before .before .before .before .before .before .before .before .before .before .before .if1 .taken) _ (c .before .before .before .before .before .before .before .before .is-taken .ensures) (c .before .before .before .before .before .before .before .if2 .left) _ (c .before .before .before .before .before .before .wide .ensures .0)) (c .before .before .append-written .ensures)
+returns-2 c = named (enum-there _ _ _ (own-name _ _ (c .before .before .before .before .before .before .before .before .before .before .before .before .before .before .before .before .name-view .ensures) _ (c .before .before .before .before .before .before .before .before .before .before .before .before .before .before .before .text-in .ensures)) (c .before .before .before .before .before .before .before .before .before .before .before .before .before .join .ensures) (length-replicate {A = ℕ} 512 0) _ (c .before .before .before .before .before .before .before .before .before .before .before .if1 .taken) _ (c .before .before .before .before .before .before .before .before .is-taken .ensures) _ (c .before .before .before .before .before .before .before .if2 .left) _ (c .before .before .before .before .before .before .wide .ensures .0)) (c .before .before .append-written .ensures)
 
--- src/lib.rt:505:1
 returns-3 : tie.Need-returns-3
-returns-3 c = named (enum-unfit _ _ _ _ _ (own-name _ _ (c .before .before .before .before .before .name-view .ensures) _ (c .before .before .before .before .text-in .ensures)) (c .before .before .join .ensures) (length-replicate {A = ℕ} 512 0) (c .if1 .left)) (none (search needs))
+returns-3 c = named (enum-unfit _ _ _ (own-name _ _ (c .before .before .before .before .before .name-view .ensures) _ (c .before .before .before .before .text-in .ensures)) (c .before .before .join .ensures) (length-replicate {A = ℕ} 512 0) _ _ (c .if1 .left)) (none (search needs))
 
 pub append-enum-spec : {M : Type 1} → statement M
 append-enum-spec =

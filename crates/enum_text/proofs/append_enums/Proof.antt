@@ -10,13 +10,6 @@ use Rattle.attributes.proofs.Onward.{Onward, begun, turned, passed, done}
 use Rattle.enum_text.proofs.WalkLaws.{enums-from, enums-end, enums-fault, enums-skip, enums-more}
 use Rattle.enum_text.proofs.append_enums.Statement.{statement}
 use Rattle.enum_text.proofs.append_enums.Tie as tie
-use Rattle.enum_text.proofs.append_enums.Reads as reads
-use Rattle.enum_text.proofs.append_enums.Lts as lts
-use Rattle.enum_text.proofs.append_enum.Reads as append-enum-reads
-use Rattle.parts.proofs.embedded.Reads as embedded-reads
-use Rattle.wire.proofs.read_step.Reads as read-step-reads
-use Rattle.writer.proofs.advance.Reads as advance-reads
-use Rattle.writer.proofs.within.Reads as within-reads
 
 abbrev Inv-loop : tie.InvT-loop
 Inv-loop t₀ at s o d scope number a₀ place₀ t a place = Onward t₀ at (enums-from (settings o) d scope number s 0) t a (enums-from (settings o) d scope number s place)
@@ -24,85 +17,65 @@ Inv-loop t₀ at s o d scope number a₀ place₀ t a place = Onward t₀ at (en
 abbrev μ-loop : tie.MeasureT-loop
 μ-loop t₀ at s o d scope number a₀ place₀ t a place = length s - place
 
--- src/lib.rt:530:5
 loop-holds : tie.Need-loop-holds Inv-loop μ-loop
 loop-holds c = begun (search needs)
 
--- src/lib.rt:531:15
 read-step-requires : tie.Need-read-step-requires Inv-loop μ-loop
 read-step-requires c κs = search needs
 
--- src/lib.rt:532:26
 enum-told : tie.Need-enum-told Inv-loop μ-loop
 enum-told c = search needs
 
--- src/lib.rt:532:26
 returns : tie.Need-returns Inv-loop μ-loop
 unfolding entries
 returns c = done (c .before .before .before .loop .inv) (enums-end _ _ _ _ _ _ _ (c .before .before .read-step .ensures) (c .enum-told .given .1))
 
--- src/lib.rt:532:26
 same-length : tie.Need-same-length Inv-loop μ-loop
 same-length c = kept (returns c)
 
--- src/lib.rt:533:31
 enum-told-2 : tie.Need-enum-told-2 Inv-loop μ-loop
 enum-told-2 c = search needs
 
--- src/lib.rt:533:31
 returns-2 : tie.Need-returns-2 Inv-loop μ-loop
 unfolding entries
 returns-2 c = done (c .before .before .before .loop .inv) (enums-fault _ _ _ _ _ _ _ (c .before .before .read-step .ensures) _ (c .enum-told2 .given .1))
 
--- src/lib.rt:533:31
 same-length-2 : tie.Need-same-length-2 Inv-loop μ-loop
 same-length-2 c = kept (returns-2 c)
 
--- src/lib.rt:534:25
 enum-known-f : tie.Need-enum-known-f Inv-loop μ-loop
 enum-known-f c = search needs
 
--- src/lib.rt:537:25
 within-requires : tie.Need-within-requires Inv-loop μ-loop
 within-requires c κs = search needs
 
--- src/lib.rt:538:41
 sub-append-enum : tie.Need-sub-append-enum Inv-loop μ-loop
 sub-append-enum c = search needs
 
--- src/lib.rt:538:41
 part-append-enum-start : tie.Need-part-append-enum-start Inv-loop μ-loop
 part-append-enum-start c = search needs
 
--- src/lib.rt:538:41
 part-append-enum-end : tie.Need-part-append-enum-end Inv-loop μ-loop
 part-append-enum-end c = search needs
 
--- src/lib.rt:538:54
 embedded-requires : tie.Need-embedded-requires Inv-loop μ-loop
 embedded-requires c κs = search needs
 
--- src/lib.rt:538:25
 append-enum-requires : tie.Need-append-enum-requires Inv-loop μ-loop
 append-enum-requires c κs = search needs
 
--- src/lib.rt:539:21
 advance-requires : tie.Need-advance-requires Inv-loop μ-loop
 advance-requires c κs = search needs
 
--- src/lib.rt:530:5
 loop-less : tie.Need-loop-less Inv-loop μ-loop
 loop-less c = search places
 
--- src/lib.rt:530:5
 loop-again : tie.Need-loop-again Inv-loop μ-loop
 loop-again c = turned (c .before .before .before .before .before .before .before .before .before .before .before .before .before .loop .inv) (enums-more _ _ _ _ _ _ _ (c .before .before .before .before .before .before .before .before .before .before .before .before .read-step .ensures) _ (c .before .before .before .before .before .before .before .before .before .before .f .given .1) (c .before .before .before .before .before .before .before .if1 .taken) _ (c .before .before .before .before .embedded .ensures)) (lent _ _ _ (c .before .before .before .before .before .before .before .before .before .before .before .before .before .loop .inv .room) (c .before .before .before .before .before .before .within .ensures) (c .before .before .before .append-enum .ensures) (c .advance .ensures))
 
--- src/lib.rt:530:5
 loop-less-2 : tie.Need-loop-less-2 Inv-loop μ-loop
 loop-less-2 c = search places
 
--- src/lib.rt:530:5
 loop-again-2 : tie.Need-loop-again-2 Inv-loop μ-loop
 loop-again-2 c = passed (c .before .before .before .before .before .before .loop .inv) (enums-skip _ _ _ _ _ _ _ (c .before .before .before .before .before .read-step .ensures) _ (c .before .before .before .f .given .1) (c .if1 .left))
 

@@ -8,38 +8,26 @@ use Rattle.enum_text.proofs.WalkLaws.{kept-in}
 use borrow.Author.Needs.{needs}
 use Rattle.enum_text.proofs.append_written.Statement.{statement}
 use Rattle.enum_text.proofs.append_written.Tie as tie
-use Rattle.enum_text.proofs.append_written.Reads as reads
-use Rattle.enum_text.proofs.append_written.Lts as lts
-use Rattle.enum_text.proofs.build_enum_value_mappings.Reads as build-enum-value-mappings-reads
-use Rattle.enum_text.proofs.enum_declaration.Reads as enum-declaration-reads
-use Rattle.enum_text.proofs.enum_impl.Reads as enum-impl-reads
 
--- src/lib.rt:498:9
 build-enum-value-mappings-requires : tie.Need-build-enum-value-mappings-requires
 build-enum-value-mappings-requires c κs = search needs
 
--- src/lib.rt:500:56
 slice-aggregate-enum-declaration : tie.Need-slice-aggregate-enum-declaration
 slice-aggregate-enum-declaration c = search needs
 
--- src/lib.rt:500:9
 enum-declaration-requires : tie.Need-enum-declaration-requires
 enum-declaration-requires c κs = search needs
 
--- src/lib.rt:501:35
 slice-aggregate-enum-impl : tie.Need-slice-aggregate-enum-impl
 slice-aggregate-enum-impl c = search needs
 
--- src/lib.rt:501:5
 enum-impl-requires : tie.Need-enum-impl-requires
 enum-impl-requires c κs = search needs
 
--- src/lib.rt:494:1
 returns : tie.Need-returns
 unfolding written-text
 returns c = named (ap (λ (vs : List ValueDescriptor). written-text (settings (c .before .before .before .before .before .before .before .before .before .before .before .before .before .before .before .before .before .args .o .now)) (c .before .before .before .before .before .before .before .before .before .before .before .before .before .before .before .before .before .args .d) (c .before .before .before .before .before .before .before .before .before .before .before .before .before .before .before .before .before .args .full .now) (c .before .before .before .before .before .before .before .before .before .before .before .before .before .before .before .before .before .args .own .now) vs) (kept-in _ _ (c .before .before .before .before .before .before .before .before .before .before .before .build-enum-value-mappings .ensures))) (c .before .before .before .before .before .before .before .enum-declaration .ensures ► c .before .before .enum-impl .ensures)
 
--- src/lib.rt:494:1
 same-length : tie.Need-same-length
 same-length c = kept (returns c)
 

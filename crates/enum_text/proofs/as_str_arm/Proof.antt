@@ -4,59 +4,41 @@ use Rattle.code_generator.specs.Enums.{as-str-arm}
 use borrow.Author.Needs.{needs}
 use Rattle.enum_text.proofs.as_str_arm.Statement.{statement}
 use Rattle.enum_text.proofs.as_str_arm.Tie as tie
-use Rattle.enum_text.proofs.as_str_arm.Reads as reads
-use Rattle.enum_text.proofs.as_str_arm.Lts as lts
-use Rattle.attributes.proofs.put_line.Reads as put-line-reads
-use Rattle.attributes.proofs.put_line_if.Reads as put-line-if-reads
-use Rattle.enum_text.proofs.put_variant_name.Reads as put-variant-name-reads
-use Rattle.writer.proofs.put.Reads as put-reads
 
--- src/lib.rt:199:59
 slice-aggregate-put-line-if : tie.Need-slice-aggregate-put-line-if
 slice-aggregate-put-line-if c = refl
 
--- src/lib.rt:199:9
 put-line-if-requires : tie.Need-put-line-if-requires
 put-line-if-requires c κs = tt
 
--- src/lib.rt:200:43
 slice-aggregate-put-line : tie.Need-slice-aggregate-put-line
 slice-aggregate-put-line c = refl
 
--- src/lib.rt:200:9
 put-line-requires : tie.Need-put-line-requires
 put-line-requires c κs = tt
 
--- src/lib.rt:201:9
 put-variant-name-requires : tie.Need-put-variant-name-requires
 put-variant-name-requires c κs = tt
 
--- src/lib.rt:202:31
 slice-aggregate-put : tie.Need-slice-aggregate-put
 slice-aggregate-put c = refl
 
--- src/lib.rt:202:9
 put-requires : tie.Need-put-requires
 put-requires c κs = tt
 
--- src/lib.rt:203:9
 put-requires-2 : tie.Need-put-requires-2
 put-requires-2 c κs = tt
 
--- src/lib.rt:204:23
 slice-aggregate-put-2 : tie.Need-slice-aggregate-put-2
 slice-aggregate-put-2 c = refl
 
--- src/lib.rt:204:5
 put-requires-3 : tie.Need-put-requires-3
 put-requires-3 c κs = tt
 
--- src/lib.rt:187:1
 returns : tie.Need-returns
 unfolding as-str-arm
 returns c = c .before .before .before .before .before .before .before .before .before .before .before .before .before .before .before .before .before .before .before .before .before .before .before .before .before .put-line-if .ensures ► c .before .before .before .before .before .before .before .before .before .before .before .before .before .before .before .before .before .before .before .before .put-line .ensures ► c .before .before .before .before .before .before .before .before .before .before .before .before .before .before .before .before .put-variant-name .ensures ► c .before .before .before .before .before .before .before .before .before .before .before .put .ensures ► c .before .before .before .before .before .before .before .put2 .ensures ► c .before .before .put3 .ensures
 
--- src/lib.rt:187:1
 same-length : tie.Need-same-length
 same-length c = kept (returns c)
 

@@ -5,80 +5,53 @@ use Rattle.code_generator.specs.Attributes.{append-type-attributes, append-enum
 use borrow.Author.Needs.{needs}
 use Rattle.enum_text.proofs.enum_declaration.Statement.{statement}
 use Rattle.enum_text.proofs.enum_declaration.Tie as tie
-use Rattle.enum_text.proofs.enum_declaration.Reads as reads
-use Rattle.enum_text.proofs.enum_declaration.Lts as lts
-use Rattle.attributes.proofs.append_attributes.Reads as append-attributes-reads
-use Rattle.attributes.proofs.append_prost_path_attribute.Reads as append-prost-path-attribute-reads
-use Rattle.attributes.proofs.end.Reads as end-reads
-use Rattle.attributes.proofs.put_line.Reads as put-line-reads
-use Rattle.enum_text.proofs.deeper.Reads as deeper-reads
-use Rattle.enum_text.proofs.enum_derive.Reads as enum-derive-reads
-use Rattle.enum_text.proofs.put_values.Reads as put-values-reads
-use Rattle.ident.proofs.put_upper_camel.Reads as put-upper-camel-reads
-use Rattle.writer.proofs.put.Reads as put-reads
 
--- src/lib.rt:474:9
 deeper-requires : tie.Need-deeper-requires
 deeper-requires c κs = search needs
 
--- src/lib.rt:475:9
 append-attributes-requires : tie.Need-append-attributes-requires
 append-attributes-requires c κs = tt
 
--- src/lib.rt:476:9
 append-attributes-requires-2 : tie.Need-append-attributes-requires-2
 append-attributes-requires-2 c κs = tt
 
--- src/lib.rt:477:9
 enum-derive-requires : tie.Need-enum-derive-requires
 enum-derive-requires c κs = tt
 
--- src/lib.rt:478:9
 append-prost-path-attribute-requires : tie.Need-append-prost-path-attribute-requires
 append-prost-path-attribute-requires c κs = tt
 
--- src/lib.rt:479:43
 slice-aggregate-put-line : tie.Need-slice-aggregate-put-line
 slice-aggregate-put-line c = refl
 
--- src/lib.rt:479:9
 put-line-requires : tie.Need-put-line-requires
 put-line-requires c κs = tt
 
--- src/lib.rt:480:43
 slice-aggregate-put-line-2 : tie.Need-slice-aggregate-put-line-2
 slice-aggregate-put-line-2 c = refl
 
--- src/lib.rt:480:9
 put-line-requires-2 : tie.Need-put-line-requires-2
 put-line-requires-2 c κs = tt
 
--- src/lib.rt:481:9
 put-upper-camel-requires : tie.Need-put-upper-camel-requires
 put-upper-camel-requires c κs = tt
 
--- src/lib.rt:482:36
 slice-aggregate-put : tie.Need-slice-aggregate-put
 slice-aggregate-put c = refl
 
--- src/lib.rt:482:9
 put-requires : tie.Need-put-requires
 put-requires c κs = tt
 
--- src/lib.rt:483:9
 put-values-requires : tie.Need-put-values-requires
 put-values-requires c κs = tt
 
--- src/lib.rt:484:5
 end-requires : tie.Need-end-requires
 end-requires c κs = tt
 
--- src/lib.rt:461:1
 returns : tie.Need-returns
 unfolding declaration-text append-type-attributes append-enum-attributes
 returns c = rw (← (c .before .before .before .before .before .before .before .before .before .before .before .before .before .before .before .before .before .before .before .before .before .before .before .before .before .before .before .before .before .before .before .before .before .before .before .before .before .before .before .before .before .before .before .deeper .ensures)) (c .before .before .before .before .before .before .before .before .before .before .before .before .before .before .before .before .before .before .before .before .before .before .before .before .before .before .before .before .before .before .before .before .before .before .before .before .before .before .before .before .before .append-attributes .ensures ► c .before .before .before .before .before .before .before .before .before .before .before .before .before .before .before .before .before .before .before .before .before .before .before .before .before .before .before .before .before .before .before .before .before .before .before .before .before .append-attributes2 .ensures ► c .before .before .before .before .before .before .before .before .before .before .before .before .before .before .before .before .before .before .before .before .before .before .before .before .before .before .before .before .before .before .before .before .before .enum-derive .ensures ► c .before .before .before .before .before .before .before .before .before .before .before .before .before .before .before .before .before .before .before .before .before .before .before .before .before .before .before .before .before .append-prost-path-attribute .ensures ► c .before .before .before .before .before .before .before .before .before .before .before .before .before .before .before .before .before .before .before .before .before .before .before .before .put-line .ensures ► c .before .before .before .before .before .before .before .before .before .before .before .before .before .before .before .before .before .before .before .put-line2 .ensures ► c .before .before .before .before .before .before .before .before .before .before .before .before .before .before .before .put-upper-camel .ensures ► c .before .before .before .before .before .before .before .before .before .before .put .ensures ► c .before .before .before .before .before .before .put-values .ensures ► c .before .before .end .ensures)
 
--- src/lib.rt:461:1
 same-length : tie.Need-same-length
 same-length c = kept (returns c)
 

@@ -4,25 +4,17 @@ use Rattle.enum_text.specs.EnumText.{variant-text}
 use borrow.Author.Needs.{needs}
 use Rattle.enum_text.proofs.enum_variant.Statement.{statement}
 use Rattle.enum_text.proofs.enum_variant.Tie as tie
-use Rattle.enum_text.proofs.enum_variant.Reads as reads
-use Rattle.enum_text.proofs.enum_variant.Lts as lts
-use Rattle.attributes.proofs.append_field_attributes.Reads as append-field-attributes-reads
-use Rattle.enum_text.proofs.variant_lines.Reads as variant-lines-reads
 
--- src/lib.rt:183:9
 append-field-attributes-requires : tie.Need-append-field-attributes-requires
 append-field-attributes-requires c κs = tt
 
--- src/lib.rt:184:5
 variant-lines-requires : tie.Need-variant-lines-requires
 variant-lines-requires c κs = tt
 
--- src/lib.rt:170:1
 returns : tie.Need-returns
 unfolding variant-text
 returns c = c .before .before .before .before .before .before .append-field-attributes .ensures ► c .before .before .variant-lines .ensures
 
--- src/lib.rt:170:1
 same-length : tie.Need-same-length
 same-length c = kept (returns c)
 

@@ -4,38 +4,26 @@ use Rattle.enum_text.specs.EnumText.{impl-line}
 use borrow.Author.Needs.{needs}
 use Rattle.enum_text.proofs.impl_line.Statement.{statement}
 use Rattle.enum_text.proofs.impl_line.Tie as tie
-use Rattle.enum_text.proofs.impl_line.Reads as reads
-use Rattle.enum_text.proofs.impl_line.Lts as lts
-use Rattle.attributes.proofs.put_line.Reads as put-line-reads
-use Rattle.ident.proofs.put_upper_camel.Reads as put-upper-camel-reads
-use Rattle.writer.proofs.put.Reads as put-reads
 
--- src/lib.rt:437:44
 slice-aggregate-put-line : tie.Need-slice-aggregate-put-line
 slice-aggregate-put-line c = refl
 
--- src/lib.rt:437:9
 put-line-requires : tie.Need-put-line-requires
 put-line-requires c κs = tt
 
--- src/lib.rt:438:9
 put-upper-camel-requires : tie.Need-put-upper-camel-requires
 put-upper-camel-requires c κs = tt
 
--- src/lib.rt:439:28
 slice-aggregate-put : tie.Need-slice-aggregate-put
 slice-aggregate-put c = refl
 
--- src/lib.rt:439:5
 put-requires : tie.Need-put-requires
 put-requires c κs = tt
 
--- src/lib.rt:434:1
 returns : tie.Need-returns
 unfolding impl-line
 returns c = c .before .before .before .before .before .before .before .before .before .before .before .put-line .ensures ► c .before .before .before .before .before .before .before .put-upper-camel .ensures ► c .before .before .put .ensures
 
--- src/lib.rt:434:1
 same-length : tie.Need-same-length
 same-length c = kept (returns c)
 

@@ -4,18 +4,13 @@ use Rattle.enum_text.proofs.KeptLaws.{past}
 use borrow.Author.Needs.{needs}
 use Rattle.enum_text.proofs.is_marked.Statement.{statement}
 use Rattle.enum_text.proofs.is_marked.Tie as tie
-use Rattle.enum_text.proofs.is_marked.Reads as reads
-use Rattle.enum_text.proofs.is_marked.Lts as lts
 
--- src/lib.rt:132:16
 shared-slice-read-result : tie.Need-shared-slice-read-result
 shared-slice-read-result c = search needs
 
--- src/lib.rt:132:9
 returns : tie.Need-returns
 returns c = search needs
 
--- src/lib.rt:128:1
 returns-2 : tie.Need-returns-2
 returns-2 c = sym (past (c .before .args .marks .now) (c .before .args .i) false (c .if1 .left))
 

@@ -7,8 +7,6 @@ use Rattle.enum_text.specs.Kept.{numbers-before}
 use Rattle.enum_text.proofs.KeptLaws.{used-hit, used-miss, used-start}
 use Rattle.enum_text.proofs.is_used.Statement.{statement}
 use Rattle.enum_text.proofs.is_used.Tie as tie
-use Rattle.enum_text.proofs.is_used.Reads as reads
-use Rattle.enum_text.proofs.is_used.Lts as lts
 
 abbrev Inv-loop : tie.InvT-loop
 Inv-loop number x i₀ i = (i ≤ x .count) × (is-used number (numbers-before (x .numbers) i) ≡ is-used number (numbers-before (x .numbers) (x .count)))
@@ -16,35 +14,27 @@ Inv-loop number x i₀ i = (i ≤ x .count) × (is-used number (numbers-before (
 abbrev μ-loop : tie.MeasureT-loop
 μ-loop number x i₀ i = i
 
--- src/lib.rt:61:5
 loop-holds : tie.Need-loop-holds Inv-loop μ-loop
 loop-holds c = (omega arith, refl)
 
--- src/lib.rt:62:13
 sub-i : tie.Need-sub-i Inv-loop μ-loop
 sub-i c = search needs
 
--- src/lib.rt:63:22
 mul-if1 : tie.Need-mul-if1 Inv-loop μ-loop
 mul-if1 c = search needs
 
--- src/lib.rt:63:22
 element-copy-out-if1 : tie.Need-element-copy-out-if1 Inv-loop μ-loop
 element-copy-out-if1 c = search needs
 
--- src/lib.rt:64:13
 returns : tie.Need-returns Inv-loop μ-loop
 returns c = sym (used-hit _ _ _ (c .before .before .loop-test .taken) (c .if1 .taken)) ∙ c .before .before .before .loop .inv .1
 
--- src/lib.rt:61:5
 loop-less : tie.Need-loop-less Inv-loop μ-loop
 loop-less c = search needs
 
--- src/lib.rt:61:5
 loop-again : tie.Need-loop-again Inv-loop μ-loop
 loop-again c = (omega arith, sym (used-miss _ _ _ (c .before .before .loop-test .taken) (c .if1 .left)) ∙ c .before .before .before .loop .inv .1)
 
--- src/lib.rt:56:1
 returns-2 : tie.Need-returns-2 Inv-loop μ-loop
 returns-2 c = used-start _ _ _ (omega arith) ∙ c .before .loop .inv .1
 

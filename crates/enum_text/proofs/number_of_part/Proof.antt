@@ -5,20 +5,13 @@ use Rattle.code_generator.specs.Enums.{value-number}
 use borrow.Author.Needs.{needs}
 use Rattle.enum_text.proofs.number_of_part.Statement.{statement}
 use Rattle.enum_text.proofs.number_of_part.Tie as tie
-use Rattle.enum_text.proofs.number_of_part.Reads as reads
-use Rattle.enum_text.proofs.number_of_part.Lts as lts
-use Rattle.descriptor.proofs.value_view.Reads as value-view-reads
-use Rattle.enum_text.proofs.number_in.Reads as number-in-reads
 
--- src/lib.rt:90:9
 value-view-requires : tie.Need-value-view-requires
 value-view-requires c κs = search needs
 
--- src/lib.rt:92:5
 number-in-requires : tie.Need-number-in-requires
 number-in-requires c κs = search needs
 
--- src/lib.rt:86:1
 returns : tie.Need-returns
 unfolding value-of
 returns c = c .number-in .ensures ∙ ap value-number (value-is (c .before .before .before .before .args .p .now) _ (c .before .before .value-view .ensures))

@@ -5,48 +5,34 @@ use borrow.Author.Tests.{eq-eqb, ne-eqb}
 use borrow.Author.Needs.{needs}
 use Rattle.enum_text.proofs.put_value.Statement.{statement}
 use Rattle.enum_text.proofs.put_value.Tie as tie
-use Rattle.enum_text.proofs.put_value.Reads as reads
-use Rattle.enum_text.proofs.put_value.Lts as lts
-use Rattle.enum_text.proofs.as_str_arm.Reads as as-str-arm-reads
-use Rattle.enum_text.proofs.enum_variant.Reads as enum-variant-reads
-use Rattle.enum_text.proofs.from_str_arm.Reads as from-str-arm-reads
 
--- src/lib.rt:244:9
 enum-variant-requires : tie.Need-enum-variant-requires
 enum-variant-requires c κs = tt
 
--- src/lib.rt:244:9
 returns : tie.Need-returns
 unfolding value-text
 returns c = rw (eq-eqb (c .before .before .before .before .before .before .before .before .before .before .args .sort) 0 (c .before .before .before .before .if1 .taken)) (c .before .before .enum-variant .ensures)
 
--- src/lib.rt:244:9
 same-length : tie.Need-same-length
 same-length c = kept (returns c)
 
--- src/lib.rt:247:9
 as-str-arm-requires : tie.Need-as-str-arm-requires
 as-str-arm-requires c κs = tt
 
--- src/lib.rt:247:9
 returns-2 : tie.Need-returns-2
 unfolding value-text
 returns-2 c = rw (ne-eqb (c .before .before .before .before .before .before .before .before .before .before .before .args .sort) 0 (c .before .before .before .before .before .if1 .left), eq-eqb (c .before .before .before .before .before .before .before .before .before .before .before .args .sort) 1 (c .before .before .before .before .if2 .taken)) (c .before .before .as-str-arm .ensures)
 
--- src/lib.rt:247:9
 same-length-2 : tie.Need-same-length-2
 same-length-2 c = kept (returns-2 c)
 
--- src/lib.rt:249:5
 from-str-arm-requires : tie.Need-from-str-arm-requires
 from-str-arm-requires c κs = tt
 
--- src/lib.rt:229:1
 returns-3 : tie.Need-returns-3
 unfolding value-text
 returns-3 c = rw (ne-eqb (c .before .before .before .before .before .before .before .before .before .before .before .args .sort) 0 (c .before .before .before .before .before .if1 .left), ne-eqb (c .before .before .before .before .before .before .before .before .before .before .before .args .sort) 1 (c .before .before .before .before .if2 .left)) (c .before .before .from-str-arm .ensures)
 
--- src/lib.rt:229:1
 same-length-3 : tie.Need-same-length-3
 same-length-3 c = kept (returns-3 c)
 

@@ -10,12 +10,6 @@ use Rattle.attributes.proofs.Onward.{Onward, begun, turned, passed, done}
 use Rattle.enum_text.proofs.ValueLaws.{Walked, texts-from, texts-end, texts-fault, texts-skip, texts-more}
 use Rattle.enum_text.proofs.put_values.Statement.{statement}
 use Rattle.enum_text.proofs.put_values.Tie as tie
-use Rattle.enum_text.proofs.put_values.Reads as reads
-use Rattle.enum_text.proofs.put_values.Lts as lts
-use Rattle.enum_text.proofs.is_marked.Reads as is-marked-reads
-use Rattle.enum_text.proofs.put_part.Reads as put-part-reads
-use Rattle.parts.proofs.embedded.Reads as embedded-reads
-use Rattle.wire.proofs.read_step.Reads as read-step-reads
 
 abbrev Inv-loop : tie.InvT-loop
 Inv-loop t₀ at o sort d full own s marks a₀ i₀ place₀ t a i place = Onward t₀ at (texts-from (settings o) sort d full own marks 0 s 0) t a (texts-from (settings o) sort d full own marks i s place) × Walked i place s
@@ -23,73 +17,56 @@ Inv-loop t₀ at o sort d full own s marks a₀ i₀ place₀ t a i place = Onwa
 abbrev μ-loop : tie.MeasureT-loop
 μ-loop t₀ at o sort d full own s marks a₀ i₀ place₀ t a i place = length s - place
 
--- src/lib.rt:305:5
 loop-holds : tie.Need-loop-holds Inv-loop μ-loop
 loop-holds c = (begun (search needs), record { index = omega arith; inside = omega arith; short = search needs })
 
--- src/lib.rt:306:15
 read-step-requires : tie.Need-read-step-requires Inv-loop μ-loop
 read-step-requires c κs = search needs
 
--- src/lib.rt:307:26
 enum-told : tie.Need-enum-told Inv-loop μ-loop
 enum-told c = search needs
 
--- src/lib.rt:307:26
 returns : tie.Need-returns Inv-loop μ-loop
 unfolding entries
 returns c = done (c .before .before .before .loop .inv .0) (texts-end _ _ _ _ _ _ _ _ _ _ (c .before .before .read-step .ensures) (c .enum-told .given .1))
 
--- src/lib.rt:307:26
 same-length : tie.Need-same-length Inv-loop μ-loop
 same-length c = kept (returns c)
 
--- src/lib.rt:308:31
 enum-told-2 : tie.Need-enum-told-2 Inv-loop μ-loop
 enum-told-2 c = search needs
 
--- src/lib.rt:308:31
 returns-2 : tie.Need-returns-2 Inv-loop μ-loop
 unfolding entries
 returns-2 c = done (c .before .before .before .loop .inv .0) (texts-fault _ _ _ _ _ _ _ _ _ _ (c .before .before .read-step .ensures) _ (c .enum-told2 .given .1))
 
--- src/lib.rt:308:31
 same-length-2 : tie.Need-same-length-2 Inv-loop μ-loop
 same-length-2 c = kept (returns-2 c)
 
--- src/lib.rt:309:25
 enum-known-f : tie.Need-enum-known-f Inv-loop μ-loop
 enum-known-f c = search needs
 
--- src/lib.rt:312:25
 is-marked-requires : tie.Need-is-marked-requires Inv-loop μ-loop
 is-marked-requires c κs = search needs
 
--- src/lib.rt:313:63
 embedded-requires : tie.Need-embedded-requires Inv-loop μ-loop
 embedded-requires c κs = search needs
 
--- src/lib.rt:313:21
 put-part-requires : tie.Need-put-part-requires Inv-loop μ-loop
 put-part-requires c κs = search needs
 
--- src/lib.rt:314:25
 add-i : tie.Need-add-i Inv-loop μ-loop
 add-i c = let w = c .before .before .before .before .before .before .before .before .before .before .before .before .loop .inv .1 in let h : c .before .before .before .before .before .before .before .before .before .before .before .before .loop .i < 2 ^ 63 = omega arith in search needs
 
--- src/lib.rt:305:5
 loop-less : tie.Need-loop-less Inv-loop μ-loop
 loop-less c = search places
 
--- src/lib.rt:305:5
 loop-again : tie.Need-loop-again Inv-loop μ-loop
 loop-again c = (turned (c .before .before .before .before .before .before .before .before .before .before .before .before .loop .inv .0) (texts-more _ _ _ _ _ _ _ _ _ _ (c .before .before .before .before .before .before .before .before .before .before .before .read-step .ensures) _ (c .before .before .before .before .before .before .before .before .before .f .given .1) (c .before .before .before .before .before .before .if1 .taken) _ (c .before .before .before .before .before .is-marked .ensures) _ (c .before .before .before .embedded .ensures)) (c .before .before .put-part .ensures), record { index = search places; inside = search places; short = c .before .before .before .before .before .before .before .before .before .before .before .before .loop .inv .1 .short })
 
--- src/lib.rt:305:5
 loop-less-2 : tie.Need-loop-less-2 Inv-loop μ-loop
 loop-less-2 c = search places
 
--- src/lib.rt:305:5
 loop-again-2 : tie.Need-loop-again-2 Inv-loop μ-loop
 loop-again-2 c = (passed (c .before .before .before .before .before .before .loop .inv .0) (texts-skip _ _ _ _ _ _ _ _ _ _ (c .before .before .before .before .before .read-step .ensures) _ (c .before .before .before .f .given .1) (c .if1 .left)), record { index = search places; inside = search places; short = c .before .before .before .before .before .before .loop .inv .1 .short })
 

@@ -4,36 +4,26 @@ use Rattle.enum_text.specs.Kept.{note}
 use borrow.Author.Needs.{needs}
 use Rattle.enum_text.proofs.with_value.Statement.{statement}
 use Rattle.enum_text.proofs.with_value.Tie as tie
-use Rattle.enum_text.proofs.with_value.Reads as reads
-use Rattle.enum_text.proofs.with_value.Lts as lts
-use Rattle.enum_text.proofs.is_used.Reads as is-used-reads
 
--- src/lib.rt:76:13
 is-used-requires : tie.Need-is-used-requires
 is-used-requires c κs = search needs
 
--- src/lib.rt:77:9
 mul-y : tie.Need-mul-y
 mul-y c = search needs
 
--- src/lib.rt:77:9
 element-write-y : tie.Need-element-write-y
 element-write-y c = search needs
 
--- src/lib.rt:78:9
 element-write-y-2 : tie.Need-element-write-y-2
 element-write-y-2 c = search needs
 
--- src/lib.rt:79:19
 add-y : tie.Need-add-y
 add-y c = search needs
 
--- src/lib.rt:80:9
 returns : tie.Need-returns
 unfolding note choose
 returns c = rw (lt-ltb _ _ (c .before .if1 .taken), ← (c .is-used .ensures))
 
--- src/lib.rt:70:1
 returns-2 : tie.Need-returns-2
 unfolding note choose
 returns-2 c = rw (le-ltb _ _ (c .if1 .left))
