@@ -1,12 +1,12 @@
 -- The two tables of a set within the limits, without refusals 6 and 7: each row says what the definitions by full names say. Assumes nothing.
-use mathlib.Core.Path.{_≡_, refl, sym, ap, _∙_, subst}
-use mathlib.Core.Bool.{Bool, true, false, _||_}
+use mathlib.Core.Path.{_≡_, sym, ap, _∙_, subst}
+use mathlib.Core.Bool.{Bool, true, _||_}
 use mathlib.Core.List.{List, map}
 use Prim.Native.Nat.{ℕ, _+_, _*_, _≤_, _<_}
 use native.Mathlib.Omega.{arith}
 use lib.ListN.{length, length-map, getD}
 use Rattle.writer.specs.Wrote.{Wrote}
-use Rattle.descriptor.specs.Descriptor.{FieldDescriptor, FileDescriptor}
+use Rattle.descriptor.specs.Descriptor.{FileDescriptor}
 use Rattle.descriptor.specs.Decode.{decode-set}
 use Rattle.descriptor.specs.Limits.{fields-in, limit-passed}
 use Rattle.options.specs.Settings.{Setting}
