@@ -8,3 +8,4 @@ pub mod FitLaws
 pub mod SettingColumn
 pub mod EntryPlaces
 pub mod TableTheorems
+pub mod AfterLaws

@@ -27,7 +27,6 @@ use Rattle.message_graph.specs.Boxes.{boxed-by-loop}
 use Rattle.message_graph.specs.Tab.{tab, tab-at}
 use Rattle.derives.specs.declared.Derive.{Derive}
 use Rattle.derives.specs.declared.Derive.the-variants.{Copy, Eq}
-use Rattle.derives.specs.Rules.{rule}
 use Rattle.derives.specs.Can.{can-message-derive, can-field-derive}
 use Rattle.derives.specs.Depth.{answers}
 use Rattle.field_columns.specs.Columns.{owner-at, column-at, start-at}
@@ -35,14 +34,14 @@ use Rattle.field_columns.specs.declared.Column.the-variants.{Kind, Label}
 use Rattle.context_laws.specs.At.{At, at-within}
 use Rattle.context_laws.specs.Tables.{Row, rows-of, number-of, type-name-of, tables-of, settings-of, Sound}
 use Rattle.context_laws.specs.Numbers.{number-below}
-use Rattle.context_laws.specs.Rows.{first-row, row-kind, row-label, row-target, row-within}
+use Rattle.context_laws.specs.Rows.{first-row, row-kind, row-label, row-target}
 use Rattle.context_laws.specs.Rows as table-rows
 use Rattle.context_laws.specs.Boxed.{should-box-by-number}
 use Rattle.context_laws.specs.Derived.{message-copy-by-number, message-eq-by-number, field-copy-by-number, field-eq-by-number}
 use Rattle.text_tables.specs.Rows.{message-row, field-row}
 use Rattle.text_tables.specs.declared.MessageRow.{MessageRow}
 use Rattle.text_tables.specs.declared.FieldRow.{FieldRow}
-use Rattle.context_tables.specs.Cells.{message-cell, field-can, field-cell, entry-row}
+use Rattle.context_tables.specs.Cells.{message-cell, field-can, field-cell}
 use Rattle.context_tables.proofs.RowLaws.{message-row-is, field-row-is}
 use Rattle.context_tables.proofs.TargetLaws.{Agree, boxed-same, message-same, field-answer-same}
 use Rattle.context_tables.proofs.SetTables.{sound, owner-is, kind-is, label-is, first-is}

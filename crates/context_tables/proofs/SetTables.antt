@@ -1,27 +1,26 @@
 -- The columns of a set's fields are the tables over full names, so the rows say what context's definitions say. Assumes nothing.
 use mathlib.Core.Path.{_≡_, refl, sym, ap, _∙_, subst}
-use mathlib.Core.Bool.{Bool, true, false, _||_}
-use mathlib.Core.List.{List, [], _∷_, _++_, map, map-map, List·Memᴰ}
+use mathlib.Core.Bool.{Bool, true}
+use mathlib.Core.List.{List, [], _∷_, map, map-map, List·Memᴰ}
 use mathlib.Core.List.List·Memᴰ.{List·Memᴰ·head, List·Memᴰ·tail}
 use Prim.Native.Nat.{ℕ, zero, suc, _+_, _*_, _≤_, _<_}
 use native.Mathlib.Numerals.{add-one}
 use native.Mathlib.Omega.{arith}
 use lib.Dec.{ltb}
-use lib.ListN.{length, length-append, getD, take, replicate}
+use lib.ListN.{length, length-append, getD, take}
 use borrow.Author.Tests.{lt-ltb}
 use Rattle.base.specs.Tests.{and-both}
 use Rattle.base.specs.Lists.{all, all-of}
-use Rattle.descriptor.specs.Descriptor.{FieldDescriptor, MessageDescriptor, FileDescriptor}
+use Rattle.descriptor.specs.Descriptor.{FieldDescriptor, MessageDescriptor}
 use Rattle.descriptor.specs.Decode.{decode-set}
 use Rattle.descriptor.specs.Limits.{messages-in, fields-in, max-messages}
-use Rattle.name_rules.specs.Accessors.{type, label}
+use Rattle.name_rules.specs.Accessors.{label}
 use Rattle.name_rules.specs.FullNames.{Entry, set-entries, fields-of-entries}
 use Rattle.name_rules.specs.Answer.{names}
 use Rattle.name_rules.specs.declared.Names.the-variants.{Good}
 use Rattle.index.specs.Owners.{owners}
 use Rattle.index.specs.Tree.{Holds, all-members}
 use Rattle.index.proofs.SetLaws.{MessageTable, fields-of}
-use Rattle.message_graph.specs.Fields.{Fields}
 use Rattle.message_graph.specs.Tab.{tab, tab-at}
 use Rattle.field_columns.specs.Columns.{owner-at, column-of, column-at, start-at, fields-before}
 use Rattle.field_columns.specs.declared.Column.{Column}

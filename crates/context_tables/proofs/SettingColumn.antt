@@ -1,7 +1,7 @@
 -- The column of boxed settings, as `boxed_settings` leaves it in a buffer that has room for it. Assumes nothing.
-use mathlib.Core.Path.{_≡_, refl, sym, ap, _∙_}
+use mathlib.Core.Path.{_≡_, sym, ap, _∙_}
 use mathlib.Core.Bool.{Bool, false, not}
-use mathlib.Core.List.{List, _++_, map}
+use mathlib.Core.List.{List, map}
 use Prim.Native.Nat.{ℕ, _+_, _≤_, _<_}
 use native.Mathlib.Omega.{arith}
 use lib.Dec.{eqb}
@@ -9,11 +9,11 @@ use lib.ListN.{length, length-map, getD, drop, List·getD-map, List·getD-append
 use lib.Seq.{ext-getD, sets-eq}
 use Rattle.base.specs.Choose.{choose}
 use Rattle.writer.specs.Wrote.{Wrote, over}
-use Rattle.descriptor.specs.Descriptor.{Bytes, FieldDescriptor, FileDescriptor}
+use Rattle.descriptor.specs.Descriptor.{Bytes, FileDescriptor}
 use Rattle.descriptor.specs.Decode.{decode-set}
 use Rattle.descriptor.specs.Limits.{fields-in}
 use Rattle.options.specs.Settings.{Setting}
-use Rattle.name_rules.specs.FullNames.{Entry, set-entries}
+use Rattle.name_rules.specs.FullNames.{set-entries}
 use Rattle.message_graph.specs.Tab.{tab, length-tab, tab-at}
 use Rattle.boxed_settings.specs.Flags.{set-flags}
 use Rattle.field_columns.proofs.EntryLaws.{set-fields-are}

@@ -1,14 +1,12 @@
 -- The boxed settings that are written for a set's fields are those at full names, where every path fits its buffer. Assumes nothing.
 use mathlib.Core.Path.{_≡_, refl, sym, ap, _∙_}
-use mathlib.Core.Bool.{Bool, true, false}
 use mathlib.Core.List.{List, [], _∷_, _++_, map, map-map, append-assoc}
-use Prim.Native.Nat.{ℕ, zero, suc, _+_, _≤_, _<_}
+use Prim.Native.Nat.{ℕ, zero, suc, _+_, _≤_}
 use native.Mathlib.Omega.{arith}
 use lib.ListN.{length, length-append, take}
 use lib.Seq.{take-all}
-use Rattle.base.specs.Choose.{choose}
 use Rattle.base.specs.Lists.{all-of}
-use Rattle.descriptor.specs.Descriptor.{Bytes, Forest, done, node, FieldDescriptor, FileDescriptor}
+use Rattle.descriptor.specs.Descriptor.{Bytes, FieldDescriptor}
 use Rattle.descriptor.specs.Decode.{entries, parts, decode-field, decode-oneof, decode-message, decode-messages, decode-file, decode-set}
 use Rattle.descriptor.specs.Decode as decode
 use Rattle.options.specs.Settings.{Setting}

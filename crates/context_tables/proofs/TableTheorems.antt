@@ -1,12 +1,12 @@
 -- The two tables of a set within the limits, without refusals 6 and 7: each row says what the definitions by full names say. Assumes nothing.
-use mathlib.Core.Path.{_≡_, refl, sym, ap, _∙_, subst}
-use mathlib.Core.Bool.{Bool, true, false, _||_}
+use mathlib.Core.Path.{_≡_, sym, ap, _∙_, subst}
+use mathlib.Core.Bool.{Bool, true, _||_}
 use mathlib.Core.List.{List, map}
 use Prim.Native.Nat.{ℕ, _+_, _*_, _≤_, _<_}
 use native.Mathlib.Omega.{arith}
 use lib.ListN.{length, length-map, getD}
 use Rattle.writer.specs.Wrote.{Wrote}
-use Rattle.descriptor.specs.Descriptor.{FieldDescriptor, FileDescriptor}
+use Rattle.descriptor.specs.Descriptor.{FileDescriptor}
 use Rattle.descriptor.specs.Decode.{decode-set}
 use Rattle.descriptor.specs.Limits.{fields-in, limit-passed}
 use Rattle.options.specs.Settings.{Setting}
@@ -14,7 +14,7 @@ use Rattle.name_rules.specs.Accessors.{is-repeated, is-message, is-group}
 use Rattle.name_rules.specs.FullNames.{Entry, set-entries}
 use Rattle.name_rules.specs.Answer.{names}
 use Rattle.name_rules.specs.declared.Names.the-variants.{Good}
-use Rattle.index.specs.Tree.{Holds, all-members}
+use Rattle.index.specs.Tree.{Holds, all-members, row-at}
 use Rattle.index.proofs.SetLaws.{MessageTable}
 use Rattle.message_graph.specs.Limit.{messages}
 use Rattle.message_graph.specs.Fields.{Fields}
@@ -27,7 +27,9 @@ use Rattle.boxed_settings.specs.Flags.{set-flags}
 use Rattle.context_laws.specs.At.{At, at-within}
 use Rattle.context_laws.specs.Tables.{Row, rows-of, number-of, type-name-of, settings-of}
 use Rattle.text_tables.specs.Rows.{message-row, field-row}
+use Rattle.text_tables.specs.declared.MessageRow.{MessageRow}
 use Rattle.context_tables.specs.Cells.{is-set-at, entry-at, columns, message-table, field-table}
+use Rattle.context_tables.proofs.RowLaws.{message-row-is}
 use Rattle.context_tables.proofs.SetTables.{rows-fields, sound}
 use Rattle.context_tables.proofs.FitLaws.{Within, within-limits}
 use Rattle.context_tables.proofs.SettingColumn.{settings-are}
@@ -68,6 +70,14 @@ module _ (set rows : List ℕ) (count : ℕ) (table : MessageTable set rows coun
       let few = sound set rows count table t fields-table n holds room (limits .messages) good .few in
       subst (λ (x : List Bool). MessageSays rs ds e i (message-row (message-table size rows fields-table n over-fields x) i)) (sym settings-is)
       (message-says set rows count table t fields-table n holds room (limits .messages) good target targets rs p size messages there (omega arith))
+
+  -- the number behind those nested in it is that of its row (AfterLaws)
+  pub message-table-after : {e : Entry} {i : ℕ} → At e es i → (size : ℕ) → i * 4 + 3 < size → message-row (message-table size rows fields-table n over-fields settings) i .after ≡ row-at rows i .after
+  unfolding message-table
+  message-table-after {e} {i} p size there =
+      let within = at-within p in
+      let few = sound set rows count table t fields-table n holds room (limits .messages) good .few in
+      ap (λ (x : MessageRow). x .after) (message-row-is rows _ _ _ size i there (omega arith))
 
   -- a table has fewer than 65,536 rows
   few-fields : {r : Row} {k : ℕ} → At r (rows-of es) k → k < 65536

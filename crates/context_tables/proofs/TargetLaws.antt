@@ -1,20 +1,20 @@
 -- Boxes, Copy and Eq go by the target of a field only where its type is message or group. Assumes nothing.
-use mathlib.Core.Path.{_≡_, refl, sym, ap, _∙_, subst}
+use mathlib.Core.Path.{_≡_, refl, sym, ap, _∙_}
 use mathlib.Core.Bool.{Bool, true, false, not, _&&_, _||_}
 use mathlib.Core.List.{List}
-use Prim.Native.Nat.{ℕ, zero, suc, _<_}
+use Prim.Native.Nat.{ℕ, zero, suc}
 use lib.Dec.{eqb}
-use lib.ListN.{length, getD}
+use lib.ListN.{getD}
 use Rattle.base.specs.Tests.{and-left, or-left}
 use Rattle.message_graph.specs.Limit.{messages}
-use Rattle.message_graph.specs.Fields.{Fields, fields, size, message-at, owner-of, target-of, kind-of, label-of, link, is-link, type-message, type-group, label-repeated}
-use Rattle.message_graph.specs.Leads.{Link, Leads, leadsb}
+use Rattle.message_graph.specs.Fields.{Fields, fields, size, message-at, owner-of, target-of, kind-of, label-of, is-link, type-message, type-group, label-repeated}
+use Rattle.message_graph.specs.Leads.{Leads, leadsb}
 use Rattle.message_graph.specs.Leads.Leads.{here, step}
 use Rattle.message_graph.specs.Decided.{leads-sound, leads-complete, same-test}
 use Rattle.message_graph.specs.Boxes.{may-loop, boxed-by-loop}
 use Rattle.derives.specs.declared.Derive.{Derive}
 use Rattle.derives.specs.RuleLaws.{rule-same}
-use Rattle.derives.specs.Can.{every, field-can, entry-can, message-can, can-message-derive, can-field-derive}
+use Rattle.derives.specs.Can.{field-can, entry-can, message-can, can-message-derive, can-field-derive}
 use Rattle.derives.specs.Depth.{every-same}
 
 abbrev typed : ℕ → Bool

@@ -3,66 +3,46 @@ use Rattle.context_tables.proofs.CellLaws.{messages-filled, fields-fill
 use borrow.Author.Needs.{needs}
 use Rattle.context_tables.proofs.fill_rows.Statement.{statement}
 use Rattle.context_tables.proofs.fill_rows.Tie as tie
-use Rattle.context_tables.proofs.fill_rows.Reads as reads
-use Rattle.context_tables.proofs.fill_rows.Lts as lts
-use Rattle.context_tables.proofs.fill_fields.Reads as fill-fields-reads
-use Rattle.context_tables.proofs.fill_messages.Reads as fill-messages-reads
-use Rattle.derives.proofs.can_derive.Reads as can-derive-reads
-use Rattle.field_columns.proofs.fill_starts.Reads as fill-starts-reads
 
--- src/lib.rt:278:43
 slice-aggregate-fill-starts : tie.Need-slice-aggregate-fill-starts
 slice-aggregate-fill-starts c = search needs
 
--- src/lib.rt:278:5
 fill-starts-requires : tie.Need-fill-starts-requires
 fill-starts-requires c κs = search needs
 
--- src/lib.rt:279:9
 can-derive-requires : tie.Need-can-derive-requires
 can-derive-requires c κs = search needs
 
--- src/lib.rt:282:35
 slice-aggregate-fill-messages : tie.Need-slice-aggregate-fill-messages
 slice-aggregate-fill-messages c = search needs
 
--- src/lib.rt:282:43
 slice-aggregate-fill-messages-2 : tie.Need-slice-aggregate-fill-messages-2
 slice-aggregate-fill-messages-2 c = search needs
 
--- src/lib.rt:282:50
 slice-aggregate-fill-messages-3 : tie.Need-slice-aggregate-fill-messages-3
 slice-aggregate-fill-messages-3 c = search needs
 
--- src/lib.rt:282:5
 fill-messages-requires : tie.Need-fill-messages-requires
 fill-messages-requires c κs = search needs
 
--- src/lib.rt:291:9
 slice-aggregate-fill-fields : tie.Need-slice-aggregate-fill-fields
 slice-aggregate-fill-fields c = search needs
 
--- src/lib.rt:292:9
 slice-aggregate-fill-fields-2 : tie.Need-slice-aggregate-fill-fields-2
 slice-aggregate-fill-fields-2 c = search needs
 
--- src/lib.rt:283:5
 fill-fields-requires : tie.Need-fill-fields-requires
 fill-fields-requires c κs = search needs
 
--- src/lib.rt:259:1
 same-length : tie.Need-same-length
 same-length c = search needs
 
--- src/lib.rt:259:1
 same-length-2 : tie.Need-same-length-2
 same-length-2 c = search needs
 
--- src/lib.rt:259:1
 same-length-3 : tie.Need-same-length-3
 same-length-3 c = search needs
 
--- src/lib.rt:259:1
 returns : tie.Need-returns
 returns c = (messages-filled _ _ _ _ (c .before .before .before .before .before .before .before .before .before .before .before .before .before .before .before .before .before .before .can-derive .ensures .1 .0) (c .before .before .before .before .before .before .before .before .before .before .before .before .before .before .before .before .before .before .can-derive .ensures .1 .1) _ _ _ _ _ _ refl (c .before .before .before .before .before .before .before .before .before .before .before .before .before .before .before .before .before .before .before .before .before .fill-starts .ensures) _ (c .before .before .before .before .before .before .before .before .before .fill-messages .ensures), (fields-filled _ _ _ _ (c .before .before .before .before .before .before .before .before .before .before .before .before .before .before .before .before .before .before .can-derive .ensures .1 .0) (c .before .before .before .before .before .before .before .before .before .before .before .before .before .before .before .before .before .before .can-derive .ensures .1 .1) _ _ _ _ _ (c .before .before .before .before .before .before .before .before .before .before .before .before .before .before .before .before .before .before .can-derive .ensures .0) _ (c .before .before .fill-fields .ensures), c .before .before .before .before .before .before .before .before .before .before .before .before .before .before .before .before .before .before .can-derive .ensures .0))
 
