@@ -5,3 +5,5 @@ pub mod EntryRowLaws
 pub mod SaidLaws
 pub mod FieldCounts
 pub mod FailingLaws
+pub mod KeptLaws
+pub mod ShownLaws
