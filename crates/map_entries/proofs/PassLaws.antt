@@ -177,7 +177,7 @@ module _ (bytes t : List ℕ) where
               is =
                   w-is ∙ ap (tally bytes t n (row-uses bytes t i)) (passed .is) ∙ sym (tally-append (uses (listed bytes t i)) (row-uses bytes t i) who₀)
                   ∙ ap (λ (us : List Use). tally bytes t n us who₀)
-                    (ap (λ (us : List Use). uses (listed bytes t i) ++ us) (sym (uses-row bytes t (full bytes t (suc i)) i)) ∙ sym (uses-append (listed bytes t i) (listed-row bytes (full bytes t (suc i)) (row-at t i))) ∙ rw add-one);
+                  (ap (λ (us : List Use). uses (listed bytes t i) ++ us) (sym (uses-row bytes t (full bytes t (suc i)) i)) ∙ sym (uses-append (listed bytes t i) (listed-row bytes (full bytes t (suc i)) (row-at t i))) ∙ rw add-one);
             }
 
         pub passed-length : length who ≡ length who₀
