@@ -96,17 +96,6 @@ pub fn append_deprecated(t: &mut [u8], at: usize, d: usize, on: bool) -> usize
     put_line_if(t, at, d, on, b"#[deprecated]\n")
 }
 
-// The prost path as a text has it.
-pub fn put_prost(t: &mut [u8], at: usize, o: &[u8]) -> usize
-    ensures { λ r. ⌜ Wrote (now (t .entry)) at (flat (prost (settings (now (o .entry))))) (now (t .exit)) r ⌝ }
-{
-    let f = options::find_kind(o, 10);
-    if f.found {
-        return options::put_prost_path(t, at, o);
-    }
-    writer::put(t, at, b"::prost")
-}
-
 // The derives of a struct or a oneof's enum; `what` ends the line.
 pub fn derive(
     t: &mut [u8],
@@ -123,7 +112,7 @@ pub fn derive(
     let a = writer::put_if(t, a, copy, b"Copy, ");
     let a = writer::put(t, a, b"PartialEq, ");
     let a = writer::put_if(t, a, eq, b"Eq, Hash, ");
-    let a = put_prost(t, a, o);
+    let a = resolve::put_prost(t, a, o);
     writer::put(t, a, what)
 }
 

@@ -357,7 +357,7 @@ fn enum_derive(t: &mut [u8], at: usize, o: &[u8], d: usize, full: &[u8]) -> usiz
     let a = attributes::put_line(t, at, d, b"#[derive(Clone, Copy, ");
     let a = writer::put_if(t, a, shown, b"Debug, ");
     let a = writer::put(t, a, b"PartialEq, Eq, Hash, PartialOrd, Ord, ");
-    let a = attributes::put_prost(t, a, o);
+    let a = resolve::put_prost(t, a, o);
     writer::put(t, a, b"::Enumeration)]\n")
 }
 

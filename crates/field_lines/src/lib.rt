@@ -9,7 +9,7 @@ ghost use Rattle.code_generator.specs.Piece.{_⟫_, lit, flat};
 ghost use Rattle.code_generator.specs.Attributes.{line};
 ghost use Rattle.code_generator.specs.Fields.{shape-open, shape-close, box-open, box-close, field-name, field-line};
 
-pub fn shape_open(t: &mut [u8], at: usize, o: &[u8], proto3: bool, s: &[u8], f: FieldView) -> usize
+fn shape_open(t: &mut [u8], at: usize, o: &[u8], proto3: bool, s: &[u8], f: FieldView) -> usize
     ensures { λ r. ⌜ Wrote (now (t .entry)) at (flat (shape-open (settings (now (o .entry))) proto3 (field-of (now (s .entry)) f))) (now (t .exit)) r ⌝ }
 {
     let label = accessors::label(s, f);
@@ -21,7 +21,7 @@ pub fn shape_open(t: &mut [u8], at: usize, o: &[u8], proto3: bool, s: &[u8], f: 
     writer::put_if(t, at, is, b"::core::option::Option<")
 }
 
-pub fn shape_close(t: &mut [u8], at: usize, proto3: bool, s: &[u8], f: FieldView) -> usize
+fn shape_close(t: &mut [u8], at: usize, proto3: bool, s: &[u8], f: FieldView) -> usize
     ensures { λ r. ⌜ Wrote (now (t .entry)) at (flat (shape-close proto3 (field-of (now (s .entry)) f))) (now (t .exit)) r ⌝ }
 {
     let label = accessors::label(s, f);

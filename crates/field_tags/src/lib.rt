@@ -23,7 +23,7 @@ pub fn optional(proto3: bool, s: &[u8], f: FieldView) -> bool
 }
 
 // Is a repeated field that could be packed not packed?
-pub fn unpacked(proto3: bool, s: &[u8], f: FieldView) -> bool
+fn unpacked(proto3: bool, s: &[u8], f: FieldView) -> bool
     ensures { λ r. ⌜ r ≡ unpacked proto3 (field-of (now (s .entry)) f) ⌝ }
 {
     let kind = accessors::kind(s, f);
@@ -37,7 +37,7 @@ pub fn unpacked(proto3: bool, s: &[u8], f: FieldView) -> bool
     false
 }
 
-pub fn label_tag(t: &mut [u8], at: usize, proto3: bool, s: &[u8], f: FieldView) -> usize
+fn label_tag(t: &mut [u8], at: usize, proto3: bool, s: &[u8], f: FieldView) -> usize
     ensures { λ r. ⌜ Wrote (now (t .entry)) at (flat (label-tag proto3 (field-of (now (s .entry)) f))) (now (t .exit)) r ⌝ }
 {
     let label = accessors::label(s, f);
@@ -54,7 +54,7 @@ pub fn label_tag(t: &mut [u8], at: usize, proto3: bool, s: &[u8], f: FieldView) 
 }
 
 // asbytes: the field's bytes_type is `Bytes`.
-pub fn bytes_annotation(t: &mut [u8], at: usize, s: &[u8], f: FieldView, asbytes: bool) -> usize
+fn bytes_annotation(t: &mut [u8], at: usize, s: &[u8], f: FieldView, asbytes: bool) -> usize
     ensures { λ r. ⌜ Wrote (now (t .entry)) at (flat (bytes-annotation (field-of (now (s .entry)) f) asbytes)) (now (t .exit)) r ⌝ }
 {
     let sort = accessors::sort(s, f);
@@ -95,7 +95,7 @@ fn default_text(t: &mut [u8], at: usize, o: &[u8], s: &[u8], f: FieldView, v: &[
     literal::put_text(t, at, v)
 }
 
-pub fn default_tag(t: &mut [u8], at: usize, o: &[u8], s: &[u8], f: FieldView) -> usize
+fn default_tag(t: &mut [u8], at: usize, o: &[u8], s: &[u8], f: FieldView) -> usize
     ensures { λ r. ⌜ Wrote (now (t .entry)) at (flat (default-tag (settings (now (o .entry))) (field-of (now (s .entry)) f))) (now (t .exit)) r ⌝ }
 {
     let v = f.default;

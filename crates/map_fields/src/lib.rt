@@ -35,7 +35,7 @@ pub fn map_tag(
     writer::put(t, a, b"\")]\n")
 }
 
-pub fn map_open(t: &mut [u8], at: usize, o: &[u8], btree: bool) -> usize
+fn map_open(t: &mut [u8], at: usize, o: &[u8], btree: bool) -> usize
     ensures { λ r. ⌜ Wrote (now (t .entry)) at (flat (map-open (settings (now (o .entry))) btree)) (now (t .exit)) r ⌝ }
 {
     if btree {
