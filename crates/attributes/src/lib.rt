@@ -6,7 +6,6 @@ ghost use Rattle.options.specs.Settings.{settings};
 ghost use Rattle.path.specs.PathMap.{get};
 ghost use Rattle.joined.specs.Joined.{fits};
 ghost use Rattle.code_generator.specs.Piece.{flat, when};
-ghost use Rattle.code_generator.specs.Resolve.{prost};
 ghost use Rattle.code_generator.specs.Attributes.{line, end, attributes, derive, append-field-attributes, append-prost-path-attribute, append-skip-debug};
 ghost use Rattle.attributes.specs.Lines.{attribute};
 
