@@ -7,3 +7,4 @@ pub mod FieldCounts
 pub mod FailingLaws
 pub mod KeptLaws
 pub mod ShownLaws
+pub mod TreeLaws
