@@ -8,3 +8,4 @@ pub mod FailingLaws
 pub mod KeptLaws
 pub mod ShownLaws
 pub mod TreeLaws
+pub mod SetTreeLaws
