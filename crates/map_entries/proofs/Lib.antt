@@ -9,3 +9,4 @@ pub mod KeptLaws
 pub mod ShownLaws
 pub mod TreeLaws
 pub mod SetTreeLaws
+pub mod NumberLaws
