@@ -10,3 +10,4 @@ pub mod ShownLaws
 pub mod TreeLaws
 pub mod SetTreeLaws
 pub mod NumberLaws
+pub mod UnnamedTheorem
