@@ -105,3 +105,81 @@ module _ (fields : List FieldDescriptor) (ls : List Listed) where
       bad-append (file + suc (length fs)) here after ∙ ap (λ (d : ℕ). first-bad d here) e
       ∙ messages-bad file (file + 1 + first-failing (map-entries-named fields) fs) (f .messages) m 0 [] (package-scope (f .package-name)) top-rule (at-left ls m es (set-entries fs) a)
       ∙ placed (entries-named fields [] (package-scope (f .package-name)) (f .messages)) file (first-failing (map-entries-named fields) fs)
+
+-- ---- the rows
+abbrev files : Bytes → ℕ
+files bytes = length (parts 1 (decode.entries bytes))
+
+count-files : (bytes : Bytes) → files bytes ≡ 0 + length (decode-set bytes)
+unfolding decode-set
+count-files bytes = let e = map-length decode-file (parts 1 (decode.entries bytes)) in omega arith
+
+module _ (bytes t : List ℕ) (n size : ℕ) (fit : n ≤ size) (small : n ≤ 65536) where
+  abbrev ls : List Listed
+  ls = listed bytes t n
+
+  abbrev who : List ℕ
+  who = naming bytes t n size
+
+  module _ (i : ℕ) (h : i < n) where
+    by-parent : (b : Bool) → ltb (parent-kind t i) 2 ≡ b
+        → choose b false (eqb (getD who i 0) (parent-kind t i)) ≡ choose b false (entry-named (fields-listed ls) (fields-numbered (parent-kind t i - 2) ls) (full bytes t (suc i)))
+    unfolding choose
+    by-parent true e = refl
+    by-parent false e =
+        let l = ltb-false (parent-kind t i) 2 e in
+        let z : parent-kind t i - 2 + 2 ≡ parent-kind t i = omega arith in
+        ap (λ (k : ℕ). eqb (getD who i 0) k) (sym z) ∙ row-rule bytes t i (omega arith) n size (parent-kind t i - 2) h (omega arith)
+        ∙ ap (λ (k : ℕ). entry-named (fields-listed ls) (fields-numbered (parent-kind t i - 2) ls) (full bytes t k)) (let q : i + 1 ≡ suc i = omega arith in q)
+
+    entry-rule : entry-row-named t who i ≡ ruled (fields-listed ls) ls (parent-kind t i) (full bytes t (suc i))
+    unfolding entry-row-named ruled
+    entry-rule = by-parent (ltb (parent-kind t i) 2) refl
+
+    row-bad : (d : ℕ) → choose (row-named bytes t who i) d (cell-at t i 3) ≡ first-bad (fields-listed ls) ls d (shown-as bytes (full bytes t (suc i)) (parent-kind t i) (row-at t i))
+    unfolding row-named is-entry-row shown-as first-bad good row-at choose
+    row-bad d = by (ltb (cell-at t i 4) 2)
+      where
+        m : MessageDescriptor
+        m = decode-message (part bytes (cell-at t i 5) (cell-at t i 6 - cell-at t i 5))
+
+        s : Shown
+        s = record { full = full bytes t (suc i); entry = m .map-entry; parent = parent-kind t i; file = cell-at t i 3 }
+
+        by : (b : Bool) → choose (choose (choose b false (m .map-entry)) (entry-row-named t who i) true) d (cell-at t i 3) ≡ first-bad (fields-listed ls) ls d (choose b [] (s ∷ []))
+        by true = refl
+        by false = ap (λ (b : Bool). choose (choose (m .map-entry) b true) d (cell-at t i 3)) entry-rule
+
+  rows-bad : (k i : ℕ) → i + k ≡ n → first-bad (fields-listed ls) ls (unnamed-from bytes t who k i) (shown bytes t i) ≡ first-bad (fields-listed ls) ls (files bytes) (shown bytes t n)
+  unfolding unnamed-from shown
+  rows-bad zero i e = ap (λ (j : ℕ). first-bad (fields-listed ls) ls (files bytes) (shown bytes t j)) (let z : i ≡ n = omega arith in z)
+  rows-bad (suc k) i e =
+      let row : List Shown = shown-as bytes (full bytes t (suc i)) (parent-kind t i) (row-at t i) in
+      let rest : ℕ = unnamed-from bytes t who k (i + 1) in
+      ap (λ (d : ℕ). first-bad (fields-listed ls) ls d (shown bytes t i)) (row-bad i (omega arith) rest)
+      ∙ sym (bad-append (fields-listed ls) ls rest (shown bytes t i) row)
+      ∙ ap (λ (j : ℕ). first-bad (fields-listed ls) ls rest (shown bytes t j)) (let q : suc i ≡ i + 1 = omega arith in q) ∙ rows-bad k (i + 1) (omega arith)
+
+  no-rows-bad : (d : ℕ) → d ≡ first-bad (fields-listed ls) ls d (shown bytes t 0)
+  unfolding first-bad shown
+  no-rows-bad d = refl
+
+  table-bad : first-unnamed bytes t n who ≡ first-bad (fields-listed ls) ls (files bytes) (shown bytes t n)
+  unfolding first-unnamed
+  table-bad = no-rows-bad (unnamed-from bytes t who n 0) ∙ rows-bad n 0 (omega arith)
+
+-- the theorem: in a table that has a row to spare and lists the set's declarations
+pub set-unnamed : (bytes t : List ℕ) (size : ℕ) → room (declared bytes t) ≡ true → listed bytes (declared bytes t .table) (declared bytes t .rows) ≡ listed-files 0 0 (decode-set bytes)
+    → declared bytes t .rows ≤ size
+    → first-unnamed bytes (declared bytes t .table) (declared bytes t .rows) (naming bytes (declared bytes t .table) (declared bytes t .rows) size)
+    ≡ first-failing (map-entries-named (set-fields (decode-set bytes))) (decode-set bytes)
+set-unnamed bytes t size last lists fit =
+    let x : State = declared bytes t in
+    let ds : List FileDescriptor = decode-set bytes in
+    let r = room-is (x .table) (x .rows) last in
+    let few : x .rows < 65536 = r .0 in
+    let rows : first-bad (fields-listed (listed bytes (x .table) (x .rows))) (listed bytes (x .table) (x .rows)) (files bytes) (all-shown bytes x)
+    ≡ first-bad (set-fields ds) (listed-files 0 0 ds) (0 + length ds) (shown-files 0 0 ds) =
+    rw (lists, set-fields-listed ds, set-shown bytes t last, count-files bytes) in
+    let z : 0 + first-failing (map-entries-named (set-fields ds)) ds ≡ first-failing (map-entries-named (set-fields ds)) ds = omega arith in
+    table-bad bytes (x .table) (x .rows) size fit (omega arith) ∙ rows ∙ files-bad (set-fields ds) (listed-files 0 0 ds) ds 0 0 (at-set ds) ∙ z
