@@ -26,7 +26,7 @@ module _ (g : Listed → List FieldDescriptor) where
     of-enums : (file : ℕ) (scope : Bytes) (es : List EnumDescriptor) → all-of g (listed-enums file scope es) ≡ []
     unfolding all-of listed-enums
     of-enums file scope [] = refl
-    of-enums file scope (e ∷ es) = 
+    of-enums file scope (e ∷ es) =
         let l : Listed = record { full = scope · text (e .name); is-enumeration = true; number = 0; file = file; fields = [] } in
         rw (empty l refl) (of-enums file scope es)
 
