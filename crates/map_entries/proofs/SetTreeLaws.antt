@@ -2,21 +2,21 @@
 use mathlib.Core.Path.{_≡_, refl, sym, ap, _∙_}
 use mathlib.Core.Bool.{Bool, true, false}
 use mathlib.Core.List.{List, [], _∷_, _++_, map, append-nil, append-assoc}
-use mathlib.Core.Option.{Option, some, none}
-use Prim.Native.Nat.{ℕ, zero, suc, _+_, _-_, _≤_, _<_}
+use mathlib.Core.Option.{some, none}
+use Prim.Native.Nat.{ℕ, _+_, _≤_}
 use native.Mathlib.Numerals.{add-one}
 use native.Mathlib.Omega.{arith}
 use lib.ListN.{length}
 use Rattle.base.specs.Choose.{choose, choose-case}
 use Rattle.base.specs.Tests.{both-ways}
 use Rattle.wire.specs.Records.{part}
-use Rattle.descriptor.specs.Descriptor.{Bytes, Forest, MessageDescriptor, FileDescriptor}
+use Rattle.descriptor.specs.Descriptor.{Bytes, FileDescriptor}
 use Rattle.descriptor.specs.Decode.{parts, decode-messages, decode-file, decode-set}
 use Rattle.descriptor.specs.Decode as decode
 use Rattle.index.specs.Tree.{Place}
-use Rattle.name_rules.specs.FullNames.{_·_, package-scope, Entry, entries}
+use Rattle.name_rules.specs.FullNames.{_·_, package-scope, entries}
 use Rattle.name_rules.proofs.ViewedLaws.{whole-part}
-use Rattle.declarations.specs.Rows.{State, bytes-at, room, push, places, package-of, package-row, declare-enums, declare-messages, declare-members, declare-file, declare-files, declared, no-rows}
+use Rattle.declarations.specs.Rows.{State, bytes-at, room, push, places, package-of, package-row, declare-messages, declare-members, declare-file, declare-files, declared, no-rows}
 use Rattle.declarations.specs.Listed.{name-of, full, file-entries}
 use Rattle.declarations.specs.declared.Row.{Row}
 use Rattle.declarations.proofs.FullLaws.{full-none}

@@ -1,30 +1,27 @@
 -- The messages of a table, with what they stand in, are those of the set. Assumes nothing.
-use mathlib.Core.Path.{_≡_, refl, sym, ap, _∙_}
-use mathlib.Core.Bool.{Bool, true, false}
-use mathlib.Core.List.{List, [], _∷_, _++_, map, append-nil, append-assoc}
-use Prim.Native.Nat.{ℕ, zero, suc, _+_, _*_, _-_, _≤_, _<_}
+use mathlib.Core.Path.{_≡_, refl, ap, _∙_}
+use mathlib.Core.Bool.{Bool, true}
+use mathlib.Core.List.{List, [], _∷_, _++_}
+use Prim.Native.Nat.{ℕ, zero, suc, _+_, _-_, _≤_, _<_}
 use native.Mathlib.Numerals.{add-one}
 use native.Mathlib.Omega.{arith}
-use lib.ListN.{length, length-append}
-use lib.Dec.{eqb, ltb}
+use lib.ListN.{length}
+use lib.Dec.{ltb}
 use borrow.Author.Tests.{lt-ltb, le-ltb, eq-eqb, ne-eqb}
-use Rattle.base.specs.Choose.{choose, choose-case}
-use Rattle.base.specs.Tests.{both-ways}
+use Rattle.base.specs.Choose.{choose}
 use Rattle.wire.specs.Records.{part}
 use Rattle.descriptor.specs.Descriptor.{Bytes, Forest, done, node, MessageDescriptor}
-use Rattle.descriptor.specs.Decode.{decode-message, decode-messages}
-use Rattle.index.specs.Tree.{Place}
+use Rattle.descriptor.specs.Decode.{decode-message}
 use Rattle.name_rules.specs.Accessors.{text}
-use Rattle.name_rules.specs.FullNames.{_·_, Entry, entries}
-use Rattle.declarations.specs.Rows.{State, bytes-at, cell-at, row-at, has-room, room, put, push, push-message, places, declaration-row, declare-enums, declare-messages}
+use Rattle.name_rules.specs.FullNames.{_·_, entries}
+use Rattle.declarations.specs.Rows.{State, cell-at, row-at, room, put}
 use Rattle.declarations.specs.Listed.{name-of, full}
 use Rattle.declarations.specs.declared.Row.{Row}
 use Rattle.declarations.proofs.TableLaws.{row-here}
 use Rattle.declarations.proofs.RoomLaws.{room-is}
 use Rattle.declarations.proofs.FullLaws.{above-is, full-step, full-put}
-use Rattle.declarations.proofs.PartLaws.{places-are, message-name}
 use Rattle.map_entries.specs.Named.{parent-kind}
-use Rattle.map_entries.proofs.KeptLaws.{Kept, kept-none, kept-more, kept-push, room-before, enums-kept, messages-kept, full-same, parent-same}
+use Rattle.map_entries.proofs.KeptLaws.{Kept, kept-push, full-same, parent-same}
 
 -- a message: its full name, is it a map entry, the kind of what it stands in, and the index of its file
 pub record Shown : Type 0 where

@@ -2,20 +2,18 @@
 use mathlib.Core.Path.{_≡_, refl, sym, ap, _∙_}
 use mathlib.Core.Bool.{Bool, true, false}
 use mathlib.Core.List.{List, [], _∷_, _++_, map, append-nil, append-assoc}
-use Prim.Native.Nat.{ℕ, zero, suc, _+_, _-_, _≤_, _<_}
+use Prim.Native.Nat.{ℕ, zero, suc, _+_, _≤_}
 use native.Mathlib.Numerals.{add-one}
 use native.Mathlib.Omega.{arith}
 use lib.ListN.{length, length-append}
-use lib.Dec.{ltb}
 use borrow.Author.Tests.{le-ltb}
 use Rattle.base.specs.Choose.{choose, choose-case}
 use Rattle.base.specs.Tests.{both-ways}
-use Rattle.wire.specs.Records.{part}
-use Rattle.descriptor.specs.Descriptor.{Bytes, Forest, done, node, MessageDescriptor}
+use Rattle.descriptor.specs.Descriptor.{Bytes, Forest, node, MessageDescriptor}
 use Rattle.descriptor.specs.Decode.{decode-message, decode-messages}
 use Rattle.index.specs.Tree.{Place}
 use Rattle.name_rules.specs.Accessors.{text}
-use Rattle.name_rules.specs.FullNames.{_·_, Entry, entries}
+use Rattle.name_rules.specs.FullNames.{_·_, entries}
 use Rattle.declarations.specs.Rows.{State, bytes-at, room, push, push-message, places, declaration-row, declare-enums, declare-messages}
 use Rattle.declarations.specs.Listed.{name-of, full}
 use Rattle.declarations.specs.declared.Row.{Row}
