@@ -1,16 +1,15 @@
 -- The search of `first_unnamed`. Assumes nothing.
-use mathlib.Core.Path.{_≡_, refl, sym, ap, _∙_}
+use mathlib.Core.Path.{_≡_, sym, ap, _∙_}
 use mathlib.Core.Bool.{Bool, true, false, not}
 use mathlib.Core.List.{List}
-use Prim.Native.Nat.{ℕ, zero, suc, _+_, _-_, _≤_, _<_}
+use Prim.Native.Nat.{ℕ, suc, _+_, _-_, _≤_, _<_}
 use native.Mathlib.Omega.{arith}
 use lib.ListN.{length, getD, List·getD-eq-default}
-use lib.Dec.{eqb, ltb}
+use lib.Dec.{eqb}
 use borrow.Author.Tests.{eq-eqb, ne-eqb, lt-ltb, le-ltb, not-true, not-false}
 use Rattle.base.specs.Choose.{choose}
 use Rattle.wire.specs.Records.{part}
-use Rattle.descriptor.specs.Descriptor.{Bytes}
-use Rattle.descriptor.specs.Decode.{entries, parts, decode-message}
+use Rattle.descriptor.specs.Decode.{entries, parts}
 use Rattle.descriptor.specs.Views.{message-in}
 use Rattle.descriptor.specs.declared.MessageView.{MessageView}
 use Rattle.descriptor.proofs.ViewTheorems.{message-entry-is}

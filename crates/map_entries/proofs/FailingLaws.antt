@@ -2,12 +2,17 @@
 use mathlib.Core.Path.{_≡_, refl, sym, ap, _∙_}
 use mathlib.Core.Bool.{Bool, true, false, _&&_}
 use mathlib.Core.List.{List, [], _∷_}
-use Prim.Native.Nat.{ℕ, zero, suc, _+_, _≤_}
+use Prim.Native.Nat.{ℕ, _+_}
 use native.Mathlib.Omega.{arith}
 use lib.Dec.{ltb}
 use borrow.Author.Tests.{lt-ltb, le-ltb, ltb-true, ltb-false}
 use Rattle.base.specs.Choose.{choose}
 use Rattle.base.specs.Lists.{first-failing}
+use Rattle.descriptor.specs.Descriptor.{FileDescriptor}
+use Rattle.name_rules.specs.Rules.{file-good}
+use Rattle.name_rules.specs.FullNames.{set-fields}
+use Rattle.name_rules.specs.MapEntries.{map-entries-named}
+use Rattle.name_rules.specs.Answer.{file-named, first-six}
 
 abbrev pub smaller : ℕ → ℕ → ℕ
 smaller a b = choose (ltb a b) a b
@@ -39,3 +44,8 @@ first-failing-both {A = A} p q (x ∷ xs) = by (p x) (q x) (first-failing-both p
     by true false e = sym (smaller-zero (1 + first-failing p xs))
     by false true e = sym (smaller-first (first-failing q xs))
     by false false e = sym (smaller-zero 0)
+
+-- refusal 6: the first file at fault by itself, or by a map entry
+pub first-six-is : (ds : List FileDescriptor) → first-six ds ≡ smaller (first-failing file-good ds) (first-failing (map-entries-named (set-fields ds)) ds)
+unfolding first-six file-named
+first-six-is ds = first-failing-both file-good (map-entries-named (set-fields ds)) ds

@@ -3,11 +3,11 @@ use mathlib.Core.Path.{_≡_, refl, sym, ap, _∙_}
 use mathlib.Core.Bool.{Bool, true, false, _&&_, and-false}
 use mathlib.Core.List.{List, [], _∷_, _++_}
 use mathlib.Core.Option.{Option, some, none}
-use Prim.Native.Nat.{ℕ, zero, suc, _+_, _-_, _≤_, _<_}
+use Prim.Native.Nat.{ℕ, _+_, _≤_, _<_}
 use native.Mathlib.Omega.{arith}
-use lib.ListN.{length, getD}
-use lib.Dec.{eqb, ltb}
-use borrow.Author.Tests.{eqb-true, eqb-false, eq-eqb, ne-eqb, le-ltb}
+use lib.ListN.{getD}
+use lib.Dec.{eqb}
+use borrow.Author.Tests.{eq-eqb, ne-eqb, le-ltb}
 use Rattle.base.specs.Bytes.{same}
 use Rattle.base.specs.Choose.{choose}
 use Rattle.base.specs.Lists.{count, all-of}
@@ -17,7 +17,7 @@ use Rattle.name_rules.specs.Rules as rules
 use Rattle.name_rules.specs.MapEntries.{names-it, maps-it, entry-named}
 use Rattle.declarations.specs.Listed.{full, Listed, listed}
 use Rattle.type_names.specs.LookUp.{named}
-use Rattle.map_entries.specs.Named.{Use, use-of, is-mapping, field-use, uses, naming, said, mapping-in}
+use Rattle.map_entries.specs.Named.{Use, use-of, is-mapping, field-use, uses, naming, mapping-in}
 use Rattle.map_entries.proofs.CountLaws.{by-eq, said-rule}
 use Rattle.map_entries.proofs.SaidLaws.{naming-at}
 

@@ -1,22 +1,19 @@
 -- Rows that stand in a table stay there. Assumes nothing.
-use mathlib.Core.Path.{_≡_, refl, sym, ap, _∙_}
+use mathlib.Core.Path.{_≡_, refl, ap, _∙_}
 use mathlib.Core.Bool.{Bool, true, false}
-use mathlib.Core.List.{List, [], _∷_, _++_}
+use mathlib.Core.List.{List, [], _∷_}
 use Prim.Native.Nat.{ℕ, zero, suc, _+_, _*_, _-_, _≤_, _<_}
 use native.Mathlib.Omega.{arith}
 use lib.ListN.{length}
 use lib.Dec.{eqb, ltb}
 use borrow.Author.Tests.{ltb-false}
 use Rattle.base.specs.Choose.{choose, choose-case}
-use Rattle.wire.specs.Records.{part}
-use Rattle.descriptor.specs.Descriptor.{Bytes}
-use Rattle.descriptor.specs.Decode.{decode-message}
 use Rattle.index.specs.Tree.{Place}
 use Rattle.name_rules.specs.FullNames.{_·_}
-use Rattle.declarations.specs.Rows.{State, cell-at, row-at, has-room, room, put, push, push-message, places, declaration-row, declare-enums, declare-messages}
+use Rattle.declarations.specs.Rows.{State, cell-at, row-at, room, put, push, push-message, places, declaration-row, declare-enums, declare-messages}
 use Rattle.declarations.specs.Listed.{name-of, above, full-by, full}
 use Rattle.declarations.specs.declared.Row.{Row}
-use Rattle.declarations.proofs.TableLaws.{row-before, row-here}
+use Rattle.declarations.proofs.TableLaws.{row-before}
 use Rattle.declarations.proofs.RoomLaws.{room-is, room-there, put-length}
 use Rattle.declarations.proofs.FullLaws.{above-before}
 use Rattle.map_entries.specs.Named.{parent-kind}

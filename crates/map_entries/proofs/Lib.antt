@@ -7,3 +7,7 @@ pub mod FieldCounts
 pub mod FailingLaws
 pub mod KeptLaws
 pub mod ShownLaws
+pub mod TreeLaws
+pub mod SetTreeLaws
+pub mod NumberLaws
+pub mod UnnamedTheorem

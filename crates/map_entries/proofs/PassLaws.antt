@@ -7,7 +7,6 @@ use native.Mathlib.Numerals.{add-one}
 use native.Mathlib.Omega.{arith}
 use lib.ListN.{length, getD, set, drop, replicate, length-set, length-replicate, drop-of-length-le}
 use lib.Seq.{drop-cons, set-at, set-out}
-use lib.Dec.{ltb}
 use borrow.Author.Tests.{lt-ltb, le-ltb}
 use Rattle.base.specs.Choose.{choose, choose-case}
 use Rattle.base.specs.Lists.{all-of}
@@ -18,7 +17,7 @@ use Rattle.descriptor.specs.Views.{field-in, field-of}
 use Rattle.descriptor.specs.declared.FieldView.{FieldView}
 use Rattle.parts.proofs.PartLaws.{parts-from}
 use Rattle.declarations.specs.Rows.{cell-at, row-at}
-use Rattle.declarations.specs.Listed.{Listed, full, listed-row, listed}
+use Rattle.declarations.specs.Listed.{full, listed-row, listed}
 use Rattle.type_names.specs.LookUp.{named}
 use Rattle.map_entries.specs.Named.{Use, is-mapping, part-use, row-uses, uses, vote, joined, noted, noted-rows, tally, naming}
 use Rattle.map_entries.proofs.UseLaws.{field-none, field-some, uses-append, uses-row}

@@ -1,30 +1,27 @@
 -- The messages of a table, with what they stand in, are those of the set. Assumes nothing.
-use mathlib.Core.Path.{_≡_, refl, sym, ap, _∙_}
-use mathlib.Core.Bool.{Bool, true, false}
-use mathlib.Core.List.{List, [], _∷_, _++_, map, append-nil, append-assoc}
-use Prim.Native.Nat.{ℕ, zero, suc, _+_, _*_, _-_, _≤_, _<_}
+use mathlib.Core.Path.{_≡_, refl, ap, _∙_}
+use mathlib.Core.Bool.{Bool, true}
+use mathlib.Core.List.{List, [], _∷_, _++_}
+use Prim.Native.Nat.{ℕ, zero, suc, _+_, _-_, _≤_, _<_}
 use native.Mathlib.Numerals.{add-one}
 use native.Mathlib.Omega.{arith}
-use lib.ListN.{length, length-append}
-use lib.Dec.{eqb, ltb}
+use lib.ListN.{length}
+use lib.Dec.{ltb}
 use borrow.Author.Tests.{lt-ltb, le-ltb, eq-eqb, ne-eqb}
-use Rattle.base.specs.Choose.{choose, choose-case}
-use Rattle.base.specs.Tests.{both-ways}
+use Rattle.base.specs.Choose.{choose}
 use Rattle.wire.specs.Records.{part}
 use Rattle.descriptor.specs.Descriptor.{Bytes, Forest, done, node, MessageDescriptor}
-use Rattle.descriptor.specs.Decode.{decode-message, decode-messages}
-use Rattle.index.specs.Tree.{Place}
+use Rattle.descriptor.specs.Decode.{decode-message}
 use Rattle.name_rules.specs.Accessors.{text}
-use Rattle.name_rules.specs.FullNames.{_·_, Entry, entries}
-use Rattle.declarations.specs.Rows.{State, bytes-at, cell-at, row-at, has-room, room, put, push, push-message, places, declaration-row, declare-enums, declare-messages}
+use Rattle.name_rules.specs.FullNames.{_·_, entries}
+use Rattle.declarations.specs.Rows.{State, cell-at, row-at, room, put}
 use Rattle.declarations.specs.Listed.{name-of, full}
 use Rattle.declarations.specs.declared.Row.{Row}
 use Rattle.declarations.proofs.TableLaws.{row-here}
 use Rattle.declarations.proofs.RoomLaws.{room-is}
 use Rattle.declarations.proofs.FullLaws.{above-is, full-step, full-put}
-use Rattle.declarations.proofs.PartLaws.{places-are, message-name}
 use Rattle.map_entries.specs.Named.{parent-kind}
-use Rattle.map_entries.proofs.KeptLaws.{Kept, kept-none, kept-more, kept-push, room-before, enums-kept, messages-kept, full-same, parent-same}
+use Rattle.map_entries.proofs.KeptLaws.{Kept, kept-push, full-same, parent-same}
 
 -- a message: its full name, is it a map entry, the kind of what it stands in, and the index of its file
 pub record Shown : Type 0 where
@@ -55,7 +52,7 @@ shown-messages file m parent scope (node a nested following) =
     ∷ (shown-messages file (m + 1) (m + 2) (scope · text (a .name)) nested
     ++ shown-messages file (m + 1 + length (entries (scope · text (a .name)) nested)) parent scope following)
 
-abbrev all-shown : Bytes → State → List Shown
+abbrev pub all-shown : Bytes → State → List Shown
 all-shown bytes x = shown bytes (x .table) (x .rows)
 
 module _ (bytes : Bytes) where
@@ -65,12 +62,12 @@ module _ (bytes : Bytes) where
   shown-same t u (suc i) h =
       rw (h i (omega arith), parent-same bytes t u i h, full-same bytes t u (suc i) h) (ap (λ (ss : List Shown). ss ++ shown-as bytes (full bytes u (suc i)) (parent-kind u i) (row-at u i)) (shown-same t u i (λ j l. h j (omega arith))))
 
-  kind-kept : (x y : State) → Kept x y → (up : ℕ) → up ≤ x .rows → code-kind (y .table) up ≡ code-kind (x .table) up
+  pub kind-kept : (x y : State) → Kept x y → (up : ℕ) → up ≤ x .rows → code-kind (y .table) up ≡ code-kind (x .table) up
   unfolding code-kind
   kind-kept x y k zero h = refl
   kind-kept x y k (suc i) h = ap (λ (r : Row). r .kind) (k .same i (omega arith))
 
-  full-kept : (x y : State) → Kept x y → (up : ℕ) → up ≤ x .rows → full bytes (y .table) up ≡ full bytes (x .table) up
+  pub full-kept : (x y : State) → Kept x y → (up : ℕ) → up ≤ x .rows → full bytes (y .table) up ≡ full bytes (x .table) up
   full-kept x y k up h = full-same bytes (y .table) (x .table) up (λ j l. k .same j (omega arith))
 
   -- one row more
@@ -81,12 +78,12 @@ module _ (bytes : Bytes) where
     here : row-at (put (x .table) (x .rows) r) (x .rows) ≡ r
     here = let f = room-is (x .table) (x .rows) free in row-here (x .table) (x .rows) r (f .0) (f .1)
 
-    new-full : full bytes (put (x .table) (x .rows) r) (suc (x .rows)) ≡ full bytes (x .table) (r .up) · name-of bytes r
+    pub new-full : full bytes (put (x .table) (x .rows) r) (suc (x .rows)) ≡ full bytes (x .table) (r .up) · name-of bytes r
     new-full =
         full-step bytes (put (x .table) (x .rows) r) (x .rows)
         ∙ rw (here, above-is (x .rows) r h) (ap (λ (scope : Bytes). scope · name-of bytes r) (full-put bytes (x .table) (x .rows) r (r .up) h))
 
-    new-kind : code-kind (put (x .table) (x .rows) r) (suc (x .rows)) ≡ r .kind
+    pub new-kind : code-kind (put (x .table) (x .rows) r) (suc (x .rows)) ≡ r .kind
     unfolding code-kind
     new-kind = ap (λ (q : Row). q .kind) here
 
@@ -102,7 +99,7 @@ module _ (bytes : Bytes) where
         by-code (put (x .table) (x .rows) r) (x .rows) (r .up) (ap (λ (q : Row). q .up) here) h
         ∙ kind-kept x next (kept-push x r messages) (r .up) h
 
-    new-shown : all-shown bytes next ≡ all-shown bytes x ++ shown-as bytes (full bytes (x .table) (r .up) · name-of bytes r) (code-kind (x .table) (r .up)) r
+    pub new-shown : all-shown bytes next ≡ all-shown bytes x ++ shown-as bytes (full bytes (x .table) (r .up) · name-of bytes r) (code-kind (x .table) (r .up)) r
     unfolding shown
     new-shown =
         rw (add-one, here, new-parent, new-full)

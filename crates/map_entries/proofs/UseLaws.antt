@@ -1,22 +1,22 @@
 -- The uses of a field, and of a row. Assumes nothing.
 use mathlib.Core.Path.{_≡_, refl, sym, ap, _∙_}
-use mathlib.Core.Bool.{Bool, true, false, _&&_, not}
+use mathlib.Core.Bool.{Bool, true, false, not}
 use mathlib.Core.List.{List, [], _∷_, _++_, map, append-nil, append-assoc}
-use Prim.Native.Nat.{ℕ, zero, suc, _+_, _-_, _≤_, _<_}
+use Prim.Native.Nat.{ℕ, zero, suc, _-_, _≤_}
 use native.Mathlib.Omega.{arith}
 use lib.ListN.{length}
-use lib.Dec.{eqb, ltb}
+use lib.Dec.{eqb}
 use borrow.Author.Tests.{eq-eqb, ne-eqb, lt-ltb, le-ltb, eqb-true, eqb-false, not-true, not-false}
 use Rattle.base.specs.Choose.{choose}
 use Rattle.base.specs.Lists.{all-of}
 use Rattle.wire.specs.Records.{part}
-use Rattle.descriptor.specs.Descriptor.{Bytes, FieldDescriptor}
+use Rattle.descriptor.specs.Descriptor.{Bytes}
 use Rattle.descriptor.specs.Decode.{entries, parts, decode-field, decode-message}
 use Rattle.descriptor.specs.Views.{field-in, field-of}
 use Rattle.descriptor.specs.declared.FieldView.{FieldView}
 use Rattle.name_rules.proofs.ViewedLaws.{field-is}
 use Rattle.declarations.specs.Rows.{cell-at, row-at}
-use Rattle.declarations.specs.Listed.{Listed, listed-row, listed}
+use Rattle.declarations.specs.Listed.{Listed, listed-row}
 use Rattle.map_entries.specs.Named.{Use, is-mapping, field-use, part-use, row-uses, uses}
 
 module _ (v : FieldView) (s : Bytes) where

@@ -63,7 +63,7 @@ fn note(who: &mut [usize], i: usize, v: usize)
     }
 }
 
-// A field that says v names these rows.
+// A field that says `v` names the rows with this full name.
 fn note_rows(set: &[u8], t: &[usize], count: usize, name: &[u8], v: usize, who: &mut [usize])
     ensures { λ _. ⌜ now (who .exit) ≡ noted-rows (now (set .entry)) (now (t .entry)) (now (name .entry)) v count (now (who .entry)) ⌝ }
 {
@@ -136,8 +136,8 @@ fn clear(who: &mut [usize])
     }
 }
 
-// For each of so many rows: 0 where no field names it, its kind where all that do are repeated message fields of one message,
-// and 1 where there are others.
+// For each of so many rows: 0 where no field names it, a message's kind where all that do are repeated message fields of that
+// message, and 1 where there are others.
 pub fn note_set(set: &[u8], t: &[usize], count: usize, who: &mut [usize])
     ensures { λ _. ⌜ now (who .exit) ≡ naming (now (set .entry)) (now (t .entry)) count (length (now (who .entry))) ⌝ }
 {

@@ -5,8 +5,6 @@ use Prim.Native.Nat.{_-_}
 use lib.ListN.{length, length-set}
 use Rattle.map_entries.proofs.clear.Statement.{statement}
 use Rattle.map_entries.proofs.clear.Tie as tie
-use Rattle.map_entries.proofs.clear.Reads as reads
-use Rattle.map_entries.proofs.clear.Lts as lts
 
 abbrev Inv-loop : tie.InvT-loop
 Inv-loop who₀ i₀ who i = Cleared who₀ who i
@@ -14,35 +12,27 @@ Inv-loop who₀ i₀ who i = Cleared who₀ who i
 abbrev μ-loop : tie.MeasureT-loop
 μ-loop who₀ i₀ who i = length who - i
 
--- src/lib.rt:133:5
 loop-holds : tie.Need-loop-holds Inv-loop μ-loop
 loop-holds c = cleared-start _
 
--- src/lib.rt:134:9
 mul-who : tie.Need-mul-who Inv-loop μ-loop
 mul-who c = search needs
 
--- src/lib.rt:134:9
 slice-write-who : tie.Need-slice-write-who Inv-loop μ-loop
 slice-write-who c = omega (arith, c .loop-test .taken)
 
--- src/lib.rt:135:13
 add-i : tie.Need-add-i Inv-loop μ-loop
 add-i c = search needs
 
--- src/lib.rt:133:5
 loop-less : tie.Need-loop-less Inv-loop μ-loop
 loop-less c = omega (arith, c .loop-test .taken, length-set (c .before .loop .who) (c .before .loop .i) 0)
 
--- src/lib.rt:133:5
 loop-again : tie.Need-loop-again Inv-loop μ-loop
 loop-again c = cleared-more _ _ _ (c .before .loop .inv) (c .loop-test .taken)
 
--- src/lib.rt:129:1
 same-length : tie.Need-same-length Inv-loop μ-loop
 same-length c = c .before .loop .inv .long
 
--- src/lib.rt:129:1
 returns : tie.Need-returns Inv-loop μ-loop
 returns c = cleared-end _ _ _ (c .before .loop .inv) (c .loop-test .left)
 

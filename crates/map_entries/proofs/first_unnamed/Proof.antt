@@ -4,11 +4,6 @@ use native.Mathlib.Omega.{arith}
 use Prim.Native.Nat.{_-_}
 use Rattle.map_entries.proofs.first_unnamed.Statement.{statement}
 use Rattle.map_entries.proofs.first_unnamed.Tie as tie
-use Rattle.map_entries.proofs.first_unnamed.Reads as reads
-use Rattle.map_entries.proofs.first_unnamed.Lts as lts
-use Rattle.declarations.proofs.cell.Reads as cell-reads
-use Rattle.map_entries.proofs.is_row_named.Reads as is-row-named-reads
-use Rattle.parts.proofs.count_parts.Reads as count-parts-reads
 
 abbrev Inv-loop : tie.InvT-loop
 Inv-loop set t count who i₀ i = Going set t who count i
@@ -16,39 +11,30 @@ Inv-loop set t count who i₀ i = Going set t who count i
 abbrev μ-loop : tie.MeasureT-loop
 μ-loop set t count who i₀ i = count - i
 
--- src/lib.rt:201:5
 loop-holds : tie.Need-loop-holds Inv-loop μ-loop
 loop-holds c = going-start _ _ _ _
 
--- src/lib.rt:202:13
 is-row-named-requires : tie.Need-is-row-named-requires Inv-loop μ-loop
 is-row-named-requires c κs = search needs
 
--- src/lib.rt:203:13
 cell-requires : tie.Need-cell-requires Inv-loop μ-loop
 cell-requires c κs = search needs
 
--- src/lib.rt:203:13
 returns : tie.Need-returns Inv-loop μ-loop
 returns c = going-found _ _ _ _ _ (c .before .before .before .before .loop .inv) (c .before .before .before .loop-test .taken) _ (c .before .before .is-row-named .ensures) (c .before .if1 .taken) _ (c .cell .ensures)
 
--- src/lib.rt:205:13
 add-i : tie.Need-add-i Inv-loop μ-loop
 add-i c = search needs
 
--- src/lib.rt:201:5
 loop-less : tie.Need-loop-less Inv-loop μ-loop
 loop-less c = omega (arith, c .before .before .loop-test .taken)
 
--- src/lib.rt:201:5
 loop-again : tie.Need-loop-again Inv-loop μ-loop
 loop-again c = going-more _ _ _ _ _ (c .before .before .before .loop .inv) (c .before .before .loop-test .taken) _ (c .before .is-row-named .ensures) (c .if1 .left)
 
--- src/lib.rt:207:5
 count-parts-requires : tie.Need-count-parts-requires Inv-loop μ-loop
 count-parts-requires c κs = search needs
 
--- src/lib.rt:197:1
 returns-2 : tie.Need-returns-2 Inv-loop μ-loop
 returns-2 c = going-end _ _ _ _ _ (c .before .before .loop .inv) (c .before .loop-test .left) _ (c .count-parts .ensures)
 

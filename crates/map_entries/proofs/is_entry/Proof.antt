@@ -2,32 +2,22 @@ use Rattle.map_entries.proofs.EntryRowLaws.{entry-none, entry-is}
 use borrow.Author.Needs.{needs}
 use Rattle.map_entries.proofs.is_entry.Statement.{statement}
 use Rattle.map_entries.proofs.is_entry.Tie as tie
-use Rattle.map_entries.proofs.is_entry.Reads as reads
-use Rattle.map_entries.proofs.is_entry.Lts as lts
-use Rattle.declarations.proofs.cell.Reads as cell-reads
-use Rattle.descriptor.proofs.message_view.Reads as message-view-reads
 
--- src/lib.rt:170:9
 cell-requires : tie.Need-cell-requires
 cell-requires c κs = search needs
 
--- src/lib.rt:172:9
 returns : tie.Need-returns
 returns c = entry-none _ _ _ _ (c .before .cell .ensures) (c .if1 .taken)
 
--- src/lib.rt:174:9
 cell-requires-2 : tie.Need-cell-requires-2
 cell-requires-2 c κs = search needs
 
--- src/lib.rt:175:9
 cell-requires-3 : tie.Need-cell-requires-3
 cell-requires-3 c κs = search needs
 
--- src/lib.rt:176:5
 message-view-requires : tie.Need-message-view-requires
 message-view-requires c κs = search needs
 
--- src/lib.rt:167:1
 returns-2 : tie.Need-returns-2
 returns-2 c = entry-is _ _ _ _ (c .before .before .before .before .cell .ensures) (c .before .before .before .if1 .left) _ _ (c .before .before .cell2 .ensures) (c .before .cell3 .ensures) _ (c .message-view .ensures)
 

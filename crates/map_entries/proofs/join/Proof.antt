@@ -2,20 +2,15 @@ use Rattle.base.specs.Choose.{choices}
 use Rattle.map_entries.specs.Named.{joined}
 use Rattle.map_entries.proofs.join.Statement.{statement}
 use Rattle.map_entries.proofs.join.Tie as tie
-use Rattle.map_entries.proofs.join.Reads as reads
-use Rattle.map_entries.proofs.join.Lts as lts
 
--- src/lib.rt:48:9
 returns : tie.Need-returns
 unfolding joined
 returns c = search choices depth 9
 
--- src/lib.rt:51:9
 returns-2 : tie.Need-returns-2
 unfolding joined
 returns-2 c = search choices depth 9
 
--- src/lib.rt:44:1
 returns-3 : tie.Need-returns-3
 unfolding joined
 returns-3 c = search choices depth 9

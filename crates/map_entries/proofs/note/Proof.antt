@@ -2,39 +2,28 @@ use Rattle.map_entries.proofs.PassLaws.{noted-out, noted-in}
 use borrow.Author.Needs.{needs}
 use Rattle.map_entries.proofs.note.Statement.{statement}
 use Rattle.map_entries.proofs.note.Tie as tie
-use Rattle.map_entries.proofs.note.Reads as reads
-use Rattle.map_entries.proofs.note.Lts as lts
-use Rattle.map_entries.proofs.join.Reads as join-reads
 
--- src/lib.rt:60:17
 mul-w : tie.Need-mul-w
 mul-w c = search needs
 
--- src/lib.rt:60:17
 slice-read-w : tie.Need-slice-read-w
 slice-read-w c = search needs
 
--- src/lib.rt:61:13
 join-requires : tie.Need-join-requires
 join-requires c κs = search needs
 
--- src/lib.rt:62:9
 mul-who : tie.Need-mul-who
 mul-who c = search needs
 
--- src/lib.rt:62:9
 slice-write-who : tie.Need-slice-write-who
 slice-write-who c = search needs
 
--- src/lib.rt:56:1
 same-length : tie.Need-same-length
 same-length c = search needs
 
--- src/lib.rt:56:1
 returns : tie.Need-returns
 returns c = noted-in _ _ _ _ (c .join .ensures)
 
--- src/lib.rt:56:1
 returns-2 : tie.Need-returns-2
 returns-2 c = noted-out _ _ _ (c .if1 .left)
 

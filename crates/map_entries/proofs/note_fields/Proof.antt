@@ -6,11 +6,6 @@ use Prim.Native.Nat.{_-_}
 use lib.ListN.{length}
 use Rattle.map_entries.proofs.note_fields.Statement.{statement}
 use Rattle.map_entries.proofs.note_fields.Tie as tie
-use Rattle.map_entries.proofs.note_fields.Reads as reads
-use Rattle.map_entries.proofs.note_fields.Lts as lts
-use Rattle.map_entries.proofs.note_field.Reads as note-field-reads
-use Rattle.parts.proofs.embedded.Reads as embedded-reads
-use Rattle.wire.proofs.read_step.Reads as read-step-reads
 
 abbrev Inv-loop : tie.InvT-loop
 Inv-loop set t count s kind who₀ at₀ who at = Going set t count (kind - 2) s who₀ who at
@@ -18,63 +13,48 @@ Inv-loop set t count s kind who₀ at₀ who at = Going set t count (kind - 2) s
 abbrev μ-loop : tie.MeasureT-loop
 μ-loop set t count s kind who₀ at₀ who at = length s - at
 
--- src/lib.rt:101:5
 loop-holds : tie.Need-loop-holds Inv-loop μ-loop
 loop-holds c = going-start _ _ _ _ _ _
 
--- src/lib.rt:102:15
 read-step-requires : tie.Need-read-step-requires Inv-loop μ-loop
 read-step-requires c κs = search needs
 
--- src/lib.rt:103:26
 enum-told : tie.Need-enum-told Inv-loop μ-loop
 enum-told c = search needs
 
--- src/lib.rt:103:26
 same-length : tie.Need-same-length Inv-loop μ-loop
 same-length c = c .before .before .before .loop .inv .long
 
--- src/lib.rt:103:26
 returns : tie.Need-returns Inv-loop μ-loop
 returns c = going-end _ _ _ _ _ _ _ _ (c .before .before .before .loop .inv) (parts-end _ _ _ _ (c .before .before .read-step .ensures) (c .enum-told .given .1))
 
--- src/lib.rt:104:31
 enum-told-2 : tie.Need-enum-told-2 Inv-loop μ-loop
 enum-told-2 c = search needs
 
--- src/lib.rt:104:31
 same-length-2 : tie.Need-same-length-2 Inv-loop μ-loop
 same-length-2 c = c .before .before .before .loop .inv .long
 
--- src/lib.rt:104:31
 returns-2 : tie.Need-returns-2 Inv-loop μ-loop
 returns-2 c = going-end _ _ _ _ _ _ _ _ (c .before .before .before .loop .inv) (parts-fault _ _ _ _ (c .before .before .read-step .ensures) _ (c .enum-told2 .given .1))
 
--- src/lib.rt:105:25
 enum-known-f : tie.Need-enum-known-f Inv-loop μ-loop
 enum-known-f c = search needs
 
--- src/lib.rt:108:47
 embedded-requires : tie.Need-embedded-requires Inv-loop μ-loop
 embedded-requires c κs = search needs
 
--- src/lib.rt:108:21
 note-field-requires : tie.Need-note-field-requires Inv-loop μ-loop
 note-field-requires c κs = search needs
 
--- src/lib.rt:101:5
 loop-less : tie.Need-loop-less Inv-loop μ-loop
 loop-less c = search places
 
--- src/lib.rt:101:5
 loop-again : tie.Need-loop-again Inv-loop μ-loop
 loop-again c = going-more _ _ _ _ _ _ _ _ (c .before .before .before .before .before .before .before .before .before .before .before .loop .inv) _ _ (parts-found _ _ _ _ (c .before .before .before .before .before .before .before .before .before .before .read-step .ensures) _ (c .before .before .before .before .before .before .before .before .f .given .1) (c .before .before .before .before .before .if1 .taken)) _ (c .before .before .before .before .embedded .ensures) _ (c .before .before .note-field .ensures)
 
--- src/lib.rt:101:5
 loop-less-2 : tie.Need-loop-less-2 Inv-loop μ-loop
 loop-less-2 c = search places
 
--- src/lib.rt:101:5
 loop-again-2 : tie.Need-loop-again-2 Inv-loop μ-loop
 loop-again-2 c = going-skip _ _ _ _ _ _ _ _ (c .before .before .before .before .before .before .loop .inv) _ (parts-skip _ _ _ _ (c .before .before .before .before .before .read-step .ensures) _ (c .before .before .before .f .given .1) (c .if1 .left))
 

@@ -2,41 +2,28 @@ use Rattle.map_entries.proofs.PassLaws.{no-message, message-noted}
 use borrow.Author.Needs.{needs}
 use Rattle.map_entries.proofs.note_row.Statement.{statement}
 use Rattle.map_entries.proofs.note_row.Tie as tie
-use Rattle.map_entries.proofs.note_row.Reads as reads
-use Rattle.map_entries.proofs.note_row.Lts as lts
-use Rattle.declarations.proofs.cell.Reads as cell-reads
-use Rattle.descriptor.proofs.part_of.Reads as part-of-reads
-use Rattle.map_entries.proofs.note_fields.Reads as note-fields-reads
 
--- src/lib.rt:119:9
 cell-requires : tie.Need-cell-requires
 cell-requires c κs = search needs
 
--- src/lib.rt:121:9
 returns : tie.Need-returns
 returns c = no-message _ _ _ _ _ (c .before .cell .ensures) _ (c .if1 .taken)
 
--- src/lib.rt:123:9
 cell-requires-2 : tie.Need-cell-requires-2
 cell-requires-2 c κs = search needs
 
--- src/lib.rt:124:9
 cell-requires-3 : tie.Need-cell-requires-3
 cell-requires-3 c κs = search needs
 
--- src/lib.rt:125:9
 part-of-requires : tie.Need-part-of-requires
 part-of-requires c κs = search needs
 
--- src/lib.rt:126:5
 note-fields-requires : tie.Need-note-fields-requires
 note-fields-requires c κs = search needs
 
--- src/lib.rt:116:1
 same-length : tie.Need-same-length
 same-length c = search needs
 
--- src/lib.rt:116:1
 returns-2 : tie.Need-returns-2
 returns-2 c = message-noted _ _ _ _ _ (c .before .before .before .before .before .before .before .before .cell .ensures) _ (c .before .before .before .before .before .before .before .if1 .left) _ _ (c .before .before .before .before .before .before .cell2 .ensures) (c .before .before .before .before .before .cell3 .ensures) _ (c .before .before .before .before .part-of .ensures) _ (c .before .before .note-fields .ensures)
 

@@ -7,10 +7,6 @@ use mathlib.Core.Path.{_≡_, refl, ap, _∙_}
 use Rattle.map_entries.specs.Named.{noted-rows}
 use Rattle.map_entries.proofs.note_rows.Statement.{statement}
 use Rattle.map_entries.proofs.note_rows.Tie as tie
-use Rattle.map_entries.proofs.note_rows.Reads as reads
-use Rattle.map_entries.proofs.note_rows.Lts as lts
-use Rattle.map_entries.proofs.note.Reads as note-reads
-use Rattle.type_names.proofs.is_named.Reads as is-named-reads
 
 abbrev Inv-loop : tie.InvT-loop
 Inv-loop set t count name v who₀ i₀ who i = (i ≤ count) × (who ≡ noted-rows set t name v i who₀)
@@ -18,44 +14,34 @@ Inv-loop set t count name v who₀ i₀ who i = (i ≤ count) × (who ≡ noted-
 abbrev μ-loop : tie.MeasureT-loop
 μ-loop set t count name v who₀ i₀ who i = count - i
 
--- src/lib.rt:71:5
 loop-holds : tie.Need-loop-holds Inv-loop μ-loop
 unfolding noted-rows
 loop-holds c = (omega arith, refl)
 
--- src/lib.rt:72:20
 add-next : tie.Need-add-next Inv-loop μ-loop
 add-next c = search needs
 
--- src/lib.rt:73:12
 is-named-requires : tie.Need-is-named-requires Inv-loop μ-loop
 is-named-requires c κs = search needs
 
--- src/lib.rt:74:13
 note-requires : tie.Need-note-requires Inv-loop μ-loop
 note-requires c κs = search needs
 
--- src/lib.rt:71:5
 loop-less : tie.Need-loop-less Inv-loop μ-loop
 loop-less c = omega (arith, c .before .before .before .before .before .before .loop-test .taken)
 
--- src/lib.rt:71:5
 loop-again : tie.Need-loop-again Inv-loop μ-loop
 loop-again c = (omega (arith, c .before .before .before .before .before .before .loop-test .taken), rows-more _ _ _ _ _ _ _ (c .before .before .before .before .before .before .before .loop .inv .1) _ (c .before .before .before .before .before .is-named .ensures) (c .before .before .before .before .if1 .taken) _ (c .before .before .note .ensures))
 
--- src/lib.rt:71:5
 loop-less-2 : tie.Need-loop-less-2 Inv-loop μ-loop
 loop-less-2 c = omega (arith, c .before .before .loop-test .taken)
 
--- src/lib.rt:71:5
 loop-again-2 : tie.Need-loop-again-2 Inv-loop μ-loop
 loop-again-2 c = (omega (arith, c .before .before .loop-test .taken), rows-skip _ _ _ _ _ _ _ (c .before .before .before .loop .inv .1) _ (c .before .is-named .ensures) (c .if1 .left))
 
--- src/lib.rt:67:1
 same-length : tie.Need-same-length Inv-loop μ-loop
 same-length c = ap length (c .before .loop .inv .1) ∙ rows-length _ _ _ _ _ _
 
--- src/lib.rt:67:1
 returns : tie.Need-returns Inv-loop μ-loop
 returns c = rows-end _ _ _ _ _ _ _ (c .before .loop .inv .1) _ (c .before .loop .inv .0) (c .loop-test .left)
 

@@ -2,31 +2,22 @@ use Rattle.map_entries.proofs.EntryRowLaws.{parent-none, parent-behind,
 use borrow.Author.Needs.{needs}
 use Rattle.map_entries.proofs.parent_of.Statement.{statement}
 use Rattle.map_entries.proofs.parent_of.Tie as tie
-use Rattle.map_entries.proofs.parent_of.Reads as reads
-use Rattle.map_entries.proofs.parent_of.Lts as lts
-use Rattle.declarations.proofs.cell.Reads as cell-reads
 
--- src/lib.rt:156:9
 cell-requires : tie.Need-cell-requires
 cell-requires c κs = search needs
 
--- src/lib.rt:158:9
 returns : tie.Need-returns
 returns c = parent-none _ _ _ (c .before .cell .ensures) (c .if1 .taken)
 
--- src/lib.rt:161:9
 returns-2 : tie.Need-returns-2
 returns-2 c = parent-behind _ _ _ (c .before .before .cell .ensures) (c .before .if1 .left) (c .if2 .taken)
 
--- src/lib.rt:163:15
 sub-row : tie.Need-sub-row
 sub-row c = search needs
 
--- src/lib.rt:164:5
 cell-requires-2 : tie.Need-cell-requires-2
 cell-requires-2 c κs = search needs
 
--- src/lib.rt:153:1
 returns-3 : tie.Need-returns-3
 returns-3 c = parent-is _ _ _ (c .before .before .before .cell .ensures) (c .before .before .if1 .left) (c .before .if2 .left) _ (c .cell2 .ensures)
 

@@ -2,14 +2,10 @@ use Rattle.base.specs.Choose.{then-is, else-is}
 use mathlib.Core.Path.{refl}
 use Rattle.map_entries.proofs.vote_of.Statement.{statement}
 use Rattle.map_entries.proofs.vote_of.Tie as tie
-use Rattle.map_entries.proofs.vote_of.Reads as reads
-use Rattle.map_entries.proofs.vote_of.Lts as lts
 
--- src/lib.rt:38:9
 returns : tie.Need-returns
 returns c = then-is _ _ _ _ (c .if1 .taken) refl
 
--- src/lib.rt:34:1
 returns-2 : tie.Need-returns-2
 returns-2 c = else-is _ _ _ _ (c .if1 .left) refl
 
