@@ -16,7 +16,8 @@ use Rattle.descriptor.specs.Decode as decode
 use Rattle.name_rules.specs.Accessors.{text}
 use Rattle.name_rules.specs.FullNames.{_·_, package-scope, Entry, entries, set-entries, set-fields}
 use Rattle.name_rules.specs.MapEntries.{entry-named, entries-named, map-entries-named}
-use Rattle.declarations.specs.Rows.{State, cell-at, row-at, room, declared}
+use Rattle.declarations.specs.Rows.{State, state, Became, cell-at, row-at, room, has-room, declared}
+use Rattle.declarations.specs.declared.Count.{Count}
 use Rattle.declarations.specs.Listed.{full, Listed, listed, file-entries, listed-files}
 use Rattle.declarations.proofs.RoomLaws.{room-is}
 use Rattle.map_entries.specs.Named.{naming, parent-kind, entry-row-named, is-entry-row, row-named, unnamed-from, first-unnamed}
@@ -182,3 +183,12 @@ set-unnamed bytes t size last lists fit =
     rw (lists, set-fields-listed ds, set-shown bytes t last, count-files bytes) in
     let z : 0 + first-failing (map-entries-named (set-fields ds)) ds ≡ first-failing (map-entries-named (set-fields ds)) ds = omega arith in
     table-bad bytes (x .table) (x .rows) size fit (omega arith) ∙ rows ∙ files-bad (set-fields ds) (listed-files 0 0 ds) ds 0 0 (at-set ds) ∙ z
+
+state-unnamed : (bytes t : List ℕ) (size : ℕ) (x : State) → x ≡ declared bytes t → room x ≡ true → listed bytes (x .table) (x .rows) ≡ listed-files 0 0 (decode-set bytes) → x .rows ≤ size
+    → first-unnamed bytes (x .table) (x .rows) (naming bytes (x .table) (x .rows) size) ≡ first-failing (map-entries-named (set-fields (decode-set bytes))) (decode-set bytes)
+state-unnamed bytes t size x e last lists fit = rw e (set-unnamed bytes t size (rw e at last) (rw e at lists) (rw e at fit))
+
+-- the same of what `declare_set` leaves
+pub table-unnamed : (bytes t u : List ℕ) (c : Count) (size : ℕ) → Became (declared bytes t) u c → has-room u (c .rows) ≡ true → listed bytes u (c .rows) ≡ listed-files 0 0 (decode-set bytes) → c .rows ≤ size
+    → first-unnamed bytes u (c .rows) (naming bytes u (c .rows) size) ≡ first-failing (map-entries-named (set-fields (decode-set bytes))) (decode-set bytes)
+table-unnamed bytes t u c size became last lists fit = state-unnamed bytes t size (state u c) (became .is) last lists fit
