@@ -15,9 +15,10 @@ use Rattle.descriptor.specs.Decode as decode
 use Rattle.index.specs.Tree.{Place}
 use Rattle.name_rules.specs.FullNames.{_·_, package-scope, Entry, entries}
 use Rattle.name_rules.proofs.ViewedLaws.{whole-part}
-use Rattle.declarations.specs.Rows.{State, bytes-at, places, put, push, package-of, package-row, declare-enums, declare-messages, declare-members, declare-file, declare-files, declared, no-rows}
+use Rattle.declarations.specs.Rows.{State, has-room, bytes-at, places, put, push, package-of, package-row, declare-enums, declare-messages, declare-members, declare-file, declare-files, declared, no-rows}
 use Rattle.declarations.specs.Listed.{name-of, full, Listed, listed-row, listed, listed-enums, listed-entries, file-entries, listed-file, listed-files}
 use Rattle.declarations.specs.declared.Row.{Row}
+use Rattle.declarations.proofs.RoomLaws.{room-there}
 use Rattle.declarations.proofs.FullLaws.{full-none}
 use Rattle.declarations.proofs.PartLaws.{places-are, package-is}
 use Rattle.declarations.proofs.GrownLaws.{Wide, Grown, grown-none, grown-more, grown-as, has, pushed, pushed-full}
@@ -141,3 +142,38 @@ set-listed bytes t cap small wide room =
     let same : listed-files 0 0 (files-of bytes ps) ≡ listed-files 0 0 (decode-set bytes) = ap (listed-files 0 0) fs in
     let l = ap length same in
     files-listed bytes cap 0 ps (no-rows t) (record { small = small; wide = wide }) (omega arith) ∙ same
+
+-- how many rows that takes
+module _ (bytes : Bytes) (cap : ℕ) where
+  files-few : (file : ℕ) (ps : List Place) (x : State) → Wide cap x → x .rows + length ps + length (listed-files file (x .messages) (files-of bytes ps)) ≤ cap
+      → Wide cap (declare-files bytes file ps x) × (declare-files bytes file ps x .rows ≤ x .rows + length ps + length (listed-files file (x .messages) (files-of bytes ps)))
+  unfolding declare-files listed-files
+  files-few file [] x w room = (w, omega arith)
+  files-few file (p ∷ ps) x w room =
+      let here : List Listed = listed-file file (x .messages) (decode-file (bytes-at bytes p)) in
+      let m : ℕ = x .messages + length (file-entries (decode-file (bytes-at bytes p))) in
+      let after : List Listed = listed-files (file + 1) m (files-of bytes ps) in
+      let sizes : length (here ++ after) ≡ length here + length after = length-append here after in
+      let y : State = declare-file bytes file p x in
+      let one = file-listed bytes cap file p x w (omega arith) in
+      let few = one .few in
+      let rows = one .grown .rows in
+      let same : listed-files (file + 1) (y .messages) (files-of bytes ps) ≡ after = ap (λ (k : ℕ). listed-files (file + 1) k (files-of bytes ps)) (one .grown .messages) in
+      let long = ap length same in
+      let rest = files-few (file + 1) ps y (one .grown .room) (omega arith) in
+      (rest .0, (let r = rest .1 in omega arith))
+
+-- a table with one row more has room for it in the end
+pub set-room : (bytes : Bytes) (t : List ℕ) (n : ℕ) → n + 1 ≤ 65536 → (n + 1) * 7 ≤ length t → length (decode-set bytes) + length (listed-files 0 0 (decode-set bytes)) ≤ n
+    → (has-room (declared bytes t .table) (declared bytes t .rows) ≡ true) × (declared bytes t .rows ≤ n)
+unfolding declared
+set-room bytes t n small wide room =
+    let ps : List Place = places bytes 1 (record { start = 0; end = length bytes }) in
+    let fs : files-of bytes ps ≡ decode-set bytes = set-files bytes in
+    let k = ap length fs in
+    let m : length (files-of bytes ps) ≡ length ps = map-length decode-file (map (bytes-at bytes) ps) ∙ map-length (bytes-at bytes) ps in
+    let l = ap (λ (ds : List FileDescriptor). length (listed-files 0 0 ds)) fs in
+    let f = files-few bytes (n + 1) 0 ps (no-rows t) (record { small = small; wide = wide }) (omega arith) in
+    let r = f .1 in
+    let w = f .0 .wide in
+    (room-there _ _ (omega arith) (omega arith), omega arith)

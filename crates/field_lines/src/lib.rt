@@ -1,6 +1,6 @@
 // A field's line.
-use field_tags::optional;
 use descriptor::FieldView;
+use field_tags::optional;
 ghost use mathlib.Core.List.{[]};
 ghost use Rattle.writer.specs.Wrote.{Wrote};
 ghost use Rattle.options.specs.Settings.{settings};

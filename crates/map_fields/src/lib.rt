@@ -1,6 +1,6 @@
 // A map field's tag and line. A map entry is its bytes e and the views of its key and its value.
-use field_lines::line_start;
 use descriptor::FieldView;
+use field_lines::line_start;
 ghost use mathlib.Core.List.{[]};
 ghost use Rattle.writer.specs.Wrote.{Wrote};
 ghost use Rattle.options.specs.Settings.{settings};

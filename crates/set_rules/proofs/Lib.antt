@@ -1,0 +1,3 @@
+pub mod RowCounts
+pub mod NameAnswers
+pub mod JudgeLaws

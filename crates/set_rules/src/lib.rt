@@ -1,0 +1,76 @@
+// What is judged of a set alone: refusals 3, 4, 6 and 7.
+ghost use mathlib.Core.Path.{_≡_};
+ghost use Rattle.descriptor.specs.Decode.{decode-set};
+ghost use Rattle.descriptor.specs.Limits.{limit-passed};
+ghost use Rattle.name_rules.specs.Answer.{names};
+ghost use Rattle.set_rules.specs.Judge.{by-names, judge-set};
+ghost use Rattle.map_entries.proofs.FailingLaws.{smaller};
+use limits::Read;
+use name_rules::Names;
+
+// Is the set good? If not, the offset of refusal 3, the limit passed, or the file of refusal 6 or 7.
+pub enum Judged {
+    Good,
+    Fault(usize),
+    Passed(usize),
+    Six(usize),
+    Seven(usize),
+}
+
+// A row for each file and each declaration of a set within the limits, and one more; seven numbers a row.
+const ROWS: usize = 545;
+
+const CELLS: usize = 3815;
+
+fn smaller(a: usize, b: usize) -> usize
+    ensures { λ r. ⌜ r ≡ smaller a b ⌝ }
+{
+    if a < b {
+        return a;
+    }
+    b
+}
+
+// Refusals 6 and 7 of a set within the limits.
+fn judge_names(set: &[u8]) -> Names
+    requires { ⌜ limit-passed (now set) ≡ 0 ⌝ }
+    ensures { λ r. ⌜ r ≡ names (decode-set (now (set .entry))) ⌝ }
+{
+    let mut t = [0usize; CELLS];
+    let mut who = [0usize; ROWS];
+    let files = parts::count_parts(set, 1);
+    let count = declarations::declare_set(set, &mut t);
+    let rows = count.rows;
+    map_entries::note_set(set, &t, rows, &mut who);
+    let bad = file_names::first_bad_file(set);
+    let unnamed = map_entries::first_unnamed(set, &t, rows, &who);
+    let six = smaller(bad, unnamed);
+    if six < files {
+        return Names::Six(six);
+    }
+    let seven = declared_types::first_undeclared(set, &t, rows);
+    if seven < files {
+        return Names::Seven(seven);
+    }
+    Names::Good
+}
+
+fn by_names(n: Names) -> Judged
+    ensures { λ r. ⌜ r ≡ by-names n ⌝ }
+{
+    match n {
+        Names::Good => Judged::Good,
+        Names::Six(file) => Judged::Six(file),
+        Names::Seven(file) => Judged::Seven(file),
+    }
+}
+
+pub fn judge_set(set: &[u8]) -> Judged
+    ensures { λ r. ⌜ r ≡ judge-set (now (set .entry)) ⌝ }
+{
+    match limits::read_set(set) {
+        Read::Good => by_names(judge_names(set)),
+        Read::Fault(place) => Judged::Fault(place),
+        Read::Passed(limit) => Judged::Passed(limit),
+    }
+}
