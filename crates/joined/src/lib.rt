@@ -2,7 +2,7 @@
 ghost use mathlib.Core.Path.{_≡_};
 ghost use Prim.Native.Nat.{_≤_};
 ghost use lib.ListN.{length, take};
-ghost use Rattle.writer.specs.Wrote.{Wrote};
+ghost use Rattle.writer.specs.Wrote.{over, Wrote};
 ghost use mathlib.Core.List.{[]};
 ghost use Rattle.descriptor.specs.Decode.{decode-oneof, decode-file};
 ghost use Rattle.name_rules.specs.Accessors.{text};
@@ -22,7 +22,7 @@ pub fn join(t: &mut [u8], scope: &[u8], name: &[u8]) -> usize
 
 // The same, cut at the buffer's end: so many bytes of it are used.
 pub fn path_in(t: &mut [u8], scope: &[u8], name: &[u8]) -> usize
-    ensures { λ r. ⌜ (r ≤ length (now (t .exit))) × (take r (now (t .exit)) ≡ take (length (now (t .entry))) (now (scope .entry) · now (name .entry))) ⌝ }
+    ensures { λ r. ⌜ (r ≤ length (now (t .exit))) × (take r (now (t .exit)) ≡ take (length (now (t .entry))) (now (scope .entry) · now (name .entry))) × (now (t .exit) ≡ over (now (t .entry)) 0 (now (scope .entry) · now (name .entry))) ⌝ }
 {
     let n = join(t, scope, name);
     writer::within(n, t.len())
@@ -39,7 +39,7 @@ pub fn name_of(s: &[u8]) -> &[u8]
 
 // The scope of a file's declarations: its package behind a dot, or nothing; cut at the buffer's end.
 pub fn package_in(t: &mut [u8], s: &[u8]) -> usize
-    ensures { λ r. ⌜ (r ≤ length (now (t .exit))) × (take r (now (t .exit)) ≡ take (length (now (t .entry))) (package-scope (decode-file (now (s .entry)) .package-name))) ⌝ }
+    ensures { λ r. ⌜ (r ≤ length (now (t .exit))) × (take r (now (t .exit)) ≡ take (length (now (t .entry))) (package-scope (decode-file (now (s .entry)) .package-name))) × (now (t .exit) ≡ over (now (t .entry)) 0 (package-scope (decode-file (now (s .entry)) .package-name))) ⌝ }
 {
     let end = s.len();
     let file = descriptor::file_view(s, 0, end);

@@ -2,7 +2,7 @@
 use mathlib.Core.Path.{_≡_, refl, sym, ap, _∙_}
 use mathlib.Core.Bool.{Bool, true, false}
 use mathlib.Core.List.{List}
-use Prim.Native.Nat.{ℕ, _+_, _≤_, _<_}
+use Prim.Native.Nat.{ℕ, _+_, _≤_, _<_, min}
 use native.Mathlib.Omega.{arith}
 use lib.Dec.{ltb}
 use lib.ListN.{length}
@@ -23,7 +23,7 @@ use Rattle.declarations.proofs.SetLaws.{set-listed, set-room}
 use Rattle.declared_types.specs.Undeclared.{first-undeclared-row}
 use Rattle.declared_types.proofs.SevenLaws.{first-undeclared-is}
 use Rattle.map_entries.specs.Named.{naming, first-unnamed}
-use Rattle.map_entries.proofs.FailingLaws.{smaller, first-six-is}
+use Rattle.map_entries.proofs.FailingLaws.{first-six-is}
 use Rattle.map_entries.proofs.UnnamedTheorem.{table-unnamed}
 use Rattle.set_rules.proofs.RowCounts.{few-rows}
 
@@ -38,7 +38,7 @@ module _ (bytes : Bytes) (limit : limit-passed bytes ≡ 0) where
         (ap (λ (x : State). has-room (x .table) (x .rows)) (became .is) ∙ r .0, (let e = ap (λ (x : State). x .rows) (became .is) in let q = r .1 in omega arith))
 
     pub six-is : (named : List ℕ) (size bad unnamed six : ℕ) → size ≡ 545 → named ≡ naming bytes u (c .rows) size → bad ≡ first-failing file-good (decode-set bytes)
-        → unnamed ≡ first-unnamed bytes u (c .rows) named → six ≡ smaller bad unnamed → six ≡ first-six (decode-set bytes)
+        → unnamed ≡ first-unnamed bytes u (c .rows) named → six ≡ min bad unnamed → six ≡ first-six (decode-set bytes)
     six-is named size bad unnamed six long n b u-is s =
         let fit : c .rows ≤ size = (let r = room .1 in omega arith) in
         let e = u-is ∙ ap (first-unnamed bytes u (c .rows)) n ∙ table-unnamed bytes t u c size became (room .0) lists fit in

@@ -4,7 +4,6 @@ ghost use Rattle.descriptor.specs.Decode.{decode-set};
 ghost use Rattle.descriptor.specs.Limits.{limit-passed};
 ghost use Rattle.name_rules.specs.Answer.{names};
 ghost use Rattle.set_rules.specs.Judge.{by-names, judge-set};
-ghost use Rattle.map_entries.proofs.FailingLaws.{smaller};
 use limits::Read;
 use name_rules::Names;
 
@@ -22,15 +21,6 @@ const ROWS: usize = 545;
 
 const CELLS: usize = 3815;
 
-fn smaller(a: usize, b: usize) -> usize
-    ensures { λ r. ⌜ r ≡ smaller a b ⌝ }
-{
-    if a < b {
-        return a;
-    }
-    b
-}
-
 // Refusals 6 and 7 of a set within the limits.
 fn judge_names(set: &[u8]) -> Names
     requires { ⌜ limit-passed (now set) ≡ 0 ⌝ }
@@ -44,7 +34,7 @@ fn judge_names(set: &[u8]) -> Names
     map_entries::note_set(set, &t, rows, &mut who);
     let bad = file_names::first_bad_file(set);
     let unnamed = map_entries::first_unnamed(set, &t, rows, &who);
-    let six = smaller(bad, unnamed);
+    let six = writer::within(bad, unnamed);
     if six < files {
         return Names::Six(six);
     }

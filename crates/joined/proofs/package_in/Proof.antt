@@ -1,3 +1,4 @@
+use Rattle.writer.specs.Wrote.{over}
 use Rattle.joined.proofs.ShownLaws.{with-package, without-package}
 use mathlib.Core.Path.{_≡_, refl, sym, ap, _∙_}
 use mathlib.Core.List.{List, []}
@@ -33,12 +34,13 @@ same-length c = search needs
 returns : tie.Need-returns
 returns c =
     let e = ap (λ (x : List ℕ). [] · x) (c .before .before .before .text-bytes .ensures) ∙ with-package _ _ (c .before .before .before .before .before .before .before .before .file-view .ensures) (c .before .before .before .before .before .before .if1 .taken) in
-    (c .before .before .path-in .ensures .0, c .before .before .path-in .ensures .1 ∙ ap (take (length (c .before .before .before .before .before .before .before .before .before .before .before .args .t .now))) e)
+    (c .before .before .path-in .ensures .0, c .before .before .path-in .ensures .1 ∙ ap (take (length (c .before .before .before .before .before .before .before .before .before .before .before .args .t .now))) e, c .before .before .path-in .ensures .2 ∙ ap (over (c .before .before .before .before .before .before .before .before .before .before .before .args .t .now) 0) e)
 
 returns-2 : tie.Need-returns-2
+unfolding over
 returns-2 c =
     let e = without-package _ _ (c .before .before .file-view .ensures) (c .if1 .left) in
-    (zero-le, sym (take-nil (length (c .before .before .before .before .before .args .t .now))) ∙ ap (take (length (c .before .before .before .before .before .args .t .now))) e)
+    (zero-le, sym (take-nil (length (c .before .before .before .before .before .args .t .now))) ∙ ap (take (length (c .before .before .before .before .before .args .t .now))) e, ap (over (c .before .before .before .before .before .args .t .now) 0) e)
 
 pub package-in-spec : {M : Type 1} → statement M
 package-in-spec =

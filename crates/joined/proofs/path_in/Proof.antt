@@ -13,7 +13,7 @@ same-length : tie.Need-same-length
 same-length c = search needs
 
 returns : tie.Need-returns
-returns c = used (c .before .before .before .join .ensures) (c .within .ensures)
+returns c = let u = used (c .before .before .before .join .ensures) (c .within .ensures) in (u .0, u .1, c .before .before .before .join .ensures .text)
 
 pub path-in-spec : {M : Type 1} → statement M
 path-in-spec = tie.close (tie.spec join-requires within-requires same-length returns)

@@ -50,7 +50,6 @@ returns-10 : tie.Need-returns-10
 unfolding sort-below
 returns-10 c = search (choices, c .if10 .left, c .before .if9 .left, c .before .before .if8 .left, c .before .before .before .if7 .left, c .before .before .before .before .if6 .taken, c .before .before .before .before .before .if3 .left, c .before .before .before .before .before .before .if1 .left, c .before .before .before .before .before .before .before .args .left, c .before .before .before .before .before .before .before .fits .left) depth 16
 
--- src/lib.rt:146:9
 value-below-requires : tie.Need-value-below-requires
 value-below-requires c κs = search needs
 

@@ -6,7 +6,6 @@ use Rattle.options.proofs.row_count.Tie as tie
 number-at-requires : tie.Need-number-at-requires
 number-at-requires c κs = search needs
 
--- src/lib.rt:63:5
 cast-result : tie.Need-cast-result
 cast-result c = search needs
 

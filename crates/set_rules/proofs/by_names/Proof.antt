@@ -3,30 +3,22 @@ use mathlib.Core.Path.{sym, ap}
 use borrow.Author.Needs.{needs}
 use Rattle.set_rules.proofs.by_names.Statement.{statement}
 use Rattle.set_rules.proofs.by_names.Tie as tie
-use Rattle.set_rules.proofs.by_names.Reads as reads
-use Rattle.set_rules.proofs.by_names.Lts as lts
 
--- src/lib.rt:62:24
 enum-told : tie.Need-enum-told
 enum-told c = search needs
 
--- src/lib.rt:63:20
 enum-known-n : tie.Need-enum-known-n
 enum-known-n c = search needs
 
--- src/lib.rt:64:22
 enum-known-n-2 : tie.Need-enum-known-n-2
 enum-known-n-2 c = search needs
 
--- src/lib.rt:58:1
 returns : tie.Need-returns
 returns c = search needs
 
--- src/lib.rt:58:1
 returns-2 : tie.Need-returns-2
 returns-2 c = sym (ap by-names (c .before .n .given .1))
 
--- src/lib.rt:58:1
 returns-3 : tie.Need-returns-3
 returns-3 c = sym (ap by-names (c .before .n2 .given .1))
 

@@ -5,79 +5,54 @@ use mathlib.Core.Path.{_≡_, refl}
 use borrow.Author.Needs.{needs}
 use Rattle.set_rules.proofs.judge_names.Statement.{statement}
 use Rattle.set_rules.proofs.judge_names.Tie as tie
-use Rattle.set_rules.proofs.judge_names.Reads as reads
-use Rattle.set_rules.proofs.judge_names.Lts as lts
-use Rattle.declarations.proofs.declare_set.Reads as declare-set-reads
-use Rattle.declared_types.proofs.first_undeclared.Reads as first-undeclared-reads
-use Rattle.file_names.proofs.first_bad_file.Reads as first-bad-file-reads
-use Rattle.map_entries.proofs.first_unnamed.Reads as first-unnamed-reads
-use Rattle.map_entries.proofs.note_set.Reads as note-set-reads
-use Rattle.parts.proofs.count_parts.Reads as count-parts-reads
-use Rattle.set_rules.proofs.smaller.Reads as smaller-reads
 
--- src/lib.rt:41:9
 count-parts-requires : tie.Need-count-parts-requires
 count-parts-requires c κs = search needs
 
--- src/lib.rt:42:48
 slice-aggregate-declare-set : tie.Need-slice-aggregate-declare-set
 slice-aggregate-declare-set c = search needs
 
--- src/lib.rt:42:9
 declare-set-requires : tie.Need-declare-set-requires
 declare-set-requires c κs = search needs
 
--- src/lib.rt:44:32
 slice-aggregate-note-set : tie.Need-slice-aggregate-note-set
 slice-aggregate-note-set c = search needs
 
--- src/lib.rt:44:42
 slice-aggregate-note-set-2 : tie.Need-slice-aggregate-note-set-2
 slice-aggregate-note-set-2 c = search needs
 
--- src/lib.rt:44:5
 note-set-requires : tie.Need-note-set-requires
 note-set-requires c κs = search needs
 
--- src/lib.rt:45:9
 first-bad-file-requires : tie.Need-first-bad-file-requires
 first-bad-file-requires c κs = search needs
 
--- src/lib.rt:46:51
 slice-aggregate-first-unnamed : tie.Need-slice-aggregate-first-unnamed
 slice-aggregate-first-unnamed c = search needs
 
--- src/lib.rt:46:61
 slice-aggregate-first-unnamed-2 : tie.Need-slice-aggregate-first-unnamed-2
 slice-aggregate-first-unnamed-2 c = search needs
 
--- src/lib.rt:46:9
 first-unnamed-requires : tie.Need-first-unnamed-requires
 first-unnamed-requires c κs = search needs
 
--- src/lib.rt:47:9
-smaller-requires : tie.Need-smaller-requires
-smaller-requires c κs = search needs
+within-requires : tie.Need-within-requires
+within-requires c κs = search needs
 
--- src/lib.rt:49:9
 returns : tie.Need-returns
-returns c = answer-six _ (c .before .before .before .before .before .before .before .before .before .before .before .before .before .before .before .pre) _ _ (c .before .before .before .before .before .before .before .before .before .before .before .before .before .count-parts .ensures) (six-is _ (c .before .before .before .before .before .before .before .before .before .before .before .before .before .before .before .pre) _ _ _ (c .before .before .before .before .before .before .before .before .before .before .before .declare-set .ensures) (length-replicate {A = ℕ} 3815 0) _ _ _ _ _ (length-replicate {A = ℕ} 545 0) (c .before .before .before .before .before .before .before .note-set .ensures) (c .before .before .before .before .before .first-bad-file .ensures) (c .before .before .first-unnamed .ensures) (c .before .smaller .ensures)) (c .if1 .taken)
+returns c = answer-six _ (c .before .before .before .before .before .before .before .before .before .before .before .before .before .before .before .pre) _ _ (c .before .before .before .before .before .before .before .before .before .before .before .before .before .count-parts .ensures) (six-is _ (c .before .before .before .before .before .before .before .before .before .before .before .before .before .before .before .pre) _ _ _ (c .before .before .before .before .before .before .before .before .before .before .before .declare-set .ensures) (length-replicate {A = ℕ} 3815 0) _ _ _ _ _ (length-replicate {A = ℕ} 545 0) (c .before .before .before .before .before .before .before .note-set .ensures) (c .before .before .before .before .before .first-bad-file .ensures) (c .before .before .first-unnamed .ensures) (c .before .within .ensures)) (c .if1 .taken)
 
--- src/lib.rt:51:55
 slice-aggregate-first-undeclared : tie.Need-slice-aggregate-first-undeclared
 slice-aggregate-first-undeclared c = search needs
 
--- src/lib.rt:51:9
 first-undeclared-requires : tie.Need-first-undeclared-requires
 first-undeclared-requires c κs = search needs
 
--- src/lib.rt:53:9
 returns-2 : tie.Need-returns-2
-returns-2 c = answer-seven _ (c .before .before .before .before .before .before .before .before .before .before .before .before .before .before .before .before .before .before .pre) _ _ (c .before .before .before .before .before .before .before .before .before .before .before .before .before .before .before .before .count-parts .ensures) (six-is _ (c .before .before .before .before .before .before .before .before .before .before .before .before .before .before .before .before .before .before .pre) _ _ _ (c .before .before .before .before .before .before .before .before .before .before .before .before .before .before .declare-set .ensures) (length-replicate {A = ℕ} 3815 0) _ _ _ _ _ (length-replicate {A = ℕ} 545 0) (c .before .before .before .before .before .before .before .before .before .before .note-set .ensures) (c .before .before .before .before .before .before .before .before .first-bad-file .ensures) (c .before .before .before .before .before .first-unnamed .ensures) (c .before .before .before .before .smaller .ensures)) (c .before .before .before .if1 .left) _ (seven-is _ (c .before .before .before .before .before .before .before .before .before .before .before .before .before .before .before .before .before .before .pre) _ _ _ (c .before .before .before .before .before .before .before .before .before .before .before .before .before .before .declare-set .ensures) (length-replicate {A = ℕ} 3815 0) _ (c .before .first-undeclared .ensures)) (c .if2 .taken)
+returns-2 c = answer-seven _ (c .before .before .before .before .before .before .before .before .before .before .before .before .before .before .before .before .before .before .pre) _ _ (c .before .before .before .before .before .before .before .before .before .before .before .before .before .before .before .before .count-parts .ensures) (six-is _ (c .before .before .before .before .before .before .before .before .before .before .before .before .before .before .before .before .before .before .pre) _ _ _ (c .before .before .before .before .before .before .before .before .before .before .before .before .before .before .declare-set .ensures) (length-replicate {A = ℕ} 3815 0) _ _ _ _ _ (length-replicate {A = ℕ} 545 0) (c .before .before .before .before .before .before .before .before .before .before .note-set .ensures) (c .before .before .before .before .before .before .before .before .first-bad-file .ensures) (c .before .before .before .before .before .first-unnamed .ensures) (c .before .before .before .before .within .ensures)) (c .before .before .before .if1 .left) _ (seven-is _ (c .before .before .before .before .before .before .before .before .before .before .before .before .before .before .before .before .before .before .pre) _ _ _ (c .before .before .before .before .before .before .before .before .before .before .before .before .before .before .declare-set .ensures) (length-replicate {A = ℕ} 3815 0) _ (c .before .first-undeclared .ensures)) (c .if2 .taken)
 
--- src/lib.rt:35:1
 returns-3 : tie.Need-returns-3
-returns-3 c = answer-good _ (c .before .before .before .before .before .before .before .before .before .before .before .before .before .before .before .before .before .before .pre) _ _ (c .before .before .before .before .before .before .before .before .before .before .before .before .before .before .before .before .count-parts .ensures) (six-is _ (c .before .before .before .before .before .before .before .before .before .before .before .before .before .before .before .before .before .before .pre) _ _ _ (c .before .before .before .before .before .before .before .before .before .before .before .before .before .before .declare-set .ensures) (length-replicate {A = ℕ} 3815 0) _ _ _ _ _ (length-replicate {A = ℕ} 545 0) (c .before .before .before .before .before .before .before .before .before .before .note-set .ensures) (c .before .before .before .before .before .before .before .before .first-bad-file .ensures) (c .before .before .before .before .before .first-unnamed .ensures) (c .before .before .before .before .smaller .ensures)) (c .before .before .before .if1 .left) _ (seven-is _ (c .before .before .before .before .before .before .before .before .before .before .before .before .before .before .before .before .before .before .pre) _ _ _ (c .before .before .before .before .before .before .before .before .before .before .before .before .before .before .declare-set .ensures) (length-replicate {A = ℕ} 3815 0) _ (c .before .first-undeclared .ensures)) (c .if2 .left)
+returns-3 c = answer-good _ (c .before .before .before .before .before .before .before .before .before .before .before .before .before .before .before .before .before .before .pre) _ _ (c .before .before .before .before .before .before .before .before .before .before .before .before .before .before .before .before .count-parts .ensures) (six-is _ (c .before .before .before .before .before .before .before .before .before .before .before .before .before .before .before .before .before .before .pre) _ _ _ (c .before .before .before .before .before .before .before .before .before .before .before .before .before .before .declare-set .ensures) (length-replicate {A = ℕ} 3815 0) _ _ _ _ _ (length-replicate {A = ℕ} 545 0) (c .before .before .before .before .before .before .before .before .before .before .note-set .ensures) (c .before .before .before .before .before .before .before .before .first-bad-file .ensures) (c .before .before .before .before .before .first-unnamed .ensures) (c .before .before .before .before .within .ensures)) (c .before .before .before .if1 .left) _ (seven-is _ (c .before .before .before .before .before .before .before .before .before .before .before .before .before .before .before .before .before .before .pre) _ _ _ (c .before .before .before .before .before .before .before .before .before .before .before .before .before .before .declare-set .ensures) (length-replicate {A = ℕ} 3815 0) _ (c .before .first-undeclared .ensures)) (c .if2 .left)
 
 pub judge-names-spec : {M : Type 1} → statement M
 judge-names-spec =
@@ -93,7 +68,7 @@ judge-names-spec =
     slice-aggregate-first-unnamed
     slice-aggregate-first-unnamed-2
     first-unnamed-requires
-    smaller-requires
+    within-requires
     returns
     slice-aggregate-first-undeclared
     first-undeclared-requires

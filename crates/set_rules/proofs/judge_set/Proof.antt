@@ -4,45 +4,31 @@ use mathlib.Core.Path.{_≡_, ap, _∙_}
 use borrow.Author.Needs.{needs}
 use Rattle.set_rules.proofs.judge_set.Statement.{statement}
 use Rattle.set_rules.proofs.judge_set.Tie as tie
-use Rattle.set_rules.proofs.judge_set.Reads as reads
-use Rattle.set_rules.proofs.judge_set.Lts as lts
-use Rattle.limits.proofs.read_set.Reads as read-set-reads
-use Rattle.set_rules.proofs.by_names.Reads as by-names-reads
-use Rattle.set_rules.proofs.judge_names.Reads as judge-names-reads
 
--- src/lib.rt:71:11
 read-set-requires : tie.Need-read-set-requires
 read-set-requires c κs = search needs
 
--- src/lib.rt:72:32
 enum-told : tie.Need-enum-told
 enum-told c = search needs
 
--- src/lib.rt:72:32
 judge-names-requires : tie.Need-judge-names-requires
 judge-names-requires c κs = within _ _ (c .before .before .read-set .ensures) (c .enum-told .given .1)
 
--- src/lib.rt:72:23
 by-names-requires : tie.Need-by-names-requires
 by-names-requires c κs = search needs
 
--- src/lib.rt:73:21
 enum-known-place : tie.Need-enum-known-place
 enum-known-place c = search needs
 
--- src/lib.rt:74:22
 enum-known-limit : tie.Need-enum-known-limit
 enum-known-limit c = search needs
 
--- src/lib.rt:68:1
 returns : tie.Need-returns
 returns c = c .by-names .ensures ∙ ap by-names (c .before .judge-names .ensures) ∙ read-as _ _ _ (c .before .before .before .before .read-set .ensures) (c .before .before .enum-told .given .1)
 
--- src/lib.rt:68:1
 returns-2 : tie.Need-returns-2
 returns-2 c = read-as _ _ _ (c .before .before .before .read-set .ensures) (c .before .place .given .1)
 
--- src/lib.rt:68:1
 returns-3 : tie.Need-returns-3
 returns-3 c = read-as _ _ _ (c .before .before .before .read-set .ensures) (c .before .limit .given .1)
 

@@ -3,57 +3,41 @@ use Rattle.text_tables.specs.Rows.{field-row}
 use borrow.Author.Needs.{needs}
 use Rattle.text_tables.proofs.field_row.Statement.{statement}
 use Rattle.text_tables.proofs.field_row.Tie as tie
-use Rattle.text_tables.proofs.field_row.Reads as reads
-use Rattle.text_tables.proofs.field_row.Lts as lts
-use Rattle.text_tables.proofs.flag_at.Reads as flag-at-reads
-use Rattle.text_tables.proofs.number_at.Reads as number-at-reads
 
--- src/lib.rt:73:18
 mul-at : tie.Need-mul-at
 mul-at c = search needs
 
--- src/lib.rt:74:13
 flag-at-requires : tie.Need-flag-at-requires
 flag-at-requires c κs = search needs
 
--- src/lib.rt:75:31
 add-flag-at : tie.Need-add-flag-at
 add-flag-at c = search needs
 
--- src/lib.rt:75:13
 flag-at-requires-2 : tie.Need-flag-at-requires-2
 flag-at-requires-2 c κs = search needs
 
--- src/lib.rt:76:29
 add-flag-at-2 : tie.Need-add-flag-at-2
 add-flag-at-2 c = search needs
 
--- src/lib.rt:76:13
 flag-at-requires-3 : tie.Need-flag-at-requires-3
 flag-at-requires-3 c κs = search needs
 
--- src/lib.rt:77:34
 add-number-at : tie.Need-add-number-at
 add-number-at c = search needs
 
--- src/lib.rt:77:13
 number-at-requires : tie.Need-number-at-requires
 number-at-requires c κs = search needs
 
--- src/lib.rt:78:32
 add-number-at-2 : tie.Need-add-number-at-2
 add-number-at-2 c = search needs
 
--- src/lib.rt:78:13
 number-at-requires-2 : tie.Need-number-at-requires-2
 number-at-requires-2 c κs = search needs
 
--- src/lib.rt:79:9
 returns : tie.Need-returns
 unfolding field-row
 returns c = rw (c .before .before .before .before .flag-at .ensures, c .before .before .before .flag-at2 .ensures, c .before .before .flag-at3 .ensures, c .before .number-at .ensures .0, c .number-at2 .ensures .0) (search choices depth 9)
 
--- src/lib.rt:69:1
 returns-2 : tie.Need-returns-2
 unfolding field-row
 returns-2 c = search choices depth 9

@@ -5,15 +5,10 @@ use Prim.Native.Nat.{ℕ}
 use borrow.Author.Needs.{needs}
 use Rattle.text_tables.proofs.flag_at.Statement.{statement}
 use Rattle.text_tables.proofs.flag_at.Tie as tie
-use Rattle.text_tables.proofs.flag_at.Reads as reads
-use Rattle.text_tables.proofs.flag_at.Lts as lts
-use Rattle.text_tables.proofs.number_at.Reads as number-at-reads
 
--- src/lib.rt:41:9
 number-at-requires : tie.Need-number-at-requires
 number-at-requires c κs = search needs
 
--- src/lib.rt:38:1
 returns : tie.Need-returns
 returns c = ap (λ (n : ℕ). not (eqb n 0)) (c .number-at .ensures .0)
 

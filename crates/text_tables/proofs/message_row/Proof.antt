@@ -3,49 +3,35 @@ use Rattle.text_tables.specs.Rows.{message-row}
 use borrow.Author.Needs.{needs}
 use Rattle.text_tables.proofs.message_row.Statement.{statement}
 use Rattle.text_tables.proofs.message_row.Tie as tie
-use Rattle.text_tables.proofs.message_row.Reads as reads
-use Rattle.text_tables.proofs.message_row.Lts as lts
-use Rattle.text_tables.proofs.flag_at.Reads as flag-at-reads
-use Rattle.text_tables.proofs.number_at.Reads as number-at-reads
 
--- src/lib.rt:49:18
 mul-at : tie.Need-mul-at
 mul-at c = search needs
 
--- src/lib.rt:50:13
 flag-at-requires : tie.Need-flag-at-requires
 flag-at-requires c κs = search needs
 
--- src/lib.rt:51:29
 add-flag-at : tie.Need-add-flag-at
 add-flag-at c = search needs
 
--- src/lib.rt:51:13
 flag-at-requires-2 : tie.Need-flag-at-requires-2
 flag-at-requires-2 c κs = search needs
 
--- src/lib.rt:52:34
 add-number-at : tie.Need-add-number-at
 add-number-at c = search needs
 
--- src/lib.rt:52:13
 number-at-requires : tie.Need-number-at-requires
 number-at-requires c κs = search needs
 
--- src/lib.rt:53:34
 add-number-at-2 : tie.Need-add-number-at-2
 add-number-at-2 c = search needs
 
--- src/lib.rt:53:13
 number-at-requires-2 : tie.Need-number-at-requires-2
 number-at-requires-2 c κs = search needs
 
--- src/lib.rt:54:9
 returns : tie.Need-returns
 unfolding message-row
 returns c = rw (c .before .before .before .flag-at .ensures, c .before .before .flag-at2 .ensures, c .before .number-at .ensures .0, c .number-at2 .ensures .0) (search choices depth 9)
 
--- src/lib.rt:45:1
 returns-2 : tie.Need-returns-2
 unfolding message-row
 returns-2 c = search choices depth 9

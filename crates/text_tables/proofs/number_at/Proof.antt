@@ -4,27 +4,19 @@ use native.Mathlib.Omega.{arith}
 use borrow.Author.Needs.{needs}
 use Rattle.text_tables.proofs.number_at.Statement.{statement}
 use Rattle.text_tables.proofs.number_at.Tie as tie
-use Rattle.text_tables.proofs.number_at.Reads as reads
-use Rattle.text_tables.proofs.number_at.Lts as lts
-use Rattle.text_tables.proofs.wide.Reads as wide-reads
 
--- src/lib.rt:27:21
 mul-wide : tie.Need-mul-wide
 mul-wide c = search needs
 
--- src/lib.rt:27:21
 shared-slice-read-wide : tie.Need-shared-slice-read-wide
 shared-slice-read-wide c = search needs
 
--- src/lib.rt:27:9
 wide-requires : tie.Need-wide-requires
 wide-requires c κs = search needs
 
--- src/lib.rt:27:9
 returns : tie.Need-returns
 returns c = search needs
 
--- src/lib.rt:23:1
 returns-2 : tie.Need-returns-2
 returns-2 c = (sym (List·getD-eq-default (c .before .before .args .t .now) 0 (c .if1 .left)), omega arith)
 
