@@ -21,9 +21,19 @@ message-row t i =
     choose (ltb i 65536) (record { copy = flag-at t (i * 4); eq = flag-at t (i * 4 + 1); first = number-at t (i * 4 + 2); after = number-at t (i * 4 + 3) })
     (record { copy = false; eq = false; first = 0; after = 0 })
 
--- five for each field: it is boxed by a loop; it can derive Copy, Eq; where the map entry that it names starts and ends, both 0 where it names none
+-- eight for each field: it is boxed by a loop; it can derive Copy, Eq; where its part starts and ends in the set; where the part of the map entry
+-- that it names does, both 0 where it names none; its oneof, one more than the index, or 0
 unfoldable pub field-row : List ℕ → ℕ → FieldRow
 field-row t k =
     choose (ltb k 65536)
-    (record { looped = flag-at t (k * 5); copy = flag-at t (k * 5 + 1); eq = flag-at t (k * 5 + 2); start = number-at t (k * 5 + 3); end = number-at t (k * 5 + 4) })
-    (record { looped = false; copy = false; eq = false; start = 0; end = 0 })
+    (record {
+      looped = flag-at t (k * 8);
+      copy = flag-at t (k * 8 + 1);
+      eq = flag-at t (k * 8 + 2);
+      start = number-at t (k * 8 + 3);
+      end = number-at t (k * 8 + 4);
+      entry = number-at t (k * 8 + 5);
+      entryend = number-at t (k * 8 + 6);
+      oneof = number-at t (k * 8 + 7);
+    })
+    (record { looped = false; copy = false; eq = false; start = 0; end = 0; entry = 0; entryend = 0; oneof = 0 })

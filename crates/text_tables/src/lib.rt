@@ -11,13 +11,17 @@ pub struct MessageRow {
     pub after: usize,
 }
 
-// Whether a field is boxed by a loop, whether it can derive Copy and Eq, and where the map entry that it names lies in the set.
+// Whether a field is boxed by a loop, whether it can derive Copy and Eq, where its part lies in the set, where that of the map entry
+// that it names, and its oneof: one more than the index, or 0.
 pub struct FieldRow {
     pub looped: bool,
     pub copy: bool,
     pub eq: bool,
     pub start: usize,
     pub end: usize,
+    pub entry: usize,
+    pub entryend: usize,
+    pub oneof: usize,
 }
 
 fn number_at(t: &[u16], i: usize) -> usize
@@ -43,7 +47,7 @@ fn flag_at(t: &[u16], i: usize) -> bool
 }
 
 pub fn message_row(t: &[u16], i: usize) -> MessageRow
-    ensures { λ r. ⌜ r ≡ message-row (now (t .entry)) i ⌝ }
+    ensures { λ r. ⌜ (r ≡ message-row (now (t .entry)) i) × (r .first < 65536) × (r .after < 65536) ⌝ }
 {
     if i < 65536 {
         let at = i * 4;
@@ -70,18 +74,24 @@ pub fn field_row(t: &[u16], k: usize) -> FieldRow
     ensures { λ r. ⌜ r ≡ field-row (now (t .entry)) k ⌝ }
 {
     if k < 65536 {
-        let at = k * 5;
+        let at = k * 8;
         let looped = flag_at(t, at);
         let copy = flag_at(t, at + 1);
         let eq = flag_at(t, at + 2);
         let start = number_at(t, at + 3);
         let end = number_at(t, at + 4);
+        let entry = number_at(t, at + 5);
+        let entryend = number_at(t, at + 6);
+        let oneof = number_at(t, at + 7);
         return FieldRow {
             looped,
             copy,
             eq,
             start,
             end,
+            entry,
+            entryend,
+            oneof,
         };
     }
     FieldRow {
@@ -90,5 +100,8 @@ pub fn field_row(t: &[u16], k: usize) -> FieldRow
         eq: false,
         start: 0,
         end: 0,
+        entry: 0,
+        entryend: 0,
+        oneof: 0,
     }
 }

@@ -1,3 +1,4 @@
+use native.Mathlib.Omega.{arith}
 use Rattle.base.specs.Choose.{choices}
 use Rattle.text_tables.specs.Rows.{message-row}
 use borrow.Author.Needs.{needs}
@@ -30,11 +31,15 @@ number-at-requires-2 c κs = search needs
 
 returns : tie.Need-returns
 unfolding message-row
-returns c = rw (c .before .before .before .flag-at .ensures, c .before .before .flag-at2 .ensures, c .before .number-at .ensures .0, c .number-at2 .ensures .0) (search choices depth 9)
+returns c = (
+  rw (c .before .before .before .flag-at .ensures, c .before .before .flag-at2 .ensures, c .before .number-at .ensures .0, c .number-at2 .ensures .0) (search choices depth 9),
+  c .before .number-at .ensures .1,
+  c .number-at2 .ensures .1,
+)
 
 returns-2 : tie.Need-returns-2
 unfolding message-row
-returns-2 c = search choices depth 9
+returns-2 c = (search choices depth 9, omega arith, omega arith)
 
 pub message-row-spec : {M : Type 1} → statement M
 message-row-spec =

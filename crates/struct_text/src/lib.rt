@@ -1,0 +1,1 @@
+// code_generator.rs, append_message: a message's struct.
