@@ -28,13 +28,14 @@ use Rattle.context_laws.specs.At.{At, at-within}
 use Rattle.context_laws.specs.Tables.{Row, rows-of, number-of, type-name-of, settings-of}
 use Rattle.text_tables.specs.Rows.{message-row, field-row}
 use Rattle.text_tables.specs.declared.MessageRow.{MessageRow}
+use Rattle.table_says.specs.Says.{MessageSays, FieldSays, PlaceSays}
 use Rattle.context_tables.specs.Cells.{is-set-at, entry-at, columns, message-table, field-table}
-use Rattle.context_tables.proofs.RowLaws.{message-row-is}
-use Rattle.context_tables.proofs.SetTables.{rows-fields, sound}
-use Rattle.context_tables.proofs.FitLaws.{Within, within-limits}
-use Rattle.context_tables.proofs.SettingColumn.{settings-are}
-use Rattle.context_tables.proofs.NamedRows.{MessageSays, FieldSays, message-says, field-says}
-use Rattle.context_tables.proofs.EntryPlaces.{PlaceSays, place-says}
+use Rattle.table_laws.specs.RowLaws.{message-row-is}
+use Rattle.table_laws.specs.SetTables.{rows-fields, sound}
+use Rattle.table_laws.specs.FitLaws.{Within, within-limits}
+use Rattle.table_laws.specs.SettingColumn.{settings-are}
+use Rattle.table_laws.specs.NamedRows.{message-says, field-says}
+use Rattle.table_laws.specs.EntryPlaces.{place-says}
 
 -- `rows` and `fields-table` as index leaves them, with room for all rows; the target column, which may have any number where a field's type is
 -- neither message nor group; and the buffer that `boxed_settings` wrote, with room for all fields
@@ -88,15 +89,15 @@ module _ (set rows : List ℕ) (count : ℕ) (table : MessageTable set rows coun
       omega arith
 
   -- field k; m: how far the table of boxes goes
-  pub field-table-says : {r : Row} {k : ℕ} → At r (rows-of es) k → (size m : ℕ) → k * 5 + 4 < size → k < m → (entries : List Bool) → FieldSays rs ds r (field-row (field-table size m rows over-fields settings entries) k)
+  pub field-table-says : {r : Row} {k : ℕ} → At r (rows-of es) k → (size m : ℕ) → k * 8 + 7 < size → k < m → (entries : List Bool) → FieldSays rs ds r (field-row (field-table size m set rows fields-table over-fields settings entries) k)
   unfolding field-table
   field-table-says {r} {k} p size m there boxed entries =
-      subst (λ (x : List Bool). FieldSays rs ds r (field-row (field-table size m rows over-fields x entries) k)) (sym settings-is)
+      subst (λ (x : List Bool). FieldSays rs ds r (field-row (field-table size m set rows fields-table over-fields x entries) k)) (sym settings-is)
       (field-says set rows count table t fields-table n holds room (limits .messages) good target targets rs p size m there boxed (few-fields p) entries)
 
   -- the place of its map entry, with the messages' flags as `fill_entries` fills them
-  pub field-table-place : {r : Row} {k : ℕ} → At r (rows-of es) k → is-message (r .field) ≡ true → {e : Entry} {j : ℕ} → At e es j → e .full ≡ type-name-of r → (size m : ℕ) → k * 5 + 4 < size
-      → PlaceSays set (is-repeated (r .field)) (e .message) (field-row (field-table size m rows over-fields settings (tab messages (entry-at set rows))) k)
+  pub field-table-place : {r : Row} {k : ℕ} → At r (rows-of es) k → is-message (r .field) ≡ true → {e : Entry} {j : ℕ} → At e es j → e .full ≡ type-name-of r → (size m : ℕ) → k * 8 + 7 < size
+      → PlaceSays set (is-repeated (r .field)) (e .message) (field-row (field-table size m set rows fields-table over-fields settings (tab messages (entry-at set rows))) k)
   unfolding field-table
   field-table-place p is q typed size m there =
       place-says set rows count table t fields-table n holds room (limits .messages) good target targets p is q typed _ _ _ _ size there (few-fields p)
