@@ -6,5 +6,6 @@ pub mod SettingLaws
 pub mod FitLaws
 pub mod SettingColumn
 pub mod EntryPlaces
+pub mod OneofLaws
 pub mod TableTheorems
 pub mod AfterLaws
