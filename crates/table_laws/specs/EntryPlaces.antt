@@ -45,7 +45,7 @@ behind set start end m is map-entry none =
     let empty : end - start ≡ 0 = omega arith in
     both-ways map-entry (ap (λ (x : MessageDescriptor). x .map-entry) (sym is) ∙ ap (λ (n : ℕ). decode-message (part set start n) .map-entry) empty ∙ no-bytes)
 
-chosen : (t b : Bool) → choose t b false ≡ true → b ≡ true
+pub chosen : (t b : Bool) → choose t b false ≡ true → b ≡ true
 unfolding choose
 chosen true b h = h
 chosen false b h = both-ways h refl

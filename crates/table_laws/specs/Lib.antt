@@ -9,3 +9,6 @@ pub mod EntryPlaces
 pub mod OneofLaws
 pub mod TableTheorems
 pub mod AfterLaws
+pub mod Counts
+pub mod Parents
+pub mod NodeLaws
