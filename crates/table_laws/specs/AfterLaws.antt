@@ -1,9 +1,9 @@
 -- The number behind the messages nested in a message. Assumes nothing.
 use mathlib.Core.Path.{_≡_, refl, sym, ap, _∙_, subst}
 use mathlib.Core.List.{List, [], _∷_, _++_, map}
-use Prim.Native.Nat.{ℕ, suc, _+_, _<_}
+use Prim.Native.Nat.{ℕ, suc, _+_}
 use native.Mathlib.Omega.{arith}
-use lib.ListN.{length, length-append, getD, List·getD-append}
+use lib.ListN.{length, length-append, List·getD-append}
 use lib.Seq.{getD-append-add}
 use Rattle.descriptor.specs.Descriptor.{Forest, done, node, FileDescriptor}
 use Rattle.descriptor.specs.Decode.{decode-set}

@@ -10,7 +10,7 @@ use lib.ListN.{length, length-map, getD, List·getD-eq-default}
 use borrow.Author.Tests.{ltb-true, ltb-false}
 use Rattle.base.specs.Choose.{choose}
 use Rattle.base.specs.Tests.{bool-cases, both-ways}
-use Rattle.descriptor.specs.Descriptor.{Bytes, FileDescriptor}
+use Rattle.descriptor.specs.Descriptor.{FileDescriptor}
 use Rattle.descriptor.specs.Decode.{decode-set}
 use Rattle.descriptor.specs.Limits.{messages-in, max-messages}
 use Rattle.options.specs.Settings.{Setting}
@@ -18,7 +18,7 @@ use Rattle.name_rules.specs.Accessors.{text, type, label, is-repeated, is-messa
 use Rattle.name_rules.specs.FullNames.{_·_, Entry, set-entries}
 use Rattle.name_rules.specs.Answer.{names}
 use Rattle.name_rules.specs.declared.Names.the-variants.{Good}
-use Rattle.context.specs.Context.{has, should-box, can-message-derive-copy, can-field-derive-copy, can-message-derive-eq, can-field-derive-eq}
+use Rattle.context.specs.Context.{has}
 use Rattle.index.specs.Tree.{Holds, all-members, row-at}
 use Rattle.index.proofs.SetLaws.{MessageTable}
 use Rattle.message_graph.specs.Limit.{messages}
@@ -34,7 +34,7 @@ use Rattle.field_columns.specs.declared.Column.the-variants.{Kind, Label}
 use Rattle.context_laws.specs.At.{At, at-within}
 use Rattle.context_laws.specs.Tables.{Row, rows-of, number-of, type-name-of, tables-of, settings-of, Sound}
 use Rattle.context_laws.specs.Numbers.{number-below}
-use Rattle.context_laws.specs.Rows.{first-row, row-kind, row-label, row-target}
+use Rattle.context_laws.specs.Rows.{row-kind, row-label, row-target}
 use Rattle.context_laws.specs.Rows as table-rows
 use Rattle.context_laws.specs.Boxed.{should-box-by-number}
 use Rattle.context_laws.specs.Derived.{message-copy-by-number, message-eq-by-number, field-copy-by-number, field-eq-by-number}

@@ -1,12 +1,11 @@
 -- The messages of a set with what is nested in them: the number behind it, and the map entries that their fields name. Assumes nothing.
 use mathlib.Core.Path.{_≡_, refl, sym, ap, _∙_, subst}
-use mathlib.Core.Bool.{Bool, true, false, _&&_, _||_}
+use mathlib.Core.Bool.{Bool, true, false, _&&_}
 use mathlib.Core.List.{List, [], _∷_, _++_, map, List·Memᴰ}
 use mathlib.Core.Logic.{_⊎_, inl, inr, ⊎-elim}
 use mathlib.Core.Option.{Option, none}
-use Prim.Native.Nat.{ℕ, suc, _+_, _-_, _<_}
+use Prim.Native.Nat.{ℕ, _+_, _-_, _<_}
 use native.Mathlib.Omega.{arith}
-use lib.Dec.{eqb, ltb}
 use lib.ListN.{length}
 use borrow.Author.Tests.{ltb-false, eq-eqb, ne-eqb}
 use Rattle.base.specs.Bytes.{same, same-refl, same-sound}
@@ -19,7 +18,7 @@ use Rattle.index.specs.Tree.{size}
 use Rattle.name_rules.specs.Accessors.{text, is-repeated, is-message, is-group}
 use Rattle.name_rules.specs.Rules.{file-good}
 use Rattle.name_rules.specs.FullNames.{_·_, package-scope, Entry, entries, set-entries, fields-of-entries, set-fields}
-use Rattle.name_rules.specs.MapEntries.{names-it, maps-it, entry-named, entries-named, map-entries-named}
+use Rattle.name_rules.specs.MapEntries.{names-it, entry-named, entries-named, map-entries-named}
 use Rattle.name_rules.specs.Answer.{file-named, first-six, names}
 use Rattle.name_rules.specs.declared.Names.the-variants.{Good}
 use Rattle.context_laws.specs.At.{At, at-one, mem-of-at}
@@ -29,7 +28,7 @@ use Rattle.context_laws.specs.Numbers.{find-entry}
 use Rattle.context_laws.specs.Rows.{first-row, find-owner, row-of, row-typed}
 use Rattle.context_laws.specs.SoundSets.{no-refusals}
 use Rattle.text_tables.specs.Rows.{message-row, field-row}
-use Rattle.code_generator.specs.MapFields.{MapEntry, entry-of, map-entry-of}
+use Rattle.code_generator.specs.MapFields.{entry-of, map-entry-of}
 use Rattle.members.specs.Members.{map-entry-at}
 use Rattle.table_says.specs.Says.{PlaceSays, Numbered, NumberedFiles, NodeSays}
 use Rattle.table_laws.specs.EntryPlaces.{chosen}

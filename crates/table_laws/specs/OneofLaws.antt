@@ -1,7 +1,7 @@
 -- A oneof's number fits its place in the table: a set without refusal 6 has fewer oneofs than bytes. Assumes nothing.
-use mathlib.Core.Path.{_≡_, refl, sym, ap, _∙_, subst}
+use mathlib.Core.Path.{_≡_, refl, sym, subst}
 use mathlib.Core.Bool.{Bool, true, false}
-use mathlib.Core.List.{List, [], _∷_, _++_, map, List·Memᴰ, List·Memᴰ·not-nil, List·Memᴰ·cases-cons, List·Memᴰ·append-cases}
+use mathlib.Core.List.{List, [], _∷_, map, List·Memᴰ, List·Memᴰ·not-nil, List·Memᴰ·cases-cons, List·Memᴰ·append-cases}
 use mathlib.Core.Logic.{⊎-elim}
 use mathlib.Core.Option.{Option, some, none}
 use Prim.Native.Nat.{ℕ, _≤_, _<_}

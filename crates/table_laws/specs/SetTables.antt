@@ -11,7 +11,7 @@ use lib.ListN.{length, length-append, length-map, getD, List·getD-map, take}
 use borrow.Author.Tests.{lt-ltb}
 use Rattle.base.specs.Tests.{and-both}
 use Rattle.base.specs.Lists.{all, all-of}
-use Rattle.descriptor.specs.Descriptor.{FieldDescriptor, MessageDescriptor}
+use Rattle.descriptor.specs.Descriptor.{FieldDescriptor, MessageDescriptor, FileDescriptor}
 use Rattle.descriptor.specs.Decode.{decode-field, decode-set}
 use Rattle.descriptor.specs.Limits.{messages-in, fields-in, max-messages}
 use Rattle.name_rules.specs.Accessors.{label}
@@ -50,6 +50,9 @@ rows-fields i [] = refl
 rows-fields i (e ∷ es) =
     column-entry (λ (r : Row). r .field) i e es
     ∙ rw (map-self (e .message .fields), rows-fields (suc i) es)
+
+pub rows-counted : (ds : List FileDescriptor) → length (rows-of (set-entries ds)) ≡ length (fields-in ds)
+rows-counted ds = sym (length-map (rows-of (set-entries ds)) (λ (x : Row). x .field)) ∙ ap length (rows-fields 0 (set-entries ds) ∙ set-fields-are ds)
 
 rows-owners : (i : ℕ) (es : List Entry) → map (λ (r : Row). r .owner) (rows-from i es) ≡ owners fields-of i (map message-of es)
 unfolding rows-from owners

@@ -1,15 +1,15 @@
 -- The two tables of a set within the limits, without refusals 6 and 7: each row says what the definitions by full names say. Assumes nothing.
 use mathlib.Core.Path.{_≡_, sym, ap, _∙_, subst}
 use mathlib.Core.Bool.{Bool, true, false, _||_}
-use mathlib.Core.List.{List, map}
+use mathlib.Core.List.{List}
 use Prim.Native.Nat.{ℕ, _+_, _*_, _-_, _≤_, _<_}
 use native.Mathlib.Omega.{arith}
-use lib.ListN.{length, length-map, getD}
+use lib.ListN.{length, getD}
 use Rattle.writer.specs.Wrote.{Wrote}
 use Rattle.wire.specs.Records.{part}
 use Rattle.descriptor.specs.Descriptor.{FieldDescriptor, FileDescriptor}
 use Rattle.descriptor.specs.Decode.{decode-field, decode-set}
-use Rattle.descriptor.specs.Limits.{fields-in, limit-passed}
+use Rattle.descriptor.specs.Limits.{limit-passed}
 use Rattle.options.specs.Settings.{Setting}
 use Rattle.name_rules.specs.Accessors.{is-repeated, is-message, is-group}
 use Rattle.name_rules.specs.FullNames.{Entry, set-entries}
@@ -23,7 +23,6 @@ use Rattle.message_graph.specs.Tab.{tab}
 use Rattle.field_columns.specs.Columns.{owner-at, column-at}
 use Rattle.field_columns.specs.declared.Column.the-variants.{Kind, Label}
 use Rattle.field_columns.proofs.SetColumns.{fields-counted}
-use Rattle.field_columns.proofs.EntryLaws.{set-fields-are}
 use Rattle.boxed_settings.specs.Flags.{set-flags}
 use Rattle.context_laws.specs.At.{At, at-within, mem-of-at}
 use Rattle.context_laws.specs.Tables.{Row, rows-of, number-of, type-name-of, settings-of}
@@ -35,7 +34,7 @@ use Rattle.code_generator.specs.Oneofs.{oneof-of}
 use Rattle.table_says.specs.Says.{MessageSays, FieldSays, FieldLies, PlaceSays}
 use Rattle.context_tables.specs.Cells.{is-set-at, entry-at, oneof-cell, oneof-at, columns, message-table, field-table}
 use Rattle.table_laws.specs.RowLaws.{message-row-is, field-row-is}
-use Rattle.table_laws.specs.SetTables.{rows-fields, sound, field-there}
+use Rattle.table_laws.specs.SetTables.{rows-counted, sound, field-there}
 use Rattle.table_laws.specs.FitLaws.{Within, within-limits}
 use Rattle.table_laws.specs.SettingColumn.{settings-are}
 use Rattle.table_laws.specs.NamedRows.{message-says, field-says}
@@ -89,7 +88,7 @@ module _ (set rows : List ℕ) (count : ℕ) (table : MessageTable set rows coun
   few-fields : {r : Row} {k : ℕ} → At r (rows-of es) k → k < 65536
   few-fields p =
       let within = at-within p in
-      let rows-counted : length (rows-of es) ≡ length (fields-in ds) = sym (length-map (rows-of es) (λ (x : Row). x .field)) ∙ ap length (rows-fields 0 es ∙ set-fields-are ds) in
+      let counted = rows-counted ds in
       let most = limits .fields in
       omega arith
 

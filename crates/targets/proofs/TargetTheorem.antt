@@ -5,13 +5,13 @@ use mathlib.Core.List.{List, [], _∷_, _++_}
 use Prim.Native.Nat.{ℕ, zero, suc, _+_, _*_, _-_, _≤_, _<_}
 use native.Mathlib.Numerals.{add-one}
 use native.Mathlib.Omega.{arith}
-use lib.Dec.{eqb, ltb}
+use lib.Dec.{ltb}
 use lib.ListN.{length, getD}
 use borrow.Author.Tests.{lt-ltb, le-ltb, ne-eqb}
 use Rattle.base.specs.Bytes.{same}
 use Rattle.base.specs.Choose.{choose}
 use Rattle.base.specs.Lists.{any, first-failing}
-use Rattle.descriptor.specs.Descriptor.{Bytes, FieldDescriptor}
+use Rattle.descriptor.specs.Descriptor.{Bytes}
 use Rattle.descriptor.specs.Decode.{decode-set}
 use Rattle.descriptor.specs.Limits.{messages-in, max-messages}
 use Rattle.name_rules.specs.Accessors.{is-message, is-group}
@@ -28,7 +28,7 @@ use Rattle.declarations.specs.Listed as listed-rows
 use Rattle.declarations.proofs.ListedLaws.{files-numbered}
 use Rattle.type_names.specs.LookUp.{named, wanted, fits, find-from, find-row}
 use Rattle.declared_types.proofs.RowLaws.{listed-from, listed-all, by-kind}
-use Rattle.context_laws.specs.At.{At, at-within}
+use Rattle.context_laws.specs.At.{At}
 use Rattle.context_laws.specs.Tables.{Row, rows-of, called, number-of, type-name-of}
 use Rattle.context_laws.specs.Tables as tables
 use Rattle.context_laws.specs.Numbers.{number-below}

@@ -5,7 +5,6 @@ use Prim.Native.Nat.{ℕ, _-_}
 use borrow.Author.Tests.{eq-eqb, ne-eqb}
 use Rattle.base.specs.Choose.{choose}
 use Rattle.wire.specs.Records.{part}
-use Rattle.descriptor.specs.Descriptor.{FieldDescriptor}
 use Rattle.descriptor.specs.Decode.{decode-field}
 use Rattle.descriptor.specs.Views.{field-of, field-in}
 use Rattle.descriptor.specs.declared.FieldView.{FieldView}
