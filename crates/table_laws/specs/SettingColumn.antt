@@ -16,12 +16,11 @@ use Rattle.options.specs.Settings.{Setting}
 use Rattle.name_rules.specs.FullNames.{set-entries}
 use Rattle.message_graph.specs.Tab.{tab, length-tab, tab-at}
 use Rattle.boxed_settings.specs.Flags.{set-flags}
-use Rattle.field_columns.proofs.EntryLaws.{set-fields-are}
-use Rattle.context_laws.specs.Tables.{Row, rows-of, is-set, settings-of}
+use Rattle.context_laws.specs.Tables.{rows-of, is-set, settings-of}
 use Rattle.context_tables.specs.Cells.{bit, is-set-at}
-use Rattle.context_tables.proofs.RowLaws.{bit-flag}
-use Rattle.context_tables.proofs.SetTables.{rows-fields}
-use Rattle.context_tables.proofs.SettingLaws.{Fit, set-flags-are}
+use Rattle.table_laws.specs.RowLaws.{bit-flag}
+use Rattle.table_laws.specs.SetTables.{rows-counted}
+use Rattle.table_laws.specs.SettingLaws.{Fit, set-flags-are}
 
 -- a text that there is room for, read back
 laid : (t p : List ℕ) (i : ℕ) → length p ≤ length t → i < length p → getD (over t 0 p) i 0 ≡ getD p i 0
@@ -46,8 +45,7 @@ pub settings-counted : (rs : List Setting) (ds : List FileDescriptor) → length
 unfolding settings-of
 settings-counted rs ds =
     length-map (rows-of (set-entries ds)) (is-set rs)
-    ∙ sym (length-map (rows-of (set-entries ds)) (λ (r : Row). r .field))
-    ∙ ap length (rows-fields 0 (set-entries ds) ∙ set-fields-are ds)
+    ∙ rows-counted ds
 
 module _ (rs : List Setting) (set : Bytes) (fit : Fit (set-entries (decode-set set))) (t bytes : List ℕ) (r : ℕ) (wrote : Wrote t 0 (set-flags rs set) bytes r) where
   -- n: how many fields the set has

@@ -1,0 +1,173 @@
+-- The two tables of a set within the limits, without refusals 6 and 7, say what the definitions by full names say. Assumes nothing.
+use mathlib.Core.Path.{_≡_, refl, sym, ap, _∙_, subst}
+use mathlib.Core.Bool.{true, false, _||_}
+use mathlib.Core.List.{List}
+use Prim.Native.Nat.{ℕ, _+_, _*_, _≤_, _<_}
+use native.Mathlib.Omega.{arith}
+use lib.ListN.{length, length-replicate, getD}
+use Rattle.base.specs.Lists.{map-length}
+use Rattle.writer.specs.Wrote.{Wrote, after}
+use Rattle.descriptor.specs.Descriptor.{FileDescriptor}
+use Rattle.descriptor.specs.Decode.{decode-field, decode-set}
+use Rattle.descriptor.specs.Limits.{fields-in, limit-passed}
+use Rattle.options.specs.Settings.{Setting, settings}
+use Rattle.name_rules.specs.Accessors.{is-repeated, is-message, is-group}
+use Rattle.name_rules.specs.FullNames.{Entry, set-entries}
+use Rattle.name_rules.specs.Answer.{names}
+use Rattle.name_rules.specs.declared.Names.the-variants.{Good}
+use Rattle.index.specs.Tree.{Holds, all-members, row-at, row-bytes}
+use Rattle.index.specs.declared.Row as index-row
+use Rattle.index.proofs.SetLaws.{MessageTable, messages-counted, messages-there, fields-hold}
+use Rattle.message_graph.specs.Tab.{tab, tab-at}
+use Rattle.declarations.specs.Listed.{listed, listed-files}
+use Rattle.declarations.proofs.SetLaws.{set-listed, set-room}
+use Rattle.boxed_settings.specs.Flags.{set-flags}
+use Rattle.context_laws.specs.At.{At, at-within}
+use Rattle.context_laws.specs.Tables.{Row, rows-of, number-of, type-name-of, Sound}
+use Rattle.context_laws.specs.SoundSets.{sound-set}
+use Rattle.set_rules.proofs.RowCounts.{few-rows}
+use Rattle.text_tables.specs.Rows.{field-row}
+use Rattle.table_says.specs.Says.{PlaceSays, Says}
+use Rattle.context_tables.specs.Cells.{message-table, field-table}
+use Rattle.table_laws.specs.SetTables.{rows-counted}
+use Rattle.table_laws.specs.FitLaws.{Within, within-limits}
+use Rattle.table_laws.specs.AfterLaws.{set-afters}
+use Rattle.table_laws.specs.NodeLaws.{nodes-say}
+use Rattle.table_laws.specs.TableTheorems.{message-table-says, message-table-after, field-table-says, field-table-place, field-table-no-place, field-table-lies}
+use Rattle.targets.proofs.TargetTheorem.{target-is}
+use Rattle.set_tables.specs.Filled.{most-fields, zeros, message-places, message-count, field-places, field-count, declarations-in, target-in, setting-bytes, columns-to, settings-to, columned, entries-by, message-numbers, field-numbers}
+
+zeros-length : (n : ℕ) → length (zeros n) ≡ n
+unfolding zeros
+zeros-length n = length-replicate {A = ℕ} n 0
+
+module _ (set o : List ℕ) (passed : limit-passed set ≡ 0) (good : names (decode-set set) ≡ Good) where
+  abbrev ds : List FileDescriptor
+  ds = decode-set set
+
+  abbrev es : List Entry
+  es = set-entries ds
+
+  abbrev rs : List Setting
+  rs = settings o
+
+  abbrev rows : List ℕ
+  rows = message-places set
+
+  abbrev fields : List ℕ
+  fields = field-places set
+
+  abbrev n : ℕ
+  n = field-count set
+
+  limits : Within set
+  limits = within-limits set passed
+
+  -- ---- the places
+
+  message-table-is : MessageTable set rows (message-count set)
+  unfolding message-places message-count
+  message-table-is =
+      let counted = messages-counted set (limits .small) in
+      let few = limits .messages in
+      let size = zeros-length 1280 in
+      messages-there set (zeros 1280) _ _ (limits .small) (omega arith) (omega arith) (record { table = refl; counted = refl })
+
+  field-rows : Holds (all-members set 2 rows (message-count set) 0) (zeros 10240) 0 fields n
+  unfolding field-places field-count
+  field-rows = record { table = refl; counted = omega arith }
+
+  fields-counted : n ≡ length (fields-in ds)
+  unfolding field-count fields-in
+  fields-counted =
+      sym (map-length (λ (r : index-row.Row). decode-field (row-bytes set r)) (all-members set 2 rows (message-count set) 0))
+      ∙ ap length (fields-hold set rows (message-count set) message-table-is .decoded)
+
+  few-fields : n ≤ most-fields
+  few-fields = let counted = fields-counted in let few = limits .fields in omega arith
+
+  field-room : n * 5 ≤ length (zeros 10240)
+  field-room = let few = few-fields in let size = zeros-length 10240 in omega arith
+
+  below : {r : Row} {k : ℕ} → At r (rows-of es) k → k < n
+  below p = let within = at-within p in let counted = fields-counted in let rows-are = rows-counted ds in omega arith
+
+  -- ---- the columns
+
+  lists : listed set (declarations-in set .table) (declarations-in set .rows) ≡ listed-files 0 0 ds
+  unfolding declarations-in
+  lists = let size = zeros-length 3815 in set-listed set (zeros 3815) 544 (omega arith) (omega arith) (few-rows set passed)
+
+  few-declarations : declarations-in set .rows ≤ 65536
+  unfolding declarations-in
+  few-declarations =
+      let size = zeros-length 3815 in
+      let few = set-room set (zeros 3815) 544 (omega arith) (omega arith) (few-rows set passed) .1 in
+      omega arith
+
+  targets : (r : Row) (k : ℕ) → At r (rows-of es) k → (is-message (r .field) || is-group (r .field)) ≡ true → getD (tab n (target-in set)) k 0 ≡ number-of es (type-name-of r)
+  unfolding target-in
+  targets r k p is =
+      tab-at n (target-in set) 0 k (below p)
+      ∙ target-is set (declarations-in set .table) (declarations-in set .rows) few-declarations lists rows (message-count set) message-table-is (zeros 10240) fields n field-rows field-room (limits .messages) good r k p is
+
+  wrote : Wrote (zeros most-fields) 0 (set-flags rs set) (setting-bytes set o) (after 0 (length (set-flags rs set)))
+  unfolding setting-bytes
+  wrote = record { room = (let size = zeros-length most-fields in omega arith); text = refl; next = refl }
+
+  space : n ≤ length (zeros most-fields)
+  space = let few = few-fields in let size = zeros-length most-fields in omega arith
+
+  -- ---- the rows
+
+  sound : Sound es
+  sound = sound-set ds (limits .messages) good
+
+  module _ (message-size field-size : ℕ) (message-room : 1024 ≤ message-size) (numbers-room : 16384 ≤ field-size) where
+    abbrev messages-to : ℕ → List ℕ
+    messages-to k = message-table message-size rows fields n (columns-to k set) (settings-to k set o)
+
+    abbrev fields-to : ℕ → List ℕ
+    fields-to k = field-table field-size most-fields set rows fields (columns-to k set) (settings-to k set o) (entries-by set rows)
+
+    message-fits : {e : Entry} {i : ℕ} → At e es i → i * 4 + 3 < message-size
+    message-fits p = let within = at-within p in let few = sound .few in omega arith
+
+    field-fits : {r : Row} {k : ℕ} → At r (rows-of es) k → k * 8 + 7 < field-size
+    field-fits p = let less = below p in let few = few-fields in omega arith
+
+    field-most : {r : Row} {k : ℕ} → At r (rows-of es) k → k < most-fields
+    field-most p = let less = below p in let few = few-fields in omega arith
+
+    place : (r : Row) (k : ℕ) → At r (rows-of es) k → is-message (r .field) ≡ true → (e : Entry) (j : ℕ) → At e es j → e .full ≡ type-name-of r
+        → PlaceSays set (is-repeated (r .field)) (e .message) (field-row (fields-to n) k)
+    unfolding columns-to settings-to
+    place r k p is e j q typed =
+        field-table-place set rows (message-count set) message-table-is (zeros 10240) fields n field-rows field-room passed good (tab n (target-in set)) targets rs (zeros most-fields) (setting-bytes set o) _ wrote space p is q typed field-size most-fields (field-fits p)
+
+    no-place : (r : Row) (k : ℕ) → At r (rows-of es) k → is-message (r .field) ≡ false → (field-row (fields-to n) k .entry ≡ 0) × (field-row (fields-to n) k .entryend ≡ 0)
+    unfolding columns-to settings-to
+    no-place r k p is =
+        field-table-no-place set rows (message-count set) message-table-is (zeros 10240) fields n field-rows field-room passed good (tab n (target-in set)) targets rs (zeros most-fields) (setting-bytes set o) _ wrote space p is field-size most-fields (field-fits p)
+
+    all-say : Says rs set (messages-to n) (fields-to n)
+    unfolding columns-to settings-to
+    all-say =
+        record {
+          message = λ e i p. message-table-says set rows (message-count set) message-table-is (zeros 10240) fields n field-rows field-room passed good (tab n (target-in set)) targets rs (zeros most-fields) (setting-bytes set o) _ wrote space p message-size (message-fits p);
+          field = λ r k p. field-table-says set rows (message-count set) message-table-is (zeros 10240) fields n field-rows field-room passed good (tab n (target-in set)) targets rs (zeros most-fields) (setting-bytes set o) _ wrote space p field-size most-fields (field-fits p) (field-most p) (entries-by set rows);
+          lies = λ r k p. field-table-lies set rows (message-count set) message-table-is (zeros 10240) fields n field-rows field-room passed good (tab n (target-in set)) targets rs (zeros most-fields) (setting-bytes set o) _ wrote space p field-size most-fields (field-fits p) (entries-by set rows);
+          place = place;
+          no-place = no-place;
+          nodes = nodes-say set (messages-to n) (fields-to n) sound good (λ j. row-at rows j .after) (set-afters set rows (message-count set) message-table-is)
+              (λ e i p. message-table-after set rows (message-count set) message-table-is (zeros 10240) fields n field-rows field-room passed good (tab n (target-in set)) targets rs (zeros most-fields) (setting-bytes set o) _ wrote space p message-size (message-fits p))
+              place no-place;
+        }
+
+    whole : columned set ≡ n
+    whole = let few = few-fields in omega arith
+
+    -- with room for 256 messages and 2,048 fields
+    pub tables-say : Says rs set (message-numbers message-size set o) (field-numbers field-size set o)
+    unfolding message-numbers field-numbers
+    tables-say = subst (λ (k : ℕ). Says rs set (messages-to k) (fields-to k)) (sym whole) all-say
