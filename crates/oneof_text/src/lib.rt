@@ -189,21 +189,8 @@ pub fn append_oneofs(
                 place = f.next;
                 if f.number == 8 {
                     x = x + 1;
-                    a = append_part(
-                        t,
-                        a,
-                        o,
-                        set,
-                        fields,
-                        d,
-                        full,
-                        deeper,
-                        p,
-                        parts::embedded(p, f),
-                        x,
-                        first,
-                        last,
-                    );
+                    let q = parts::embedded(p, f);
+                    a = append_part(t, a, o, set, fields, d, full, deeper, p, q, x, first, last);
                 }
             }
         }

@@ -66,8 +66,8 @@ loop-less c = search places
 loop-again : tie.Need-loop-again Inv-loop μ-loop
 loop-again c =
     let v = c .before .before .before .before .before .before .before .before .before .before .before .before .before .before .before .before .before .before .before .before .args in (
-      going-found _ _ _ _ _ _ _ (c .before .before .before .before .before .before .before .before .before .before .before .loop .inv .0) _ (c .before .before .before .before .before .before .before .before .before .before .read-step .ensures) _ (c .before .before .before .before .before .before .before .before .f .given .1) (c .before .before .before .before .before .if1 .taken) (c .before .before .before .embedded .ensures)
-          (named (part-is (settings (v .o .now)) (v .set .now) (v .messages .now) (v .fields .now) (v .d) (v .full .now) (v .deeper) (v .i) (v .p .now) (c .before .before .before .before .before .before .before .before .before .before .before .loop .x) (c .before .before .before .embedded .result .now) (c .before .before .before .before .before .before .before .before .before .before .before .before .fields-of .ensures .0) (c .before .before .before .before .before .before .before .before .before .before .before .before .fields-of .ensures .1)) (c .before .before .append-part .ensures))
+      going-found _ _ _ _ _ _ _ (c .before .before .before .before .before .before .before .before .before .before .before .loop .inv .0) _ (c .before .before .before .before .before .before .before .before .before .before .read-step .ensures) _ (c .before .before .before .before .before .before .before .before .f .given .1) (c .before .before .before .before .before .if1 .taken) (c .before .before .before .before .embedded .ensures)
+          (named (part-is (settings (v .o .now)) (v .set .now) (v .messages .now) (v .fields .now) (v .d) (v .full .now) (v .deeper) (v .i) (v .p .now) (c .before .before .before .before .before .before .before .before .before .before .before .loop .x) (c .before .before .before .before .embedded .result .now) (c .before .before .before .before .before .before .before .before .before .before .before .before .fields-of .ensures .0) (c .before .before .before .before .before .before .before .before .before .before .before .before .fields-of .ensures .1)) (c .before .before .append-part .ensures))
           _
           (add-one _),
       search places,
