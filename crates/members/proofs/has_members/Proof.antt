@@ -5,7 +5,6 @@ use Prim.Native.Nat.{ℕ, _-_}
 use Rattle.base.specs.Lists.{is-empty}
 use Rattle.members.specs.Members.{numbers-with}
 use Rattle.members.proofs.MemberLaws.{numbers-end, numbers-found, numbers-skip}
-use native.Mathlib.Omega.{arith}
 use borrow.Author.Needs.{needs}
 use Rattle.members.proofs.has_members.Statement.{statement}
 use Rattle.members.proofs.has_members.Tie as tie

@@ -1,5 +1,5 @@
-use mathlib.Core.Path.{_≡_, refl, sym, ap, _∙_}
-use Prim.Native.Nat.{ℕ, _-_}
+use mathlib.Core.Path.{_≡_, refl, _∙_}
+use Prim.Native.Nat.{_-_}
 use Rattle.members.specs.Members.{in-oneofs}
 use Rattle.members.proofs.MemberLaws.{oneofs-end, oneofs-found, oneofs-skip}
 use borrow.Author.Needs.{needs}

@@ -1,5 +1,4 @@
 use mathlib.Core.Path.{refl}
-use Rattle.writer.specs.Wrote.{kept}
 use Rattle.joined.specs.Joined.{path-held}
 use Rattle.oneof_text.specs.OneofText.{oneof-text}
 use borrow.Author.Needs.{needs}

@@ -1,8 +1,6 @@
 use Prim.Native.Nat.{_-_}
 use Rattle.members.specs.Members.{numbers-with}
 use Rattle.oneof_text.proofs.PartLaws.{left-out, not-left-out}
-use mathlib.Core.Path.{sym, _∙_}
-use borrow.Author.Tests.{not-true, not-false}
 use Rattle.writer.specs.Wrote.{kept, none, lent, named}
 use borrow.Author.Needs.{needs}
 use Rattle.oneof_text.proofs.append_part.Statement.{statement}

@@ -1,4 +1,4 @@
-use mathlib.Core.Path.{ap, sym}
+use mathlib.Core.Path.{ap}
 use mathlib.Core.List.{List}
 use Prim.Native.Nat.{ℕ, _-_}
 use borrow.Author.Needs.{needs}
@@ -12,8 +12,11 @@ use Rattle.variants.specs.Variants.{variant-texts}
 use Rattle.variants.proofs.append_variants.Statement.{statement}
 use Rattle.variants.proofs.append_variants.Tie as tie
 
+abbrev written : List ℕ → List ℕ → List ℕ → ℕ → List ℕ → List ℕ → List ℕ → List ℕ
+written o set fields d full oneof ks = flat (variant-texts (settings o) set fields d full oneof ks)
+
 abbrev Inv-loop : tie.InvT-loop
-Inv-loop t₀ at o set fields d full oneof c first last a₀ next₀ t a next = Onward t₀ at (flat (variant-texts (settings o) set fields d full oneof (numbers-with fields c (last - first) first))) t a (flat (variant-texts (settings o) set fields d full oneof (numbers-with fields c (last - next) next)))
+Inv-loop t₀ at o set fields d full oneof c first last a₀ next₀ t a next = Onward t₀ at (written o set fields d full oneof (numbers-with fields c (last - first) first)) t a (written o set fields d full oneof (numbers-with fields c (last - next) next))
 
 abbrev μ-loop : tie.MeasureT-loop
 μ-loop t₀ at o set fields d full oneof c first last a₀ next₀ t a next = last - next
@@ -38,7 +41,7 @@ unfolding variant-texts
 loop-again c =
     let v = c .before .before .before .before .before .before .before .before .before .before .before .before .before .before .before .args in
     turned (c .before .before .before .before .before .before .before .before .loop .inv)
-    (ap (λ (ks : List ℕ). flat (variant-texts (settings (v .o .now)) (v .set .now) (v .fields .now) (v .d) (v .full .now) (v .oneof .now) ks)) (numbers-found _ _ _ (c .before .before .before .before .before .before .before .loop-test .taken) _ (c .before .before .before .before .before .before .field-row .ensures) _ (c .before .before .before .before .if1 .taken)))
+    (ap (written (v .o .now) (v .set .now) (v .fields .now) (v .d) (v .full .now) (v .oneof .now)) (numbers-found _ _ _ (c .before .before .before .before .before .before .before .loop-test .taken) _ (c .before .before .before .before .before .before .field-row .ensures) _ (c .before .before .before .before .if1 .taken)))
     (c .before .before .append-variant .ensures)
 
 loop-less-2 : tie.Need-loop-less-2 Inv-loop μ-loop
@@ -48,13 +51,13 @@ loop-again-2 : tie.Need-loop-again-2 Inv-loop μ-loop
 loop-again-2 c =
     let v = c .before .before .before .before .before .before .before .before .before .before .before .args in
     passed (c .before .before .before .before .loop .inv)
-    (ap (λ (ks : List ℕ). flat (variant-texts (settings (v .o .now)) (v .set .now) (v .fields .now) (v .d) (v .full .now) (v .oneof .now) ks)) (numbers-skip _ _ _ (c .before .before .before .loop-test .taken) _ (c .before .before .field-row .ensures) _ (c .if1 .left)))
+    (ap (written (v .o .now) (v .set .now) (v .fields .now) (v .d) (v .full .now) (v .oneof .now)) (numbers-skip _ _ _ (c .before .before .before .loop-test .taken) _ (c .before .before .field-row .ensures) _ (c .if1 .left)))
 
 returns : tie.Need-returns Inv-loop μ-loop
 unfolding variant-texts
 returns c =
     let v = c .before .before .before .before .before .before .before .before .args in
-    done (c .before .loop .inv) (ap (λ (ks : List ℕ). flat (variant-texts (settings (v .o .now)) (v .set .now) (v .fields .now) (v .d) (v .full .now) (v .oneof .now) ks)) (numbers-end _ _ _ _ (c .loop-test .left)))
+    done (c .before .loop .inv) (ap (written (v .o .now) (v .set .now) (v .fields .now) (v .d) (v .full .now) (v .oneof .now)) (numbers-end _ _ _ _ (c .loop-test .left)))
 
 same-length : tie.Need-same-length Inv-loop μ-loop
 same-length c = kept (returns c)

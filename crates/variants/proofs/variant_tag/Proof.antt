@@ -2,8 +2,6 @@
 use mathlib.Core.Path.{refl}
 use Rattle.writer.specs.Wrote.{_►_, kept}
 use Rattle.code_generator.specs.Oneofs.{variant-tag}
-use Rattle.options.specs.Settings.{settings}
-use Rattle.descriptor.specs.Views.{field-of}
 use Rattle.variants.proofs.variant_tag.Statement.{statement}
 use Rattle.variants.proofs.variant_tag.Tie as tie
 
@@ -29,7 +27,7 @@ put-requires-2 : tie.Need-put-requires-2
 put-requires-2 c κs = tt
 
 returns : tie.Need-returns
-unfolding variant-tag settings field-of
+unfolding variant-tag
 returns c =
     rw (← (c .before .before .before .before .before .before .before .before .before .number .ensures))
     (c .before .before .before .before .before .before .before .before .before .before .before .before .before .before .before .before .before .field-type-tag .ensures
