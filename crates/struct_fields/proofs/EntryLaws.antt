@@ -81,10 +81,13 @@ module _ (set t : List ℕ) (k : ℕ) (row : FieldRow) (is : row ≡ field-row t
   unfolding map-entry-at choose
   no-entry h = rw (← is, eq-eqb _ _ h)
 
+  pub same-entry : (e : List ℕ) → e ≡ part set (row .entry) (row .entryend - row .entry) → e ≡ entry-bytes set t k
+  same-entry e there = there ∙ ap (λ (x : FieldRow). part set (x .entry) (x .entryend - x .entry)) is
+
   pub an-entry : (row .entryend ≡ 0 → ⊥) → (e : List ℕ) → e ≡ part set (row .entry) (row .entryend - row .entry) → (r : EntryFields) → given-entry e r ≡ entry-in e
       → given-entry (entry-bytes set t k) r ≡ map-entry-at set t k
   unfolding map-entry-at entry-in choose
   an-entry ne e there r h =
-      let at : e ≡ entry-bytes set t k = there ∙ ap (λ (x : FieldRow). part set (x .entry) (x .entryend - x .entry)) is in
+      let at = same-entry e there in
       let named : map-entry-at set t k ≡ entry-in (entry-bytes set t k) = rw (← is, ne-eqb _ _ ne) in
       ap (λ (x : List ℕ). given-entry x r) (sym at) ∙ h ∙ ap entry-in at ∙ sym named
