@@ -13,7 +13,6 @@ ghost use Rattle.options.specs.Settings.{settings};
 ghost use Rattle.map_fields.specs.Entry.{entry};
 ghost use Rattle.members.specs.Members.{map-entry-at, numbers-with};
 ghost use Rattle.code_generator.specs.Piece.{flat};
-ghost use Rattle.code_generator.specs.Attributes.{deprecated};
 ghost use Rattle.struct_fields.specs.StructFields.{plain-text, map-text, field-text, field-texts};
 ghost use Rattle.struct_fields.specs.Entries.{given-entry, entry-in, entry-bytes};
 
@@ -37,7 +36,7 @@ fn field_in(e: &[u8], f: Record) -> FieldView
 }
 
 // The first two fields of the map entry whose part e is.
-pub fn entry_fields(e: &[u8]) -> EntryFields
+fn entry_fields(e: &[u8]) -> EntryFields
     ensures { λ r. ⌜ given-entry (now (e .entry)) r ≡ entry-in (now (e .entry)) ⌝ }
 {
     let empty = descriptor::field_view(e, 0, 0);
@@ -95,16 +94,6 @@ pub fn map_entry_at(set: &[u8], fields: &[u16], k: usize) -> EntryFields
     entry_fields(descriptor::part_of(set, row.entry, row.entryend))
 }
 
-// Do the options of a field say `deprecated`?
-fn deprecated(s: &[u8], f: FieldView) -> bool
-    ensures { λ r. ⌜ r ≡ deprecated (field-of (now (s .entry)) f) ⌝ }
-{
-    if f.options {
-        return f.deprecated;
-    }
-    false
-}
-
 // append_field: field k of the table. scope: where the struct stands; full: the message's full name.
 fn append_field(
     t: &mut [u8],
@@ -124,7 +113,7 @@ fn append_field(
     let name = accessors::name(set, f);
     let boxed = members::boxed_at(o, set, fields, k, full);
     let asbytes = members::setting(o, 2, full, name);
-    let old = deprecated(set, f);
+    let old = members::is_deprecated(set, f);
     let a = attributes::append_deprecated(t, at, d, old);
     let a = attributes::put_line(t, a, d, b"#[prost(");
     let a = field_tags::field_tag(t, a, o, proto3, scope, set, f, boxed, asbytes);

@@ -15,7 +15,6 @@ use Rattle.field_tags.proofs.field_tag.Reads as field-tag-reads
 use Rattle.members.proofs.boxed_at.Reads as boxed-at-reads
 use Rattle.members.proofs.field_at.Reads as field-at-reads
 use Rattle.members.proofs.setting.Reads as setting-reads
-use Rattle.struct_fields.proofs.deprecated.Reads as deprecated-reads
 
 -- src/lib.rt:123:9
 field-at-requires : tie.Need-field-at-requires
@@ -34,8 +33,8 @@ setting-requires : tie.Need-setting-requires
 setting-requires c κs = search needs
 
 -- src/lib.rt:127:9
-deprecated-requires : tie.Need-deprecated-requires
-deprecated-requires c κs = search needs
+is-deprecated-requires : tie.Need-is-deprecated-requires
+is-deprecated-requires c κs = search needs
 
 -- src/lib.rt:128:9
 append-deprecated-requires : tie.Need-append-deprecated-requires
@@ -68,7 +67,7 @@ same-length c = search needs
 -- src/lib.rt:109:1
 returns : tie.Need-returns
 unfolding plain-text attributes-at append-deprecated
-returns c = rw (← c .before .before .before .before .before .before .before .before .before .before .before .before .before .before .before .before .before .before .before .before .before .before .before .boxed-at .ensures, ← c .before .before .before .before .before .before .before .before .before .before .before .before .before .before .before .before .before .before .before .before .before .before .before .before .before .field-at .ensures, ← c .before .before .before .before .before .before .before .before .before .before .before .before .before .before .before .before .before .before .before .before .before .before .before .before .name .ensures, ← c .before .before .before .before .before .before .before .before .before .before .before .before .before .before .before .before .before .before .before .before .before .before .setting .ensures, ← c .before .before .before .before .before .before .before .before .before .before .before .before .before .before .before .before .before .before .before .before .before .deprecated .ensures) (c .before .before .before .before .before .before .before .before .before .before .before .before .before .before .before .before .before .before .before .append-deprecated .ensures ► c .before .before .before .before .before .before .before .before .before .before .before .before .before .before .put-line .ensures ► c .before .before .before .before .before .before .before .before .before .before .field-tag .ensures ► c .before .before .before .before .before .before .append-field-attributes .ensures ► c .before .before .field-line .ensures)
+returns c = rw (← c .before .before .before .before .before .before .before .before .before .before .before .before .before .before .before .before .before .before .before .before .before .before .before .boxed-at .ensures, ← c .before .before .before .before .before .before .before .before .before .before .before .before .before .before .before .before .before .before .before .before .before .before .before .before .before .field-at .ensures, ← c .before .before .before .before .before .before .before .before .before .before .before .before .before .before .before .before .before .before .before .before .before .before .before .before .name .ensures, ← c .before .before .before .before .before .before .before .before .before .before .before .before .before .before .before .before .before .before .before .before .before .before .setting .ensures, ← c .before .before .before .before .before .before .before .before .before .before .before .before .before .before .before .before .before .before .before .before .before .is-deprecated .ensures) (c .before .before .before .before .before .before .before .before .before .before .before .before .before .before .before .before .before .before .before .append-deprecated .ensures ► c .before .before .before .before .before .before .before .before .before .before .before .before .before .before .put-line .ensures ► c .before .before .before .before .before .before .before .before .before .before .field-tag .ensures ► c .before .before .before .before .before .before .append-field-attributes .ensures ► c .before .before .field-line .ensures)
 
 pub append-field-spec : {M : Type 1} → statement M
 append-field-spec =
@@ -78,7 +77,7 @@ append-field-spec =
     name-requires
     boxed-at-requires
     setting-requires
-    deprecated-requires
+    is-deprecated-requires
     append-deprecated-requires
     slice-aggregate-put-line
     put-line-requires
