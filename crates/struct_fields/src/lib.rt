@@ -40,25 +40,18 @@ fn entry_fields(e: &[u8]) -> EntryFields
     ensures { λ r. ⌜ given-entry (now (e .entry)) r ≡ entry-in (now (e .entry)) ⌝ }
 {
     let empty = descriptor::field_view(e, 0, 0);
+    let absent = EntryFields {
+        found: false,
+        key: empty,
+        value: empty,
+    };
     let mut key = empty;
     let mut met = false;
     let mut at: usize = 0;
     loop {
         match wire::read_step(e, at) {
-            Step::End => {
-                return EntryFields {
-                    found: false,
-                    key,
-                    value: empty,
-                };
-            }
-            Step::Fault(_) => {
-                return EntryFields {
-                    found: false,
-                    key,
-                    value: empty,
-                };
-            }
+            Step::End => return absent,
+            Step::Fault(_) => return absent,
             Step::Found(f) => {
                 at = f.next;
                 if f.number == 2 {

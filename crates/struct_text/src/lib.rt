@@ -1,4 +1,6 @@
 // code_generator.rs, append_message: a message's struct.
+use oneof_fields::append_oneof_fields;
+use struct_fields::append_fields;
 ghost use mathlib.Core.Path.{_≡_};
 ghost use mathlib.Core.Bool.{Bool};
 ghost use mathlib.Core.List.{List};
@@ -64,7 +66,7 @@ pub fn append_struct(
     let first = range.first;
     let last = range.last;
     let a = struct_head(t, 0, o, messages, depth, full, i, p);
-    let a = struct_fields::append_fields(
+    let a = append_fields(
         t,
         a,
         o,
@@ -77,18 +79,6 @@ pub fn append_struct(
         first,
         last,
     );
-    let a = oneof_fields::append_oneof_fields(
-        t,
-        a,
-        o,
-        set,
-        messages,
-        fields,
-        inner,
-        full,
-        deeper,
-        i,
-        p,
-    );
+    let a = append_oneof_fields(t, a, o, set, messages, fields, inner, full, deeper, i, p);
     attributes::end(t, a, depth)
 }
