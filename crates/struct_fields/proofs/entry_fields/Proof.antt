@@ -1,0 +1,80 @@
+use Rattle.struct_fields.proofs.EntryLaws.{Reading, reading-start, reading-end, reading-fault, reading-skip, reading-key, reading-value}
+use Rattle.wire.proofs.RecordsLaws.{places}
+use Rattle.base.specs.Choose.{choose}
+use lib.ListN.{length}
+use Prim.Native.Nat.{_-_}
+use borrow.Author.Needs.{needs}
+use Rattle.struct_fields.proofs.entry_fields.Statement.{statement}
+use Rattle.struct_fields.proofs.entry_fields.Tie as tie
+
+abbrev Inv-loop : tie.InvT-loop
+Inv-loop e absent key₀ met₀ at₀ key met at = Reading e key met at
+
+abbrev μ-loop : tie.MeasureT-loop
+μ-loop e absent key₀ met₀ at₀ key met at = length e - at
+
+field-view-requires : tie.Need-field-view-requires Inv-loop μ-loop
+field-view-requires c κs = search needs
+
+loop-holds : tie.Need-loop-holds Inv-loop μ-loop
+loop-holds c = reading-start
+
+read-step-requires : tie.Need-read-step-requires Inv-loop μ-loop
+read-step-requires c κs = search needs
+
+enum-told : tie.Need-enum-told Inv-loop μ-loop
+enum-told c = search needs
+
+returns : tie.Need-returns Inv-loop μ-loop
+unfolding choose
+returns c = reading-end (c .before .before .before .loop .inv) _ (c .before .before .read-step .ensures) (c .enum-told .given .1)
+
+enum-told-2 : tie.Need-enum-told-2 Inv-loop μ-loop
+enum-told-2 c = search needs
+
+returns-2 : tie.Need-returns-2 Inv-loop μ-loop
+unfolding choose
+returns-2 c = reading-fault (c .before .before .before .loop .inv) _ (c .before .before .read-step .ensures) _ (c .enum-told2 .given .1)
+
+enum-known-f : tie.Need-enum-known-f Inv-loop μ-loop
+enum-known-f c = search needs
+
+field-in-requires : tie.Need-field-in-requires Inv-loop μ-loop
+field-in-requires c κs = search needs
+
+returns-3 : tie.Need-returns-3 Inv-loop μ-loop
+unfolding choose
+returns-3 c = reading-value (c .before .before .before .before .before .before .before .before .loop .inv) _ (c .before .before .before .before .before .before .before .read-step .ensures) _ (c .before .before .before .before .before .f .given .1) (c .before .before .if1 .taken) _ (c .before .field-in .ensures) (c .if2 .taken)
+
+loop-less : tie.Need-loop-less Inv-loop μ-loop
+loop-less c = search places
+
+loop-again : tie.Need-loop-again Inv-loop μ-loop
+loop-again c = reading-key (c .before .before .before .before .before .before .before .before .loop .inv) _ (c .before .before .before .before .before .before .before .read-step .ensures) _ (c .before .before .before .before .before .f .given .1) (c .before .before .if1 .taken) _ (c .before .field-in .ensures) (c .if2 .left)
+
+loop-less-2 : tie.Need-loop-less-2 Inv-loop μ-loop
+loop-less-2 c = search places
+
+loop-again-2 : tie.Need-loop-again-2 Inv-loop μ-loop
+loop-again-2 c = reading-skip (c .before .before .before .before .before .before .loop .inv) _ (c .before .before .before .before .before .read-step .ensures) _ (c .before .before .before .f .given .1) (c .if1 .left)
+
+pub entry-fields-spec : {M : Type 1} → statement M
+entry-fields-spec =
+    tie.close
+    (tie.spec
+    Inv-loop
+    μ-loop
+    field-view-requires
+    loop-holds
+    read-step-requires
+    enum-told
+    returns
+    enum-told-2
+    returns-2
+    enum-known-f
+    field-in-requires
+    returns-3
+    loop-less
+    loop-again
+    loop-less-2
+    loop-again-2)
