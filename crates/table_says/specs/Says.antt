@@ -1,6 +1,6 @@
 -- What the two tables that the text's writers read say of a set. Assumes nothing.
 use Prim.Native.Nat.{ℕ, suc, _+_, _-_}
-use mathlib.Core.Path.{_≡_}
+use mathlib.Core.Path.{_≡_, refl}
 use mathlib.Core.Bool.{Bool, true, false}
 use mathlib.Core.List.{List, [], _∷_}
 use mathlib.Core.Option.{Option, some, none}
@@ -36,6 +36,17 @@ pub record FieldSays (rs : List Setting) (ds : List FileDescriptor) (r : Row) (r
   pub copy : row .copy ≡ can-field-derive-copy rs ds (r .full) (r .field)
   pub eq : row .eq ≡ can-field-derive-eq ds (r .full) (r .field)
   pub looped : (at : Bytes) → should-box rs ds (r .full) at (r .field) ≡ choose (row .looped) true (choose (is-repeated (r .field)) false (has rs 4 (at · text (r .field .name))))
+
+-- as the writers ask: not where the field is repeated, else by the loop, else by the setting
+repeated-first : (repeated looped nested set : Bool) → choose repeated false nested ≡ choose looped true (choose repeated false set) → choose repeated false nested ≡ choose repeated false (choose looped true set)
+unfolding choose
+repeated-first true looped nested set e = refl
+repeated-first false looped nested set e = e
+
+pub boxed-by-row : {rs : List Setting} {ds : List FileDescriptor} {r : Row} {row : FieldRow} → FieldSays rs ds r row → (at : Bytes)
+    → should-box rs ds (r .full) at (r .field) ≡ choose (is-repeated (r .field)) false (choose (row .looped) true (has rs 4 (at · text (r .field .name))))
+unfolding should-box
+boxed-by-row {rs} {ds} {r} {row} says at = repeated-first (is-repeated (r .field)) (row .looped) _ (has rs 4 (at · text (r .field .name))) (says .looped at)
 
 -- one more than the index of a oneof, or 0 for none
 abbrev pub oneof-number : Option ℕ → ℕ
