@@ -29,6 +29,11 @@ abbrev pub From : (ℕ → FieldDescriptor → Type 0) → ℕ → List FieldDes
 From P k [] = Unit {0}
 From P k (f ∷ fs) = P k f × From P (suc k) fs
 
+-- with one more fact of each field
+pub from-with : {P R : ℕ → FieldDescriptor → Type 0} (Q : FieldDescriptor → Type 0) → ((k : ℕ) (f : FieldDescriptor) → P k f → Q f → R k f) → (k : ℕ) (fs : List FieldDescriptor) → From P k fs → Every Q fs → From R k fs
+from-with Q both k [] h e = tt
+from-with Q both k (f ∷ fs) h e = (both k f (h .0) (e .0), from-with Q both (suc k) fs (h .1) (e .1))
+
 module _ (rs : List Setting) (set messages t : List ℕ) where
   -- row k is that of a field f of the message with the full name
   pub record FieldIs (full : Bytes) (nested : Forest MessageDescriptor) (k : ℕ) (f : FieldDescriptor) : Type 0 where

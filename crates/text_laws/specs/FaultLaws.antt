@@ -17,7 +17,7 @@ use Rattle.file_faults.specs.FileFaults.{no-faults, _or_, default-fails-at, Inn
 use Rattle.file_faults.specs.declared.Faults.{Faults}
 use Rattle.code_generator.specs.Oneofs.{plain-fields}
 use Rattle.code_generator.specs.Refusals.{any-message, enum-overlaps, default-fails}
-use Rattle.text_laws.specs.Each.{each-any}
+use Rattle.text_laws.specs.Pairwise.{pairwise-any}
 use Rattle.text_laws.specs.Described.{MessageIs, Described}
 use Rattle.text_laws.specs.EnumLaws.{enums-meet-is}
 use Rattle.text_laws.specs.FieldLaws.{FieldFits, PlainIs}
@@ -49,15 +49,15 @@ module _ (rs : List Setting) (set messages t : List ℕ) where
     own-is : own-faults rs set messages t full i p ≡ record { overlap = overlaps full (decode-message p) nested; default = defaults full (decode-message p) nested }
     unfolding own-faults decode-message
     own-is =
-        rw (enums-meet-is rs full (parts 4 (entries p)) enums, each-any (default-fails-at set t) (default-fails full nested) default-is (plain-of rs set messages t full nested i p fields has))
+        rw (enums-meet-is rs full (parts 4 (entries p)) enums, pairwise-any (default-fails-at set t) (default-fails full nested) default-is (plain-of rs set messages t full nested i p fields has))
 
   message-is : (scope : Bytes) (nested : Forest MessageDescriptor) (i : ℕ) (p : Bytes) → MessageFits scope (decode-message p) → MessageIs rs set messages t (scope · text (decode-message p .name)) (decode-message p) nested i
       → (inner : Inner rs set messages t) → inner (scope · text (decode-message p .name)) (suc i) (parts 3 (entries p)) ≡ faults-in (scope · text (decode-message p .name)) nested
       → message-faults rs set messages t inner scope i p
       ≡ record {
-          overlap = not (decode-message p .map-entry || taken rs (scope · text (decode-message p .name))) && (overlaps (scope · text (decode-message p .name)) (decode-message p) nested || any-message rs overlaps (scope · text (decode-message p .name)) nested);
-          default = not (decode-message p .map-entry || taken rs (scope · text (decode-message p .name))) && (defaults (scope · text (decode-message p .name)) (decode-message p) nested || any-message rs defaults (scope · text (decode-message p .name)) nested);
-        }
+        overlap = not (decode-message p .map-entry || taken rs (scope · text (decode-message p .name))) && (overlaps (scope · text (decode-message p .name)) (decode-message p) nested || any-message rs overlaps (scope · text (decode-message p .name)) nested);
+        default = not (decode-message p .map-entry || taken rs (scope · text (decode-message p .name))) && (defaults (scope · text (decode-message p .name)) (decode-message p) nested || any-message rs defaults (scope · text (decode-message p .name)) nested);
+      }
   unfolding message-faults decode-message decode-oneof
   message-is scope nested i p fit has inner inside =
       let full = scope · text (decode-message p .name) in

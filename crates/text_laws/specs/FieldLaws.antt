@@ -27,9 +27,9 @@ use Rattle.code_generator.specs.MapFields.{MapEntry, entry-of, map-entry-of, ap
 use Rattle.code_generator.specs.Oneofs.{OneofField, variant-line, append-variant, append-variants}
 use Rattle.code_generator.specs.Generate.{append-fields}
 use Rattle.code_generator.specs.Generate as generate
-use Rattle.text_laws.specs.Each.{Each}
-use Rattle.text_laws.specs.Each.Each.{nil, cons}
-use Rattle.text_laws.specs.Described.{FieldIs}
+use Rattle.text_laws.specs.Pairwise.{Pairwise}
+use Rattle.text_laws.specs.Pairwise.Pairwise.{nil, cons}
+use Rattle.text_laws.specs.Described.{From, FieldIs, from-with}
 use Rattle.text_laws.specs.NestedLaws.{Siblings}
 
 -- the bytes of a variant's line are the same for any full name
@@ -68,23 +68,30 @@ module _ (rs : List Setting) (set messages t : List ℕ) (full : Bytes) (nested 
 
   boxed-is : (at : Bytes) {k : ℕ} {f : FieldDescriptor} → FieldIs rs set messages t full nested k f → FieldFits at f → boxed-at rs set t k at ≡ should-box rs ds full at f
   unfolding boxed-at
-  boxed-is at {k} {f} h fit = rw (h .there, fit .whole) (sym (h .boxed at))
+  boxed-is at h fit = rw (h .there, fit .whole) (sym (h .boxed at))
+
+  -- a field's row, and its path
+  pub record PlainIs (k : ℕ) (f : FieldDescriptor) : Type 0 where
+    pub row : FieldIs rs set messages t full nested k f
+    pub fits : FieldFits full f
+
+  pub plain-rows : (k : ℕ) (fs : List FieldDescriptor) → From (FieldIs rs set messages t full nested) k fs → Every (FieldFits full) fs → From PlainIs k fs
+  plain-rows = from-with (FieldFits full) (λ k f h q. record { row = h; fits = q })
 
   -- ---- variants
 
-  -- a field of a oneof, its paths with it
+  -- a field of the oneof with this name
   pub record VariantIs (name : Bytes) (k : ℕ) (f : FieldDescriptor) : Type 0 where
-    pub row : FieldIs rs set messages t full nested k f
-    pub fits : FieldFits full f
-    pub fits-there : FieldFits (full · name) f
+    pub plain : PlainIs k f
+    pub fits : FieldFits (full · name) f
 
   variant-is : (d : ℕ) (x : OneofField) {k : ℕ} {f : FieldDescriptor} → VariantIs (x .name) k f
       → flat (variant-text rs set t d full (full · x .name) k) ≡ flat (append-variant rs ds d full x f)
   unfolding variant-text append-variant
-  variant-is d x {k} {f} h =
-      rw (h .row .there, boxed-is (full · x .name) (h .row) (h .fits-there), h .fits-there .room, h .fits .whole, any-variant-line rs d full full)
+  variant-is d x h =
+      rw (h .plain .row .there, boxed-is (full · x .name) (h .plain .row) (h .fits), h .fits .room, h .plain .fits .whole, any-variant-line rs d full full)
 
-  pub variants-are : (d : ℕ) (x : OneofField) {ks : List ℕ} {fs : List FieldDescriptor} → Each (VariantIs (x .name)) ks fs
+  pub variants-are : (d : ℕ) (x : OneofField) {ks : List ℕ} {fs : List FieldDescriptor} → Pairwise (VariantIs (x .name)) ks fs
       → flat (variant-texts rs set t d full (full · x .name) ks) ≡ flat (append-variants rs ds d full x fs)
   unfolding variant-texts append-variants
   variants-are d x nil = refl
@@ -92,20 +99,16 @@ module _ (rs : List Setting) (set messages t : List ℕ) (full : Bytes) (nested 
 
   -- ---- fields of a struct
 
-  pub record PlainIs (k : ℕ) (f : FieldDescriptor) : Type 0 where
-    pub row : FieldIs rs set messages t full nested k f
-    pub fits : FieldFits full f
-
   plain-is : (proto3 : Bool) (d : ℕ) (scope : Bytes) {k : ℕ} {f : FieldDescriptor} → PlainIs k f
       → flat (plain-text rs set t proto3 d scope full k) ≡ flat (append-field rs ds proto3 d scope full f)
   unfolding plain-text attributes-at append-field
-  plain-is proto3 d scope {k} {f} h =
+  plain-is proto3 d scope h =
       rw (h .row .there, boxed-is full (h .row) (h .fits), h .fits .room, h .fits .whole, any-field-line rs d scope full)
 
   map-is : (proto3 : Bool) (d : ℕ) (scope : Bytes) (e : MapEntry) → FieldFits full (e .key) → FieldFits full (e .value) → {k : ℕ} {f : FieldDescriptor} → PlainIs k f
       → flat (map-text rs set t proto3 d scope full k e) ≡ flat (append-map-field rs d scope full f e)
   unfolding map-text attributes-at append-map-field
-  map-is proto3 d scope e key value {k} {f} h =
+  map-is proto3 d scope e key value h =
       rw (h .row .there, h .fits .room, h .fits .whole, key .whole, value .whole, any-map-line rs d scope full)
 
   field-or-map-is : (proto3 : Bool) (d : ℕ) (scope : Bytes) (o : Option MapEntry) → EntryFits full o → {k : ℕ} {f : FieldDescriptor} → PlainIs k f
@@ -118,7 +121,7 @@ module _ (rs : List Setting) (set messages t : List ℕ) (full : Bytes) (nested 
     unfolding field-text
     field-is {f = f} h = rw (h .row .map-entry) (field-or-map-is proto3 d scope (map-entry-of full nested (f .type-name)) (map-entry-fits full room nested (f .type-name) s) h)
 
-    pub fields-are : {ks : List ℕ} {fs : List FieldDescriptor} → Each PlainIs ks fs → flat (field-texts rs set t proto3 d scope full ks) ≡ flat (append-fields rs ds proto3 d scope full nested fs)
+    pub fields-are : {ks : List ℕ} {fs : List FieldDescriptor} → Pairwise PlainIs ks fs → flat (field-texts rs set t proto3 d scope full ks) ≡ flat (append-fields rs ds proto3 d scope full nested fs)
     unfolding field-texts append-fields
     fields-are nil = refl
     fields-are (cons h hs) = ap₂ _++_ (field-is h) (fields-are hs)

@@ -1,4 +1,4 @@
-pub mod Each
+pub mod Pairwise
 pub mod Described
 pub mod MemberLaws
 pub mod NestedLaws

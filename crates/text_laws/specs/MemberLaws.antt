@@ -2,24 +2,24 @@
 use Prim.Native.Nat.{ℕ, suc, _+_, _≤_, _<_}
 use mathlib.Core.Path.{_≡_, refl, sym, ap, ap₂, _∙_}
 use mathlib.Core.Bool.{Bool, true, false, _||_, not}
+use mathlib.Core.Logic.{_⊎_, inl, inr, ⊎-elim}
 use mathlib.Core.Option.{Option, some, none}
 use mathlib.Core.List.{List, [], _∷_}
 use native.Mathlib.Omega.{arith}
 use native.Mathlib.Decide.{ℕ-discrete}
-use mathlib.Core.Logic.{_⊎_, inl, inr, ⊎-elim}
 use lib.Dec.{eqb, eqb·suc-zero, eqb·suc-suc, eqb·zero-suc}
-use borrow.Author.Tests.{eqb-true, eqb-false, eq-eqb, ne-eqb}
-use Rattle.base.specs.Tests.{bool-cases, both-ways, or-false-left, or-false-right}
 use lib.ListN.{length}
+use borrow.Author.Tests.{eqb-true, eqb-false, eq-eqb, ne-eqb}
 use Rattle.base.specs.Choose.{choose, choose-case}
 use Rattle.base.specs.Lists.{any, is-empty, Every}
+use Rattle.base.specs.Tests.{bool-cases, both-ways, or-false-left, or-false-right}
 use Rattle.descriptor.specs.Descriptor.{Bytes, Forest, FieldDescriptor, MessageDescriptor}
 use Rattle.text_tables.specs.Rows.{field-row}
 use Rattle.members.specs.Members.{numbers-with, in-oneofs}
 use Rattle.table_says.specs.Says.{oneof-number}
 use Rattle.code_generator.specs.Oneofs.{oneof-of, is-plain, is-at, plain-fields, fields-at, OneofField, oneofs-from, oneof-fields}
-use Rattle.text_laws.specs.Each.{Each}
-use Rattle.text_laws.specs.Each.Each.{nil, cons}
+use Rattle.text_laws.specs.Pairwise.{Pairwise}
+use Rattle.text_laws.specs.Pairwise.Pairwise.{nil, cons}
 use Rattle.text_laws.specs.Described.{Below, From}
 
 eqb-turned : (a c : ℕ) → eqb a c ≡ eqb c a
@@ -47,17 +47,17 @@ module _ {P : ℕ → FieldDescriptor → Type 0} (t : List ℕ) (oneof : (k : �
   at-is x {k} {f} p = ap (λ (n : ℕ). eqb n (suc x)) (oneof k f p) ∙ number-at x (oneof-of f)
 
   -- one more, where the test holds
-  one-more : (test : Bool) {k : ℕ} {f : FieldDescriptor} {ks : List ℕ} {fs : List FieldDescriptor} → P k f → Each P ks fs → Each P (choose test (k ∷ ks) ks) (choose test (f ∷ fs) fs)
+  one-more : (test : Bool) {k : ℕ} {f : FieldDescriptor} {ks : List ℕ} {fs : List FieldDescriptor} → P k f → Pairwise P ks fs → Pairwise P (choose test (k ∷ ks) ks) (choose test (f ∷ fs) fs)
   unfolding choose
   one-more true p ps = cons p ps
   one-more false p ps = ps
 
-  pub plain-numbers : (k : ℕ) (fs : List FieldDescriptor) → From P k fs → Each P (numbers-with t 0 (length fs) k) (plain-fields fs)
+  pub plain-numbers : (k : ℕ) (fs : List FieldDescriptor) → From P k fs → Pairwise P (numbers-with t 0 (length fs) k) (plain-fields fs)
   unfolding numbers-with plain-fields
   plain-numbers k [] h = nil
   plain-numbers k (f ∷ fs) h = rw (plain-is (h .0)) (one-more (is-plain (oneof-of f)) (h .0) (plain-numbers (suc k) fs (h .1)))
 
-  pub oneof-numbers : (x k : ℕ) (fs : List FieldDescriptor) → From P k fs → Each P (numbers-with t (suc x) (length fs) k) (fields-at x fs)
+  pub oneof-numbers : (x k : ℕ) (fs : List FieldDescriptor) → From P k fs → Pairwise P (numbers-with t (suc x) (length fs) k) (fields-at x fs)
   unfolding numbers-with fields-at
   oneof-numbers x k [] h = nil
   oneof-numbers x k (f ∷ fs) h = rw (at-is x (h .0)) (one-more (is-at x (oneof-of f)) (h .0) (oneof-numbers x (suc k) fs (h .1)))
@@ -67,7 +67,6 @@ module _ {P : ℕ → FieldDescriptor → Type 0} (t : List ℕ) (oneof : (k : �
   unfolding in-oneofs any
   in-oneofs-is k [] h = refl
   in-oneofs-is k (f ∷ fs) h = ap₂ _||_ (ap not (plain-is (h .0))) (in-oneofs-is (suc k) fs (h .1))
-
 
 -- ---- a oneof is written where a field is in one
 
@@ -93,10 +92,10 @@ more-at : (i : ℕ) (f : FieldDescriptor) (fs : List FieldDescriptor) → is-emp
 unfolding fields-at
 more-at i f fs h = choose-case (λ (l : List FieldDescriptor). is-empty l ≡ false) (is-at i (oneof-of f)) (λ _. refl) (λ _. h)
 
-pub record Filled (n : ℕ) (fs : List FieldDescriptor) : Type 0 where
-  pub index : ℕ
-  pub below : index < n
-  pub filled : is-empty (fields-at index fs) ≡ false
+record Filled (n : ℕ) (fs : List FieldDescriptor) : Type 0 where
+  index : ℕ
+  below : index < n
+  filled : is-empty (fields-at index fs) ≡ false
 
 filled-by : (n : ℕ) (fs : List FieldDescriptor) → Every (Below n) fs → any in-oneof fs ≡ true → Filled n fs
 unfolding any

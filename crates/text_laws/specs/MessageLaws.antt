@@ -6,7 +6,7 @@ use mathlib.Core.List.{List, [], _∷_, _++_}
 use lib.Dec.{eqb}
 use Rattle.base.specs.Lists.{Every, map-length}
 use Rattle.writer.specs.Text.{pick}
-use Rattle.descriptor.specs.Descriptor.{Bytes, Forest, FieldDescriptor, MessageDescriptor, FileDescriptor}
+use Rattle.descriptor.specs.Descriptor.{Bytes, Forest, MessageDescriptor, FileDescriptor}
 use Rattle.descriptor.specs.Decode.{entries, parts, decode-field, decode-oneof, decode-message, decode-messages, decode-set}
 use Rattle.options.specs.Settings.{Setting}
 use Rattle.extern_paths.specs.ExternPaths.{taken}
@@ -23,12 +23,12 @@ use Rattle.code_generator.specs.Attributes.{end}
 use Rattle.code_generator.specs.Oneofs.{plain-fields, oneof-fields, append-oneofs}
 use Rattle.code_generator.specs.Enums.{append-enums}
 use Rattle.code_generator.specs.Generate.{has-module, push-mod, append-struct, append-messages}
-use Rattle.text_laws.specs.Each.{Each}
-use Rattle.text_laws.specs.Described.{From, FieldIs, MessageIs, Described}
+use Rattle.text_laws.specs.Pairwise.{Pairwise}
+use Rattle.text_laws.specs.Described.{MessageIs, Described}
 use Rattle.text_laws.specs.EnumLaws.{enums-are}
 use Rattle.text_laws.specs.MemberLaws.{plain-numbers}
 use Rattle.text_laws.specs.NestedLaws.{Siblings, siblings-fit, module-is}
-use Rattle.text_laws.specs.FieldLaws.{FieldFits, PlainIs, fields-are}
+use Rattle.text_laws.specs.FieldLaws.{FieldFits, PlainIs, plain-rows, fields-are}
 use Rattle.text_laws.specs.OneofLaws.{oneof-texts-are, oneof-field-texts-are}
 
 pick-not : (test : Bool) (x : Bytes) → pick test [] x ≡ pick (not test) x []
@@ -39,18 +39,14 @@ module _ (rs : List Setting) (set messages t : List ℕ) where
   abbrev ds : List FileDescriptor
   ds = decode-set set
 
-  with-fits : (full : Bytes) (nested : Forest MessageDescriptor) (k : ℕ) (fs : List FieldDescriptor) → From (FieldIs rs set messages t full nested) k fs → Every (FieldFits full) fs → From (PlainIs rs set messages t full nested) k fs
-  with-fits full nested k [] h fit = tt
-  with-fits full nested k (f ∷ fs) h fit = (record { row = h .0; fits = fit .0 }, with-fits full nested (suc k) fs (h .1) (fit .1))
-
   -- the fields in no oneof of message i, whose part p is
   pub plain-of : (full : Bytes) (nested : Forest MessageDescriptor) (i : ℕ) (p : Bytes) → Every (FieldFits full) (decode-message p .fields) → MessageIs rs set messages t full (decode-message p) nested i
-      → Each (PlainIs rs set messages t full nested) (members messages t 0 i p) (plain-fields (decode-message p .fields))
+      → Pairwise (PlainIs rs set messages t full nested) (members messages t 0 i p) (plain-fields (decode-message p .fields))
   unfolding decode-message
   plain-of full nested i p fit has =
       rw (← (map-length decode-field (parts 2 (entries p))))
       (plain-numbers t (λ k f v. v .row .oneof) (message-row messages i .first) (decode-message p .fields)
-      (with-fits full nested (message-row messages i .first) (decode-message p .fields) (has .fields) fit))
+      (plain-rows rs set messages t full nested (message-row messages i .first) (decode-message p .fields) (has .fields) fit))
 
   -- message i, whose part p is, with so many levels below it
   module _ (proto3 : Bool) (scope : Bytes) (left i : ℕ) (p : Bytes) (fit : MessageFits scope (decode-message p))

@@ -41,7 +41,7 @@ module _ (g : Bytes → Bool) (h : MessageDescriptor → Bool) (some-of : Forest
   any-part n [] s = sym on-done
   any-part n (p ∷ ps) s = ap₂ _||_ (is p (s .0)) (any-part n ps (s .1)) ∙ sym (on-node (decode-message p) (decode-messages n (parts 3 (entries p))) (decode-messages (suc n) ps))
 
-  pub any-nested : (left : ℕ) (ps : List Bytes) → Siblings Q (decode-messages left ps) → (not (eqb left 0) && any g ps) ≡ some-of (decode-messages left ps)
+  any-nested : (left : ℕ) (ps : List Bytes) → Siblings Q (decode-messages left ps) → (not (eqb left 0) && any g ps) ≡ some-of (decode-messages left ps)
   unfolding decode-messages
   any-nested zero ps s = sym on-done
   any-nested (suc n) ps s = rw (eqb·suc-zero n) (any-part n ps s)

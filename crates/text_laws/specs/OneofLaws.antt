@@ -22,17 +22,17 @@ use Rattle.oneof_text.specs.OneofText.{oneof-text, oneof-part, oneof-texts}
 use Rattle.oneof_fields.specs.OneofFields.{oneof-of-numbers, oneof-field-text, oneof-field-part, oneof-field-texts}
 use Rattle.code_generator.specs.Piece.{flat}
 use Rattle.code_generator.specs.Oneofs.{fields-at, OneofField, meets, oneofs-from, oneof-fields, oneof-tag, oneof-line, append-oneof-field, append-oneof-fields, append-oneof, append-oneofs}
-use Rattle.text_laws.specs.Each.{Each, each-empty, each-map, each-all}
-use Rattle.text_laws.specs.Described.{From, FieldIs, MessageIs}
+use Rattle.text_laws.specs.Pairwise.{Pairwise, pairwise-empty, pairwise-map, pairwise-all}
+use Rattle.text_laws.specs.Described.{MessageIs, from-with}
 use Rattle.text_laws.specs.MemberLaws.{oneof-numbers}
 use Rattle.text_laws.specs.NestedLaws.{Siblings, conflict-is}
-use Rattle.text_laws.specs.FieldLaws.{FieldFits, VariantIs, variants-are}
+use Rattle.text_laws.specs.FieldLaws.{FieldFits, plain-rows, VariantIs, variants-are}
 
 -- ---- texts of the oneofs that are left with fields
 
 module _ (m : MessageDescriptor) (nested : Forest MessageDescriptor) where
   -- the oneof with the index x
-  abbrev pub oneof-at : ℕ → Option Bytes → OneofField
+  abbrev oneof-at : ℕ → Option Bytes → OneofField
   oneof-at x n = record { name = text n; fields = fields-at x (m .fields); has-type-name-conflict = meets m nested (text n) }
 
   module _ (texts : List OneofField → Bytes) (one : OneofField → Bytes) (on-nil : texts [] ≡ []) (on-cons : (r : OneofField) (rest : List OneofField) → texts (r ∷ rest) ≡ one r ++ texts rest) where
@@ -41,7 +41,7 @@ module _ (m : MessageDescriptor) (nested : Forest MessageDescriptor) where
     one-more true r rest = refl
     one-more false r rest = sym (on-cons r rest)
 
-    pub walked-is : (g : ℕ → Bytes → Bytes) (Q : Option Bytes → Type 0)
+    walked-is : (g : ℕ → Bytes → Bytes) (Q : Option Bytes → Type 0)
         → ((x : ℕ) (q : Bytes) → Q (decode-oneof q) → g x q ≡ pick (is-empty (fields-at x (m .fields))) [] (one (oneof-at x (decode-oneof q))))
         → (x : ℕ) (qs : List Bytes) → Every Q (map decode-oneof qs) → walked g (λ x q. suc x) x qs ≡ texts (oneofs-from m nested x (map decode-oneof qs))
     unfolding walked oneofs-from
@@ -64,28 +64,25 @@ module _ (rs : List Setting) (set messages t : List ℕ) (full : Bytes) where
   ds = decode-set set
 
   -- one oneof, by the numbers of its fields
-  module _ (nested : Forest MessageDescriptor) (x : OneofField) (fit : NameFits full (x .name)) {ks : List ℕ} (hs : Each (VariantIs rs set messages t full nested (x .name)) ks (x .fields)) where
+  module _ (nested : Forest MessageDescriptor) (x : OneofField) (fit : NameFits full (x .name)) {ks : List ℕ} (hs : Pairwise (VariantIs rs set messages t full nested (x .name)) ks (x .fields)) where
     oneof-is : (d : ℕ) → flat (oneof-text rs set messages t d full (x .name) (x .has-type-name-conflict) ks) ≡ flat (append-oneof rs ds d full x)
     unfolding oneof-text append-oneof
     oneof-is d =
-        rw (fit .whole,
-        each-all (λ (k : ℕ). field-row t k .copy) (can-field-derive-copy rs ds full) (λ k f h. h .row .copy) hs,
-        each-all (λ (k : ℕ). field-row t k .eq) (can-field-derive-eq ds full) (λ k f h. h .row .eq) hs,
-        variants-are rs set messages t full nested (suc d) x hs)
+        rw (
+          fit .whole,
+          pairwise-all (λ (k : ℕ). field-row t k .copy) (can-field-derive-copy rs ds full) (λ k f h. h .plain .row .copy) hs,
+          pairwise-all (λ (k : ℕ). field-row t k .eq) (can-field-derive-eq ds full) (λ k f h. h .plain .row .eq) hs,
+          variants-are rs set messages t full nested (suc d) x hs,
+        )
 
     by-numbers : oneof-of-numbers rs set messages t (x .name) (x .has-type-name-conflict) ks ≡ x
     by-numbers =
         ap (λ (fs : List FieldDescriptor). record { name = x .name; fields = fs; has-type-name-conflict = x .has-type-name-conflict })
-        (each-map (field-at set t) (λ k f h. h .row .there) hs)
+        (pairwise-map (field-at set t) (λ k f h. h .plain .row .there) hs)
 
     oneof-field-is : (d : ℕ) (message : Bytes) → flat (oneof-field-text rs set messages t d full message (x .name) (x .has-type-name-conflict) ks) ≡ flat (append-oneof-field rs d full message x)
     unfolding oneof-field-text append-oneof-field
     oneof-field-is d message = rw (by-numbers, fit .room, any-oneof-tag full message, any-oneof-line d full message)
-
-  with-variants : (nested : Forest MessageDescriptor) (name : Bytes) (k : ℕ) (fs : List FieldDescriptor) → From (FieldIs rs set messages t full nested) k fs → Every (FieldFits full) fs → Every (FieldFits (full · name)) fs
-      → From (VariantIs rs set messages t full nested name) k fs
-  with-variants nested name k [] h fit there = tt
-  with-variants nested name k (f ∷ fs) h fit there = (record { row = h .0; fits = fit .0; fits-there = there .0 }, with-variants nested name (suc k) fs (h .1) (fit .1) (there .1))
 
 -- ---- the oneofs of message i, whose part p is, with so many levels below it
 
@@ -104,11 +101,13 @@ module _ (rs : List Setting) (set messages t : List ℕ) (scope : Bytes) (d left
   abbrev Fits : Option Bytes → Type 0
   Fits = OneofFits full m
 
-  variants-of : (x : ℕ) (n : Option Bytes) → Fits n → Each (VariantIs rs set messages t full nested (text n)) (members messages t (suc x) i p) (fields-at x (m .fields))
+  variants-of : (x : ℕ) (n : Option Bytes) → Fits n → Pairwise (VariantIs rs set messages t full nested (text n)) (members messages t (suc x) i p) (fields-at x (m .fields))
   unfolding decode-message
   variants-of x n h =
+      let k = message-row messages i .first in
+      let rows = plain-rows rs set messages t full nested k (m .fields) (has .fields) (fit .fields) in
       rw (← (map-length decode-field (parts 2 (entries p))))
-      (oneof-numbers t (λ k f v. v .row .oneof) x (message-row messages i .first) (m .fields) (with-variants rs set messages t full nested (text n) (message-row messages i .first) (m .fields) (has .fields) (fit .fields) (h .fields)))
+      (oneof-numbers t (λ k f v. v .plain .row .oneof) x k (m .fields) (from-with (FieldFits (full · text n)) (λ k f v q. record { plain = v; fits = q }) k (m .fields) rows (h .fields)))
 
   abbrev deeper : Bool
   deeper = not (eqb left 0)
@@ -117,13 +116,13 @@ module _ (rs : List Setting) (set messages t : List ℕ) (scope : Bytes) (d left
   unfolding oneof-part cut-camel
   part-is x q h =
       let hs = variants-of x (decode-oneof q) h in
-      rw (conflict-is (name-in q) (h .own .camel) scope left p fit s, oneof-is rs set messages t full nested (oneof-at m nested x (decode-oneof q)) (h .own) hs d, each-empty hs)
+      rw (conflict-is (name-in q) (h .own .camel) scope left p fit s, oneof-is rs set messages t full nested (oneof-at m nested x (decode-oneof q)) (h .own) hs d, pairwise-empty hs)
 
   field-part-is : (x : ℕ) (q : Bytes) → Fits (decode-oneof q) → oneof-field-part rs set messages t d full deeper i p x q ≡ pick (is-empty (fields-at x (m .fields))) [] (flat (append-oneof-field rs d full (text (m .name)) (oneof-at m nested x (decode-oneof q))))
   unfolding oneof-field-part decode-message decode-oneof cut-camel
   field-part-is x q h =
       let hs = variants-of x (decode-oneof q) h in
-      rw (conflict-is (name-in q) (h .own .camel) scope left p fit s, oneof-field-is rs set messages t full nested (oneof-at m nested x (decode-oneof q)) (h .own) hs d (name-in p), each-empty hs)
+      rw (conflict-is (name-in q) (h .own .camel) scope left p fit s, oneof-field-is rs set messages t full nested (oneof-at m nested x (decode-oneof q)) (h .own) hs d (name-in p), pairwise-empty hs)
 
   pub oneof-texts-are : oneof-texts rs set messages t d full deeper i p ≡ flat (append-oneofs rs (decode-set set) d full (oneof-fields m nested))
   unfolding oneof-texts append-oneofs decode-message

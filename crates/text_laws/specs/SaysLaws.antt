@@ -27,9 +27,10 @@ use Rattle.text_laws.specs.Described.{Below, From, FieldIs, MessageIs, D
 
 from-places : (P : ℕ → FieldDescriptor → Type 0) (k : ℕ) (fs : List FieldDescriptor) → ((f : FieldDescriptor) (j : ℕ) → At f fs j → P (k + j) f) → From P k fs
 from-places P k [] h = tt
-from-places P k (f ∷ fs) h =
-    (subst (λ (n : ℕ). P n f) (let e : k + 0 ≡ k = omega arith in e) (h f 0 (first refl)),
-    from-places P (suc k) fs (λ g j p. subst (λ (n : ℕ). P n g) (let e : k + suc j ≡ suc k + j = omega arith in e) (h g (suc j) (next p))))
+from-places P k (f ∷ fs) h = (
+  subst (λ (n : ℕ). P n f) (let e : k + 0 ≡ k = omega arith in e) (h f 0 (first refl)),
+  from-places P (suc k) fs (λ g j p. subst (λ (n : ℕ). P n g) (let e : k + suc j ≡ suc k + j = omega arith in e) (h g (suc j) (next p))),
+)
 
 module _ {A : Type 0} (P : A → Type 0) where
   every-left : (xs ys : List A) → Every P (xs ++ ys) → Every P xs
