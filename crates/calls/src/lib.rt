@@ -1,0 +1,1 @@
+// What the bench's calls give: specs/.

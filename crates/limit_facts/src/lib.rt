@@ -1,0 +1,1 @@
+// What a set has that passes no limit: specs/Within.

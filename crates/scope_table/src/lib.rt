@@ -1,0 +1,1 @@
+// Document 01's table of examples, as one theorem: specs/ScopeTable.
