@@ -20,7 +20,9 @@ use Rattle.joined.specs.Joined.{fits}
 use Rattle.code_generator.specs.Piece.{flat}
 use Rattle.code_generator.specs.Attributes.{append-field-attributes}
 use Rattle.code_generator.specs.Enums.{value-number, is-used, mappings-from, build-enum-value-mappings, variant-lines, enum-variant, enum-variants, enum-declaration, enum-impl, append-enum, append-enums}
-use Rattle.enum_text.specs.EnumText.{values-fit, enum-fits, variant-text, value-text, value-texts, declaration-text, written-text, enum-text, enum-texts}
+use Rattle.enum_arms.specs.ValueText.{variant-text, value-text, value-texts}
+use Rattle.enum_declaration.specs.DeclarationText.{declaration-text}
+use Rattle.enum_text.specs.EnumText.{values-fit, enum-fits, written-text, enum-text, enum-texts}
 
 -- what holds of all values holds of those that are kept
 pub all-kept : (p : ValueDescriptor → Bool) (us : List ℕ) (vs : List ValueDescriptor) → all p vs ≡ true → all p (mappings-from us vs) ≡ true

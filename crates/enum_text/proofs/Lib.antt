@@ -1,5 +1,3 @@
-pub mod KeptLaws
-pub mod ValueLaws
 pub mod WalkLaws
 pub mod EnumLaws
 pub mod OverlapLaws

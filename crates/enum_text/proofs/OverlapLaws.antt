@@ -32,7 +32,7 @@ use Rattle.joined.specs.Joined as joined
 use Rattle.code_generator.specs.Piece.{spelt, variant}
 use Rattle.code_generator.specs.Enums.{build-enum-value-mappings, generated-variant-name}
 use Rattle.code_generator.specs.Refusals.{overlap, generated-names, enum-overlaps}
-use Rattle.enum_text.specs.Kept.{marked}
+use Rattle.enum_values.specs.Kept.{marked}
 use Rattle.enum_text.specs.EnumText.{values-fit, enum-fits, first-values}
 use Rattle.enum_text.specs.Overlap.{variant-name, has-room, names, asked, names-from, enum-meets, meets-fully}
 use Rattle.enum_text.proofs.EnumLaws.{all-kept}

@@ -13,7 +13,7 @@ use Rattle.wire.specs.declared.Record.{Record}
 use Rattle.wire.specs.declared.Step.{Step}
 use Rattle.wire.specs.declared.Step.the-variants.{End, Fault, Found}
 use Rattle.descriptor.specs.Descriptor.{Bytes, EnumDescriptor, ValueDescriptor}
-use Rattle.descriptor.specs.Decode.{bytes-in, decode-value, decode-enum, decode-oneof}
+use Rattle.descriptor.specs.Decode.{bytes-in, decode-enum, decode-oneof}
 use Rattle.descriptor.specs.Views.{text-of, name-in}
 use Rattle.descriptor.specs.declared.Text.{Text}
 use Rattle.parts.proofs.PartLaws.{parts-from, parts-end, parts-fault, parts-skip, parts-found}
@@ -23,13 +23,13 @@ use Rattle.name_rules.specs.Accessors.{text}
 use Rattle.name_rules.specs.FullNames.{_·_}
 use Rattle.name_rules.proofs.ViewedLaws.{oneof-is}
 use Rattle.joined.specs.Joined.{max-path, fits, has-room, no-room, held}
-use Rattle.code_generator.specs.Enums.{value-number, build-enum-value-mappings}
+use Rattle.code_generator.specs.Enums.{build-enum-value-mappings}
 use Rattle.code_generator.specs.Refusals.{overlap}
 use Rattle.enum_text.specs.Overlap.{names, enum-meets}
-use Rattle.enum_text.specs.Kept.{no-values, note, noted, values-in, marked-in}
-use Rattle.enum_text.specs.declared.Kept.{Kept}
+use Rattle.enum_values.specs.Kept.{no-values, noted, values-in, marked-in}
+use Rattle.enum_values.specs.declared.Kept.{Kept}
 use Rattle.enum_text.specs.EnumText.{first-values, written-text, enum-text, enum-texts}
-use Rattle.enum_text.proofs.KeptLaws.{kept-values}
+use Rattle.enum_values.proofs.KeptLaws.{kept-values}
 
 -- the values that are kept of an enum's part
 pub kept-in : (s : List ℕ) (x : Kept) → x ≡ noted no-values (values-in s) → marked-in (x .marks) s ≡ build-enum-value-mappings (first-values (decode-enum s))
@@ -70,12 +70,11 @@ module _ (scope : Bytes) (e : EnumDescriptor) (own : Bytes) (is : own ≡ text (
       unfolding enum-text
       enum-taken d q = rw (full-fits h, ← is-taken, q)
 
-      pub enum-there : (d : ℕ) → r ≡ false → (k : ℕ) → k ≡ d → written-text rs k (take (n - 0) (drop 0 t')) own (build-enum-value-mappings (first-values e)) ≡ enum-text rs d scope e
+      pub enum-there : (d : ℕ) → r ≡ false → written-text rs d (take (n - 0) (drop 0 t')) own (build-enum-value-mappings (first-values e)) ≡ enum-text rs d scope e
       unfolding enum-text
-      enum-there d q k same =
+      enum-there d q =
           rw (full-fits h, ← is-taken, q)
-          (ap (λ (x : ℕ). written-text rs x (take (n - 0) (drop 0 t')) own (build-enum-value-mappings (first-values e))) same
-          ∙ ap₂ (λ (x y : Bytes). written-text rs d x y (build-enum-value-mappings (first-values e))) (full-held h) is)
+          (ap₂ (λ (x y : Bytes). written-text rs d x y (build-enum-value-mappings (first-values e))) (full-held h) is)
 
       pub meets-taken : r ≡ true → false ≡ enum-meets rs scope e
       unfolding enum-meets choose
@@ -108,24 +107,3 @@ module _ (rs : List Setting) (d : ℕ) (scope : Bytes) where
       pub enums-more : f .number ≡ number → (x : List ℕ) → x ≡ bytes-in (value-of s f) → enums-from number s at ≡ enum-text rs d scope (decode-enum x) ++ enums-from number s (f .next)
       unfolding enum-texts
       enums-more q x ex = rw (parts-found number s at r e f is q, ex)
-
--- ---- which values are kept, from a record on
-abbrev pub noted-from : List ℕ → ℕ → Kept → Kept
-noted-from s at x = noted x (map decode-value (parts-from 2 s at))
-
-module _ (s : List ℕ) (at : ℕ) (r : Step) (e : r ≡ stepAt s at) (x : Kept) where
-  pub noted-end : r ≡ End → x ≡ noted-from s at x
-  unfolding noted
-  noted-end is = rw (parts-end 2 s at r e is)
-
-  pub noted-fault : (key : ℕ) → r ≡ Fault key → x ≡ noted-from s at x
-  unfolding noted
-  noted-fault key is = rw (parts-fault 2 s at r e key is)
-
-  module _ (f : Record) (is : r ≡ Found f) where
-    pub noted-skip : (f .number ≡ 2 → ⊥) → noted-from s (f .next) x ≡ noted-from s at x
-    noted-skip ne = rw (parts-skip 2 s at r e f is ne)
-
-    pub noted-value : f .number ≡ 2 → (p : List ℕ) → p ≡ bytes-in (value-of s f) → (n : ℕ) → n ≡ value-number (decode-value p) → (y : Kept) → y ≡ note n x → noted-from s (f .next) y ≡ noted-from s at x
-    unfolding noted
-    noted-value q p there n number y turn = rw (parts-found 2 s at r e f is q, turn, number, there)

@@ -18,7 +18,7 @@ use Rattle.joined.specs.Joined.{max-path, fits}
 use Rattle.code_generator.specs.Piece.{spelt}
 use Rattle.code_generator.specs.Enums.{build-enum-value-mappings, generated-variant-name}
 use Rattle.code_generator.specs.Refusals.{overlap}
-use Rattle.enum_text.specs.Kept.{marked}
+use Rattle.enum_values.specs.Kept.{marked}
 use Rattle.enum_text.specs.EnumText.{first-values, enum-fits}
 
 module _ (rs : List Setting) (enum : Bytes) where

@@ -1,8 +1,7 @@
 // Refusal 8: two variants of a written enum have the same name.
-use crate::build_enum_value_mappings;
-use crate::is_marked;
-use crate::put_variant_name;
-use crate::text_in;
+use enum_values::build_enum_value_mappings;
+use enum_values::is_marked;
+use enum_values::put_variant_name;
 use wire::Step;
 ghost use mathlib.Core.Path.{_≡_};
 ghost use Prim.Native.Nat.{_≤_};
@@ -14,7 +13,7 @@ ghost use Rattle.path.specs.Forms.{among};
 ghost use Rattle.descriptor.specs.Descriptor.{Bytes};
 ghost use Rattle.descriptor.specs.Decode.{decode-value, decode-enum};
 ghost use Rattle.code_generator.specs.Refusals.{overlap};
-ghost use Rattle.enum_text.specs.Kept.{marked-in};
+ghost use Rattle.enum_values.specs.Kept.{marked-in};
 ghost use Rattle.enum_text.specs.Overlap.{variant-name, asked, names, names-from, enum-meets};
 
 // The variant's name of the value whose part p is.
@@ -24,7 +23,7 @@ fn put_name(t: &mut [u8], o: &[u8], own: &[u8], p: &[u8]) -> usize
     let end = p.len();
     let v = descriptor::value_view(p, 0, end);
     let name = v.name;
-    put_variant_name(t, 0, o, own, text_in(p, name))
+    put_variant_name(t, 0, o, own, accessors::text(p, name))
 }
 
 // Is this the name of the value whose part p is? Only where it is kept.
@@ -141,7 +140,7 @@ pub fn enum_overlaps(s: &[u8], o: &[u8], scope: &[u8]) -> bool
 {
     let end = s.len();
     let name = descriptor::name_view(s, 0, end);
-    let own = text_in(s, name);
+    let own = accessors::text(s, name);
     let mut path = [0u8; 512];
     let n = joined::join(&mut path, scope, own);
     if n <= 512 {

@@ -9,8 +9,8 @@ use Rattle.enum_text.proofs.append_enum.Tie as tie
 name-view-requires : tie.Need-name-view-requires
 name-view-requires c κs = search needs
 
-text-in-requires : tie.Need-text-in-requires
-text-in-requires c κs = search needs
+text-requires : tie.Need-text-requires
+text-requires c κs = search needs
 
 slice-aggregate-join : tie.Need-slice-aggregate-join
 slice-aggregate-join c = search needs
@@ -31,10 +31,7 @@ is-taken-requires : tie.Need-is-taken-requires
 is-taken-requires c κs = search needs
 
 returns : tie.Need-returns
-returns c = named (enum-taken _ _ _ (own-name _ _ (c .before .before .before .before .before .before .before .before .before .name-view .ensures) _ (c .before .before .before .before .before .before .before .before .text-in .ensures)) (c .before .before .before .before .before .before .join .ensures) (length-replicate {A = ℕ} 512 0) _ (c .before .before .before .before .if1 .taken) _ (c .before .is-taken .ensures) _ (c .if2 .taken)) (none (search needs))
-
-wide-requires : tie.Need-wide-requires
-wide-requires c κs = search needs
+returns c = named (enum-taken _ _ _ (own-name _ _ (c .before .before .before .before .before .before .before .before .before .name-view .ensures) _ (c .before .before .before .before .before .before .before .before .text .ensures)) (c .before .before .before .before .before .before .join .ensures) (length-replicate {A = ℕ} 512 0) _ (c .before .before .before .before .if1 .taken) _ (c .before .is-taken .ensures) _ (c .if2 .taken)) (none (search needs))
 
 sub-append-written : tie.Need-sub-append-written
 sub-append-written c = search needs
@@ -52,17 +49,17 @@ same-length : tie.Need-same-length
 same-length c = search needs
 
 returns-2 : tie.Need-returns-2
-returns-2 c = named (enum-there _ _ _ (own-name _ _ (c .before .before .before .before .before .before .before .before .before .before .before .before .before .before .before .before .name-view .ensures) _ (c .before .before .before .before .before .before .before .before .before .before .before .before .before .before .before .text-in .ensures)) (c .before .before .before .before .before .before .before .before .before .before .before .before .before .join .ensures) (length-replicate {A = ℕ} 512 0) _ (c .before .before .before .before .before .before .before .before .before .before .before .if1 .taken) _ (c .before .before .before .before .before .before .before .before .is-taken .ensures) _ (c .before .before .before .before .before .before .before .if2 .left) _ (c .before .before .before .before .before .before .wide .ensures .0)) (c .before .before .append-written .ensures)
+returns-2 c = named (enum-there _ _ _ (own-name _ _ (c .before .before .before .before .before .before .before .before .before .before .before .before .before .before .before .name-view .ensures) _ (c .before .before .before .before .before .before .before .before .before .before .before .before .before .before .text .ensures)) (c .before .before .before .before .before .before .before .before .before .before .before .before .join .ensures) (length-replicate {A = ℕ} 512 0) _ (c .before .before .before .before .before .before .before .before .before .before .if1 .taken) _ (c .before .before .before .before .before .before .before .is-taken .ensures) _ (c .before .before .before .before .before .before .if2 .left)) (c .before .before .append-written .ensures)
 
 returns-3 : tie.Need-returns-3
-returns-3 c = named (enum-unfit _ _ _ (own-name _ _ (c .before .before .before .before .before .name-view .ensures) _ (c .before .before .before .before .text-in .ensures)) (c .before .before .join .ensures) (length-replicate {A = ℕ} 512 0) _ _ (c .if1 .left)) (none (search needs))
+returns-3 c = named (enum-unfit _ _ _ (own-name _ _ (c .before .before .before .before .before .name-view .ensures) _ (c .before .before .before .before .text .ensures)) (c .before .before .join .ensures) (length-replicate {A = ℕ} 512 0) _ _ (c .if1 .left)) (none (search needs))
 
 pub append-enum-spec : {M : Type 1} → statement M
 append-enum-spec =
     tie.close
     (tie.spec
     name-view-requires
-    text-in-requires
+    text-requires
     slice-aggregate-join
     join-requires
     sub-is-taken
@@ -70,7 +67,6 @@ append-enum-spec =
     part-is-taken-end
     is-taken-requires
     returns
-    wide-requires
     sub-append-written
     part-append-written-start
     part-append-written-end
