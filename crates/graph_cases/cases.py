@@ -1,6 +1,5 @@
-# Makes `stdin` and `stdout`: sets of fields, and their answers by the functions of message_graph.rs and context.rs.
-import os
-import random
+# The functions of message_graph.rs and context.rs over sets of fields. oracle/graph_cases writes `stdin` and `stdout` with it: the
+# answers on large sets are these, those on small ones the Rust's.
 import sys
 
 GROUP, MESSAGE, REPEATED = 10, 11, 3
@@ -57,6 +56,14 @@ class Set:
             return self.message("eq", target)
         return kind in EQ
 
+    # which fields are boxed, and which of the first messages can derive Copy and Eq
+    def answers(self, messages=64):
+        return (
+            [self.should_box(row) for row in self.rows],
+            [self.message("copy", x) for x in range(messages)],
+            [self.message("eq", x) for x in range(messages)],
+        )
+
 
 def large(case):
     rows = []
@@ -82,26 +89,11 @@ def random_set(r):
     return Set(rows + [(255, 0, 5, 1, 0)] * (64 - n))
 
 
-def digits(flags):
-    return "".join("1" if f else "0" for f in flags)
+def line(answers):
+    return " ".join("".join("1" if f else "0" for f in flags) for flags in answers)
 
 
-def main():
+def large_lines():
+    """How many fields are boxed, and how many messages can derive Copy and Eq."""
     sys.setrecursionlimit(10000)
-    here = os.path.dirname(os.path.abspath(__file__))
-    lines, columns = [], []
-    for case in range(8):
-        s = large(case)
-        answers = [[s.should_box(row) for row in s.rows], [s.message("copy", x) for x in range(256)], [s.message("eq", x) for x in range(256)]]
-        lines.append(" ".join(str(sum(a)) for a in answers))
-    r = random.Random(1)
-    for _ in range(100):
-        s = random_set(r)
-        columns.extend(bytes(row[k] for row in s.rows) for k in range(5))
-        answers = [[s.should_box(row) for row in s.rows], [s.message("copy", x) for x in range(64)], [s.message("eq", x) for x in range(64)]]
-        lines.append(" ".join(digits(a) for a in answers))
-    open(os.path.join(here, "stdin"), "wb").write(b"".join(columns))
-    open(os.path.join(here, "stdout"), "w").write("\n".join(lines) + "\n")
-
-
-main()
+    return [" ".join(str(sum(a)) for a in large(case).answers(256)) for case in range(8)]

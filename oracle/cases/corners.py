@@ -321,7 +321,28 @@ def maps():
     yield [file([inner])], [(2, ".a.b.M.value", "")]
 
 
+def oneof_bytes():
+    """A bytes setting for a oneof's field: at the message's path and at the oneof's."""
+    inner = Message(
+        "M",
+        [field("f", BYTES, oneof_index=0), field("g", BYTES, number=2, oneof_index=0), field("h", BYTES, number=3)],
+        oneofs=["o"],
+    )
+    for paths in ([".a.b.M.f"], [".a.b.M.o.f"], [".a.b.M.o"], [".a.b.M.f", ".a.b.M.o.g"], ["o.f"]):
+        yield [file([inner])], [(2, path, "") for path in paths]
+
+
+def overlaps_taken():
+    """Variants that overlap in an enum that isn't written: an extern path takes it, or a message around it."""
+    enum = Enum("Mode", [Value("MODE_ON", 0), Value("ModeOn", 1), Value("ON", 2)])
+    for whole in ([], [(11, "", "")]):
+        yield [file(enums=[enum])], [(1, ".a.b.Mode", "x::Mode")] + whole
+        yield [file([Message("M", enums=[enum])])], [(1, ".a.b.M.Mode", "x::Mode")] + whole
+        yield [file([Message("M", nested=[Message("N", enums=[enum])])])], [(1, ".a.b.M", "x::M")] + whole
+        yield [file(enums=[enum])], [(1, ".a", "x")] + whole
+
+
 def corner_cases():
-    for group in (names, defaults, paths, externs, links, forms, nesting, maps):
+    for group in (names, defaults, paths, externs, links, forms, nesting, maps, oneof_bytes, overlaps_taken):
         for files, rows in group():
             yield encode(files), options(rows)

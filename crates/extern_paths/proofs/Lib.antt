@@ -1,8 +1,4 @@
-pub mod SplitLaws
 pub mod WordLaws
-pub mod PartLaws
-pub mod CutLaws
-pub mod GapLaws
-pub mod DoubleLaws
+pub mod ByLaws
 pub mod TakerLaws
 pub mod Taken

@@ -22,8 +22,8 @@ use Rattle.options.specs.declared.Found.{Found}
 use Rattle.path.specs.Forms.{before-dots, filled, prefixes, among}
 use Rattle.path.specs.PathMap.{first-with, find-best}
 use Rattle.path.proofs.FormLaws.{prefix-empty, prefix-long, prefix-no-dot, prefix-same}
-use Rattle.extern_paths.proofs.SplitLaws.{by-test}
-use Rattle.extern_paths.specs.Split.{begins, split-behind, split}
+use Rattle.split.proofs.SplitLaws.{by-test}
+use Rattle.split.specs.Split.{begins, split-behind, split}
 use Rattle.extern_paths.specs.ExternPaths.{extern, extern-paths, taken, first-segment, resolve-by, resolve-ident, extern-text}
 
 -- document 01: `.g` to `crate::MyMod` makes `.g.In.msg` `crate::my_mod::r#in::Msg`

@@ -13,7 +13,7 @@ use lib.Seq.{getD-append-add}
 use borrow.Author.Tests.{eq-eqb, ne-eqb}
 use Rattle.base.specs.Choose.{choose, choose-case}
 use Rattle.base.specs.Bytes.{b, same}
-use Rattle.options.specs.Settings.{Setting, row-count, bodies, settings-from, settings, Setting, row, setting-of, row-by, row-number, between, first-of-kind, value-of, prost-path}
+use Rattle.options.specs.Settings.{Setting, row-count, bodies, path-length, value-length, settings-from, settings, row, setting-of, row-by, row-number, between, first-of-kind, value-of, prost-path}
 use Rattle.options.specs.declared.Row.{Row}
 use Rattle.options.specs.declared.Found.{Found}
 use Rattle.options.proofs.RowLaws.{settings-step, row-by-end, row-by-step, value-is, given, value-in}
@@ -22,10 +22,18 @@ use Rattle.path.specs.PathMap.{find-best}
 use Rattle.path.specs.Worth.{Form, weighed, worth-in, worth-of, improve, best-of, none-yet, found-of}
 use Rattle.path.specs.declared.Best.{Best}
 use Rattle.path.proofs.BestLaws.{found-best, weighed-below, few-forms}
-use Rattle.extern_paths.specs.Split.{begins, split-behind, split}
+use Rattle.split.specs.Split.{begins, split-behind, split}
 use Rattle.extern_paths.specs.ExternPaths.{extern, prost-types, if-given, extern-paths, taker, taken, resolve-by, resolve-ident, extern-text}
-use Rattle.extern_paths.specs.Parts.{best-word, prost-type, path-words, value-words, prost-type-number}
-use Rattle.extern_paths.proofs.DoubleLaws.{length-settings}
+use Rattle.extern_paths.specs.ProstTypes.{best-word, prost-type, path-words, value-words, prost-type-number}
+
+length-from : (o : List ℕ) (k i at : ℕ) → length (settings-from o k i at) ≡ k
+unfolding settings-from
+length-from o zero i at = refl
+length-from o (suc k) i at = ap suc (length-from o k (i + 1) (at + path-length o i + value-length o i))
+
+pub length-settings : (o : List ℕ) → length (settings o) ≡ row-count o
+unfolding settings
+length-settings o = length-from o (row-count o) 0 (bodies o)
 
 -- ---- the table of prost types
 -- the extern paths of two lists of words

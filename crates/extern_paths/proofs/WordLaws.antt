@@ -1,62 +1,21 @@
--- A text gone through word by word. Assumes nothing.
-use mathlib.Core.Path.{_≡_, refl, sym, ap, _∙_}
-use mathlib.Core.Bool.{Bool, true, false, _||_}
-use mathlib.Core.List.{List, [], _∷_}
-use Prim.Native.Nat.{ℕ, zero, suc, _+_, _-_, _≤_, _<_}
+-- The best word of a text, gone through word by word. Assumes nothing.
+use mathlib.Core.Path.{_≡_, refl}
+use mathlib.Core.List.{List}
+use Prim.Native.Nat.{ℕ, _+_, _-_, _≤_, _<_}
 use native.Mathlib.Omega.{arith}
-use lib.ListN.{length, take, drop, getD}
-use Rattle.base.specs.Bytes.{b, same}
-use Rattle.options.specs.Settings.{between}
-use Rattle.path.specs.Forms.{among}
+use lib.ListN.{length, take, drop}
+use Rattle.base.specs.Bytes.{b}
 use Rattle.path.specs.Worth.{Form, worth-in, improve}
 use Rattle.path.specs.declared.Best.{Best}
-use Rattle.extern_paths.specs.Split.{split}
-use Rattle.extern_paths.specs.Parts.{IsWord, best-word}
-use Rattle.extern_paths.specs.declared.split.Part.{Part}
-use Rattle.extern_paths.proofs.SplitLaws.{Parted, parts-last, parts-more}
+use Rattle.split.specs.Split.{split}
+use Rattle.split.proofs.SplitLaws.{Parted, parts-last, parts-more}
+use Rattle.extern_paths.specs.ProstTypes.{best-word}
 
-or-none : (t : Bool) → (t || false) ≡ t
-or-none true = refl
-or-none false = refl
+module _ (s : List ℕ) (from e : ℕ) (d : Parted (b " ") s from e) (fs : List Form) (m : Best) (k : ℕ) (w : ℕ) (q : w ≡ worth-in fs (take (e - from) (drop from s))) where
+  pub best-more : e < length s → (n : Best) → n ≡ improve m k w → best-word fs n (k + 1) (split (b " ") (drop (e + 1) s)) ≡ best-word fs m k (split (b " ") (drop from s))
+  unfolding best-word
+  best-more l n p = rw (parts-more (b " ") s from e (omega arith) d l, p, q) refl
 
-module _ (s : List ℕ) (from e : ℕ) (d : Parted (b " ") s from e) where
-  -- ---- is x one of the words?
-  module _ (x : List ℕ) (r : Bool) (w : r ≡ same x (take (e - from) (drop from s))) where
-    pub among-last : length s ≤ e → r ≡ among x (split (b " ") (drop from s))
-    unfolding among
-    among-last l = rw (parts-last (b " ") s from e (omega arith) d l, ← w) (sym (or-none r))
-
-    pub among-hit : e < length s → r ≡ true → true ≡ among x (split (b " ") (drop from s))
-    unfolding among
-    among-hit l t = rw (parts-more (b " ") s from e (omega arith) d l, ← w, t) refl
-
-    pub among-more : e < length s → r ≡ false → among x (split (b " ") (drop (e + 1) s)) ≡ among x (split (b " ") (drop from s))
-    unfolding among
-    among-more l t = rw (parts-more (b " ") s from e (omega arith) d l, ← w, t) refl
-
-  -- ---- word j, where word i stands here
-  module _ (i j : ℕ) where
-    pub word-hit : e < length s → i ≡ j → take (e - from) (drop from s) ≡ getD (split (b " ") (drop from s)) (j - i) []
-    word-hit l q = let k : j - i ≡ 0 = omega arith in rw (parts-more (b " ") s from e (omega arith) d l, k) refl
-
-    pub word-more : e < length s → (i ≡ j → ⊥) → i ≤ j → getD (split (b " ") (drop (e + 1) s)) (j - (i + 1)) [] ≡ getD (split (b " ") (drop from s)) (j - i) []
-    word-more l q h = let k : j - i ≡ suc (j - (i + 1)) = omega arith in rw (parts-more (b " ") s from e (omega arith) d l, k) refl
-
-    pub word-last : length s ≤ e → i ≡ j → take (e - from) (drop from s) ≡ getD (split (b " ") (drop from s)) (j - i) []
-    word-last l q = let k : j - i ≡ 0 = omega arith in rw (parts-last (b " ") s from e (omega arith) d l, k) refl
-
-    pub word-none : length s ≤ e → (i ≡ j → ⊥) → i ≤ j → between s e e ≡ getD (split (b " ") (drop from s)) (j - i) []
-    word-none l q h =
-        let k : j - i ≡ suc (j - (i + 1)) = omega arith in
-        let z : e - e ≡ 0 = omega arith in
-        rw (parts-last (b " ") s from e (omega arith) d l, k, z) refl
-
-  -- ---- the best word
-  module _ (fs : List Form) (m : Best) (k : ℕ) (w : ℕ) (q : w ≡ worth-in fs (take (e - from) (drop from s))) where
-    pub best-more : e < length s → (n : Best) → n ≡ improve m k w → best-word fs n (k + 1) (split (b " ") (drop (e + 1) s)) ≡ best-word fs m k (split (b " ") (drop from s))
-    unfolding best-word
-    best-more l n p = rw (parts-more (b " ") s from e (omega arith) d l, p, q) refl
-
-    pub best-last : length s ≤ e → improve m k w ≡ best-word fs m k (split (b " ") (drop from s))
-    unfolding best-word
-    best-last l = rw (parts-last (b " ") s from e (omega arith) d l, q) refl
+  pub best-last : length s ≤ e → improve m k w ≡ best-word fs m k (split (b " ") (drop from s))
+  unfolding best-word
+  best-last l = rw (parts-last (b " ") s from e (omega arith) d l, q) refl

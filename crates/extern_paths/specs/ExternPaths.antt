@@ -1,18 +1,18 @@
 -- extern_paths.rs: what a full name stands for that an extern path takes.
-use mathlib.Core.Bool.{Bool, true, false}
+use mathlib.Core.Bool.{Bool}
 use mathlib.Core.Option.{Option, some, none}
-use mathlib.Core.List.{List, [], _∷_, _++_, map}
+use mathlib.Core.List.{List, [], _∷_, _++_}
 use Prim.Native.Nat.{ℕ, _+_}
 use lib.ListN.{length, drop, getD}
 use Rattle.base.specs.Choose.{choose}
 use Rattle.base.specs.Bytes.{b, same}
-use Rattle.heck.specs.Case.{join}
-use Rattle.ident.specs.Ident.{to-snake, to-upper-camel}
 use Rattle.options.specs.Settings.{Setting, value-of, prost-path}
 use Rattle.options.specs.declared.Found.{Found}
 use Rattle.path.specs.Forms.{prefixes}
 use Rattle.path.specs.PathMap.{find-best}
-use Rattle.extern_paths.specs.Split.{split}
+use Rattle.split.specs.Split.{split}
+pub use Rattle.rust_paths.specs.Segments.{Segment, plain, snake, camel, written, rust-path, behind-prefix}
+unfoldable pub use Rattle.rust_paths.specs.Segments.{first-segment, extern-text}
 
 abbrev pub extern : List ℕ → List ℕ → Setting
 extern path value = record { kind = 1; path = path; value = value }
@@ -50,29 +50,6 @@ unfoldable pub taken : List Setting → List ℕ → Bool
 taken rs ident = (taker rs ident) .found
 
 -- ---- what is written for it
--- a segment: as it is, in snake case, in camel case
-pub data Segment : Type 0 where
-  plain snake camel : List ℕ → Segment
-
-abbrev pub written : Segment → List ℕ
-written (plain x) = x
-written (snake x) = to-snake x
-written (camel x) = to-upper-camel x
-
--- `crate` in first place isn't converted
-unfoldable pub first-segment : List ℕ → Segment
-first-segment x = choose (same x (b "crate")) (plain x) (snake x)
-
-abbrev pub rust-path : List (List ℕ) → List Segment
-rust-path [] = []
-rust-path (x ∷ xs) = first-segment x ∷ map snake xs
-
--- protobuf segments behind a prefix: the last is the type
-abbrev pub behind-prefix : List (List ℕ) → List Segment
-behind-prefix [] = []
-behind-prefix (x ∷ []) = camel x ∷ []
-behind-prefix (x ∷ (y ∷ xs)) = snake x ∷ behind-prefix (y ∷ xs)
-
 -- resolve_ident: by the extern path e
 unfoldable pub resolve-by : Setting → List ℕ → List Segment
 resolve-by e ident =
@@ -81,7 +58,3 @@ resolve-by e ident =
 
 unfoldable pub resolve-ident : List Setting → List ℕ → List Segment
 resolve-ident rs ident = choose (taken rs ident) (resolve-by (getD (extern-paths rs) ((taker rs ident) .number) (extern [] [])) ident) []
-
--- as bytes
-unfoldable pub extern-text : List Segment → List ℕ
-extern-text xs = join (b "::") (map written xs)

@@ -1,4 +1,3 @@
 pub mod Split
 pub mod ExternPaths
-pub mod Parts
-pub mod Doubles
+pub mod ProstTypes

@@ -1,5 +1,3 @@
 // extern_paths.rs: the extern paths, and what is written for a name that one of them takes.
-pub mod check;
-mod prost_types;
+pub mod prost_types;
 pub mod resolve;
-mod split;

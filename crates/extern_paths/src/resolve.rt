@@ -1,25 +1,26 @@
 // What extern paths make of a full name: whether one takes it, and what is written for it.
 use crate::prost_types::PATHS;
 use crate::prost_types::VALUES;
-use crate::split::begins_at;
-use crate::split::part_end;
-use crate::split::word;
 use options::Row;
 use path::Best;
+use split::begins_at;
+use split::part_end;
+use split::word;
 ghost use mathlib.Core.Path.{_≡_};
 ghost use mathlib.Core.Bool.{true, false};
 ghost use mathlib.Core.List.{_++_};
-ghost use Prim.Native.Nat.{_+_, _^_, _≤_, _<_};
-ghost use lib.ListN.{length, drop};
+ghost use Prim.Native.Nat.{_+_, _^_, _<_};
+ghost use lib.ListN.{length};
 ghost use Rattle.base.specs.Bytes.{b};
-ghost use Rattle.base.specs.Choose.{choose};
 ghost use Rattle.writer.specs.Wrote.{Wrote};
 ghost use Rattle.options.specs.Settings.{settings, row-count, setting-of, prost-path, between};
 ghost use Rattle.options.proofs.RowLaws.{Lies};
 ghost use Rattle.path.specs.Worth.{weighed, best-of, none-yet};
-ghost use Rattle.extern_paths.specs.Split.{begins, split};
-ghost use Rattle.extern_paths.specs.ExternPaths.{extern, extern-paths, taken, written, first-segment, resolve-by, resolve-ident, extern-text};
-ghost use Rattle.extern_paths.specs.Parts.{led-parts, path-text, cut, is-tail, best-word, prost-type, prost-type-number};
+ghost use Rattle.split.specs.Split.{split};
+ghost use Rattle.rust_paths.specs.Segments.{extern-text};
+ghost use Rattle.rust_paths.specs.Parts.{is-tail};
+ghost use Rattle.extern_paths.specs.ExternPaths.{extern, extern-paths, taken, resolve-by, resolve-ident};
+ghost use Rattle.extern_paths.specs.ProstTypes.{best-word, prost-type, prost-type-number};
 
 fn wide(x: u8) -> u32
     ensures { λ r. ⌜ (r ≡ x) × (r < 256) ⌝ }
@@ -83,96 +84,6 @@ pub fn is_taken(o: &[u8], ident: &[u8]) -> bool
     best.worth != 0
 }
 
-// The parts of s from a place on, each behind a `::` and in snake case; with `camel`, the last in camel case.
-fn put_parts(t: &mut [u8], at: usize, s: &[u8], start: usize, sep: &[u8], camel: bool) -> usize
-    requires { ⌜ (start ≤ length (now s)) × (0 < length (now sep)) ⌝ }
-    ensures { λ r. ⌜ Wrote (now (t .entry)) at (led-parts camel (now (sep .entry)) (drop start (now (s .entry)))) (now (t .exit)) r ⌝ }
-{
-    let mut a = at;
-    let mut from = start;
-    let mut e = part_end(s, from, sep);
-    while e < s.len() {
-        a = writer::put(t, a, b"::");
-        let named = ident::put_snake(t, a, &s[from..e]);
-        a = named.next;
-        from = e + sep.len();
-        e = part_end(s, from, sep);
-    }
-    a = writer::put(t, a, b"::");
-    if camel {
-        let last = ident::put_upper_camel(t, a, &s[from..e]);
-        return last.next;
-    }
-    let last = ident::put_snake(t, a, &s[from..e]);
-    last.next
-}
-
-// The first segment of a Rust path: `crate` isn't converted.
-fn put_first(t: &mut [u8], at: usize, x: &[u8]) -> usize
-    ensures { λ r. ⌜ Wrote (now (t .entry)) at (written (first-segment (now (x .entry)))) (now (t .exit)) r ⌝ }
-{
-    let root = base::same_bytes(x, b"crate");
-    if root {
-        return writer::put(t, at, x);
-    }
-    let named = ident::put_snake(t, at, x);
-    named.next
-}
-
-// A Rust path, its segments in snake case.
-fn put_path(t: &mut [u8], at: usize, s: &[u8]) -> usize
-    ensures { λ r. ⌜ Wrote (now (t .entry)) at (path-text (now (s .entry))) (now (t .exit)) r ⌝ }
-{
-    let e = part_end(s, 0, b"::");
-    let a = put_first(t, at, &s[0..e]);
-    if e < s.len() {
-        let next = e + 2;
-        return put_parts(t, a, s, next, b"::", false);
-    }
-    a
-}
-
-fn bytes_of(pair: bool) -> usize
-    ensures { λ r. ⌜ (r ≡ choose pair 2 1) × (0 < r) × (r < 3) ⌝ }
-{
-    if pair {
-        return 2;
-    }
-    1
-}
-
-// How much of p stands before the last separator, where a `::` follows p: all, or all but a `:` that makes one with it.
-fn cut_at(p: &[u8]) -> usize
-    ensures { λ r. ⌜ r ≡ cut (now (p .entry)) ⌝ }
-{
-    let mut i = 0;
-    while i < p.len() {
-        let alone = base::same_bytes(&p[i..], b":");
-        if alone {
-            return i;
-        }
-        let pair = begins_at(p, i, b"::");
-        let n = bytes_of(pair);
-        i = i + n;
-    }
-    i
-}
-
-// The Rust path p and q, its segments in snake case. q is empty or begins with a `::`.
-fn put_rust_path(t: &mut [u8], at: usize, p: &[u8], q: &[u8]) -> usize
-    requires { ⌜ is-tail (now q) ≡ true ⌝ }
-    ensures { λ r. ⌜ Wrote (now (t .entry)) at (path-text (now (p .entry) ++ now (q .entry))) (now (t .exit)) r ⌝ }
-{
-    if q.len() == 0 {
-        return put_path(t, at, p);
-    }
-    let e = cut_at(p);
-    let a = put_path(t, at, &p[0..e]);
-    let seen = p.len() - e;
-    let from = 2 - seen;
-    put_parts(t, a, q, from, b"::", false)
-}
-
 // What is written for a name by the extern path `path` with the value p and q.
 fn put_by(t: &mut [u8], at: usize, path: &[u8], p: &[u8], q: &[u8], ident: &[u8]) -> usize
     requires { ⌜ is-tail (now q) ≡ true ⌝ }
@@ -182,10 +93,9 @@ fn put_by(t: &mut [u8], at: usize, path: &[u8], p: &[u8], q: &[u8], ident: &[u8]
     if exact {
         return writer::put_two(t, at, p, q);
     }
-    let a = put_rust_path(t, at, p, q);
+    let a = rust_paths::put_rust_path(t, at, p, q);
     let behind = path.len() + 1;
-    let from = writer::within(behind, ident.len());
-    put_parts(t, a, ident, from, b".", true)
+    rust_paths::put_behind(t, a, ident, behind)
 }
 
 // By the value that the prost path and q make.

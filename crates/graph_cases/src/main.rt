@@ -1,7 +1,7 @@
 // Boxes, Copy and Eq of sets of fields. First sets as large as the limits allow, of which it prints how many fields are boxed, how
 // many messages can derive Copy, and how many Eq. Then each set of standard input: 64 fields as five columns of 64 bytes (owner,
 // target, type, label, boxed setting), of which it prints a digit for each field, and for each of the first 64 messages twice.
-// cases.py made these sets and what is to be printed.
+// oracle/graph_cases made these sets; what is to be printed of them is the Rust's answer, and of the large sets that of cases.py.
 
 // The messages of a large set lie in a row, with eight fields each.
 fn owner_at(i: usize) -> u8 {
@@ -165,7 +165,7 @@ fn main() {
         case += 1;
     }
     let mut sets = 0usize;
-    while sets < 100 {
+    while sets < 250 {
         if !replay() {
             return;
         }

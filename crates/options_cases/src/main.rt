@@ -2,7 +2,7 @@
 // asked, options in hex, a name, and the answer. Asked are: `o` number and place of refusal 1 or 2; `p` the row of kind 5 that
 // a path finds first, and the values of all that it finds; `e` what extern paths make of a full name.
 // A line that differs is printed.
-use extern_paths::check::Externs;
+use extern_checks::Externs;
 use options::check::Layout;
 ghost use mathlib.Core.Path.{_≡_};
 ghost use Prim.Native.Nat.{_+_, _≤_, _<_, min};
@@ -112,7 +112,7 @@ fn put_refusal(t: &mut [u8], number: u32, place: usize) -> usize {
 // Number and place of refusal 1 or 2.
 fn put_judged(t: &mut [u8], o: &[u8]) -> usize {
     match options::check::check_layout(o) {
-        Layout::Good => match extern_paths::check::check_externs(o) {
+        Layout::Good => match extern_checks::check_externs(o) {
             Externs::Good => put_refusal(t, 0, 0),
             Externs::Bad(place) => put_refusal(t, 2, place),
         },
@@ -154,7 +154,7 @@ fn put_found(t: &mut [u8], o: &[u8], path: &[u8]) -> usize {
 
 // What extern paths make of a full name.
 fn put_extern(t: &mut [u8], o: &[u8], name: &[u8]) -> usize {
-    match extern_paths::check::check_externs(o) {
+    match extern_checks::check_externs(o) {
         Externs::Good => put_resolved(t, o, name),
         Externs::Bad(_) => writer::put(t, 0, b"refused"),
     }

@@ -14,7 +14,7 @@ use Rattle.writer.specs.Text.{each}
 use Rattle.ident.specs.Ident.{to-snake, to-upper-camel}
 use Rattle.descriptor.specs.Descriptor.{Bytes}
 use Rattle.extern_paths.specs.Split.{begins, split, first-part}
-use Rattle.extern_paths.proofs.SplitLaws.{part-stops, part-goes, part-ends, Parted, spans, parts-last, parts-more}
+use Rattle.split.proofs.SplitLaws.{part-stops, part-goes, part-ends, Parted, spans, parts-last, parts-more}
 use Rattle.code_generator.specs.Piece.{through, way-text}
 use Rattle.code_generator.specs.Resolve.{local-path, ident-path, ident-type, front, last-name, skip-common, way}
 use Rattle.way.specs.Names.{names, supers, downwards, Left}

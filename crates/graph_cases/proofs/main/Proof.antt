@@ -12,10 +12,10 @@ abbrev μ-loop : tie.MeasureT-loop
 μ-loop case₀ case = 8 - case
 
 abbrev Inv-loop2 : tie.InvT-loop2
-Inv-loop2 case sets₀ sets = sets ≤ 100
+Inv-loop2 case sets₀ sets = sets ≤ 250
 
 abbrev μ-loop2 : tie.MeasureT-loop2
-μ-loop2 case sets₀ sets = 100 - sets
+μ-loop2 case sets₀ sets = 250 - sets
 
 loop-holds : tie.Need-loop-holds Inv-loop μ-loop Inv-loop2 μ-loop2
 loop-holds c = search needs

@@ -1,5 +1,5 @@
 use mathlib.Core.Path.{_∙_}
-use Rattle.extern_paths.specs.Parts.{path-words}
+use Rattle.extern_paths.specs.ProstTypes.{path-words}
 use Rattle.extern_paths.proofs.TakerLaws.{best-rows, best-all}
 use borrow.Author.Needs.{needs}
 use Rattle.extern_paths.proofs.resolve.best_extern.Statement.{statement}

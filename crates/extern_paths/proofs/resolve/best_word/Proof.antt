@@ -6,9 +6,9 @@ use Prim.Native.Nat.{_+_, _-_, _≤_}
 use lib.ListN.{length, drop}
 use Rattle.base.specs.Bytes.{b}
 use Rattle.path.specs.Worth.{weighed}
-use Rattle.extern_paths.specs.Split.{split}
-use Rattle.extern_paths.specs.Parts.{best-word}
-use Rattle.extern_paths.proofs.SplitLaws.{Parted, spans, parted-next}
+use Rattle.split.specs.Split.{split}
+use Rattle.extern_paths.specs.ProstTypes.{best-word}
+use Rattle.split.proofs.SplitLaws.{Parted, spans, parted-next}
 use Rattle.extern_paths.proofs.WordLaws.{best-more, best-last}
 use Rattle.extern_paths.proofs.resolve.best_word.Statement.{statement}
 use Rattle.extern_paths.proofs.resolve.best_word.Tie as tie

@@ -1,6 +1,5 @@
 use Rattle.writer.specs.Wrote.{_►_, named}
-use Rattle.extern_paths.proofs.SplitLaws.{drop-within}
-use Rattle.extern_paths.proofs.PartLaws.{by-itself, by-prefix}
+use Rattle.extern_paths.proofs.ByLaws.{by-itself, by-prefix}
 use borrow.Author.Needs.{needs}
 use Rattle.extern_paths.proofs.resolve.put_by.Statement.{statement}
 use Rattle.extern_paths.proofs.resolve.put_by.Tie as tie
@@ -23,20 +22,14 @@ put-rust-path-requires c κs = search needs
 add-behind : tie.Need-add-behind
 add-behind c = search needs
 
-within-requires : tie.Need-within-requires
-within-requires c κs = search needs
-
-slice-aggregate-put-parts : tie.Need-slice-aggregate-put-parts
-slice-aggregate-put-parts c = search needs
-
-put-parts-requires : tie.Need-put-parts-requires
-put-parts-requires c κs = search needs
+put-behind-requires : tie.Need-put-behind-requires
+put-behind-requires c κs = search needs
 
 same-length-2 : tie.Need-same-length-2
 same-length-2 c = search needs
 
 returns-2 : tie.Need-returns-2
-returns-2 c = named (by-prefix _ _ _ _ (c .before .before .before .before .before .before .before .before .before .before .before .same-bytes .ensures) (c .before .before .before .before .before .before .before .before .before .before .if1 .left)) (c .before .before .before .before .before .before .before .before .put-rust-path .ensures ► (rw (drop-within _ _ _ (c .before .before .before .before .before .within .ensures)) at (c .before .before .put-parts .ensures)))
+returns-2 c = named (by-prefix _ _ _ _ (c .before .before .before .before .before .before .before .before .before .same-bytes .ensures) (c .before .before .before .before .before .before .before .before .if1 .left)) ((rw (c .before .before .before .before .before .before .before .before .before .before .before .before .before .before .before .pre) at (c .before .before .before .before .before .before .put-rust-path .ensures)) ► c .before .before .put-behind .ensures)
 
 pub put-by-spec : {M : Type 1} → statement M
 put-by-spec =
@@ -48,8 +41,6 @@ put-by-spec =
     returns
     put-rust-path-requires
     add-behind
-    within-requires
-    slice-aggregate-put-parts
-    put-parts-requires
+    put-behind-requires
     same-length-2
     returns-2)

@@ -1,6 +1,6 @@
 use Rattle.options.specs.Settings.{settings, prost-path, between}
-use Rattle.extern_paths.specs.Parts.{path-words, value-words}
-use Rattle.extern_paths.proofs.PartLaws.{number-is}
+use Rattle.extern_paths.specs.ProstTypes.{path-words, value-words}
+use Rattle.extern_paths.proofs.ByLaws.{number-is}
 use borrow.Author.Needs.{needs}
 use Rattle.extern_paths.proofs.resolve.put_by_number.Statement.{statement}
 use Rattle.extern_paths.proofs.resolve.put_by_number.Tie as tie

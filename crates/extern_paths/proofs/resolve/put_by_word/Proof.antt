@@ -1,5 +1,5 @@
 use Rattle.options.specs.Settings.{settings, prost-path, between}
-use Rattle.extern_paths.proofs.PartLaws.{tail-none, tail-led, word-own, word-led, word-plain}
+use Rattle.extern_paths.proofs.ByLaws.{tail-none, tail-led, word-own, word-led, word-plain}
 use borrow.Author.Needs.{needs}
 use Rattle.extern_paths.proofs.resolve.put_by_word.Statement.{statement}
 use Rattle.extern_paths.proofs.resolve.put_by_word.Tie as tie

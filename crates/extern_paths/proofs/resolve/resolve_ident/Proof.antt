@@ -2,7 +2,7 @@ use mathlib.Core.Path.{_≡_, refl}
 use Rattle.writer.specs.Wrote.{none, named}
 use Rattle.options.proofs.RowLaws.{number-lies}
 use Rattle.extern_paths.specs.ExternPaths.{extern-text}
-use Rattle.extern_paths.proofs.PartLaws.{tail-none}
+use Rattle.extern_paths.proofs.ByLaws.{tail-none}
 use Rattle.extern_paths.proofs.TakerLaws.{resolves-not, resolved-row, resolved-type}
 use borrow.Author.Needs.{needs}
 use Rattle.extern_paths.proofs.resolve.resolve_ident.Statement.{statement}
