@@ -1,2 +1,3 @@
 pub mod Events
 pub mod Sights
+pub mod Unmarked
