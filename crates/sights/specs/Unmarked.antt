@@ -2,7 +2,7 @@
 use mathlib.Core.Path.{_≡_, refl, ap, _∙_}
 use mathlib.Core.Bool.{Bool}
 use mathlib.Core.Option.{Option, some, none}
-use mathlib.Core.List.{List, [], _∷_, _++_, map}
+use mathlib.Core.List.{List, [], _∷_, _++_, map, map-append}
 use Rattle.descriptor.specs.Descriptor.{Bytes}
 use Rattle.code_generator.specs.Piece.{Wrap, opt, vec, box, table}
 use Rattle.sights.specs.Events.{WrittenPath, Event, open-module, open-declaration, open-block, close-block, open-field, close-field, open-tag, close-tag, open-wrap, close-wrap, meet-path}
@@ -115,10 +115,6 @@ box-unmarked vec fs = refl
 box-unmarked box fs = rw (owner-unmarked fs, field-unmarked fs)
 box-unmarked table fs = refl
 
-map-append : (xs ys : List Sight) → map unmarked (xs ++ ys) ≡ map unmarked xs ++ map unmarked ys
-map-append [] ys = refl
-map-append (x ∷ xs) ys = ap {B = List Sight} (λ (l : List Sight). unmarked x ∷ l) (map-append xs ys)
-
 read-in : (base : List Bytes) (fs : List Frame) (es : List Event) → read base (map unmarked-frame fs) (map unmarked-event es) ≡ map unmarked (read base fs es)
 read-in base fs [] = refl
 read-in base fs (open-module n ∷ es) = rw (place-unmarked base fs, read-in base (in-module n ∷ fs) es)
@@ -129,7 +125,7 @@ read-in base fs (open-field o n ∷ es) = read-in base (in-field (record { name 
 read-in base fs (close-field ∷ es) = rw (← closed-unmarked fs) (read-in base (closed fs) es)
 read-in base fs (open-tag ∷ es) = read-in base (in-tag ∷ fs) es
 read-in base fs (close-tag ∷ es) = rw (← closed-unmarked fs) (read-in base (closed fs) es)
-read-in base fs (open-wrap w ∷ es) = rw (map-append (box-seen w fs) (read base (in-wrap w ∷ fs) es), box-unmarked w fs, read-in base (in-wrap w ∷ fs) es)
+read-in base fs (open-wrap w ∷ es) = rw (map-append unmarked (box-seen w fs) (read base (in-wrap w ∷ fs) es), box-unmarked w fs, read-in base (in-wrap w ∷ fs) es)
 read-in base fs (close-wrap ∷ es) = rw (← closed-unmarked fs) (read-in base (closed fs) es)
 read-in base fs (meet-path r p ∷ es) =
     rw (place-unmarked base fs, owner-unmarked fs, field-unmarked fs, wraps-unmarked fs, tagged-unmarked fs, read-in base fs es)
