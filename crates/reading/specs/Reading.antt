@@ -76,9 +76,13 @@ pub reads-when : (t : Bool) {a : Point} {x : Text} → Reads a x a → Reads a (
 reads-when true p = same-pieces refl p
 reads-when false p = same-pieces refl still
 
-pub reads-either : (t : Bool) {a z : Point} {x y : Text} → Reads a x z → Reads a y z → Reads a (either t x y) z
-reads-either true p q = same-pieces refl p
-reads-either false p q = same-pieces refl q
+pub reads-either : (t : Bool) {a z : Point} {x y : Text} → (t ≡ true → Reads a x z) → (t ≡ false → Reads a y z) → Reads a (either t x y) z
+reads-either true f g = same-pieces refl (f refl)
+reads-either false f g = same-pieces refl (g refl)
+
+-- grouped the other way
+pub regrouped : {a e : Point} {x y z : Text} → Reads a (x ⟫ (y ⟫ z)) e → Reads a ((x ⟫ y) ⟫ z) e
+regrouped {x = x} {y = y} {z = z} p = same-pieces (sym (append-assoc (pieces x) (pieces y) (pieces z))) p
 
 -- the mark of a row stands behind its last text
 pub mark-last : {a z : Point} {x y : Text} {m : Mark} → Reads a (x ⟫ (y ◃ m)) z → Reads a ((x ⟫ y) ◃ m) z
@@ -149,9 +153,9 @@ pub ends-when : (t : Bool) {g : Stop} {p : Point} {x : Text} → Settled g p →
 ends-when true h r = ends-as refl r
 ends-when false h r = ends-as refl (stays h)
 
-pub ends-either : (t : Bool) {a : Point} {x y : Text} {g : Stop} → Ends a x g → Ends a y g → Ends a (either t x y) g
-ends-either true p q = ends-as refl p
-ends-either false p q = ends-as refl q
+pub ends-either : (t : Bool) {a : Point} {x y : Text} {g : Stop} → (t ≡ true → Ends a x g) → (t ≡ false → Ends a y g) → Ends a (either t x y) g
+ends-either true f g = ends-as refl (f refl)
+ends-either false f g = ends-as refl (g refl)
 
 -- a text from a stop on
 pub after : {a : Point} {x y : Text} {g : Stop} {z : Point} → Ends a x g → ((p : Point) → Settled g p → Reads p y z) → Reads a (x ⟫ y) z

@@ -54,7 +54,7 @@ one-of x y P p q c h = on (or-cases (eqb c x) (eqb c y) h)
     on (inr e) = subst P (sym (eqb-true c y e)) q
 
 module _ {bs : List Body} where
-  settled-attribute : (w : Bytes) → key-of w ≡ other-key → Settled (attribute-stop bs) (point bs (attribute 1 other-key) (code-word w))
+  pub settled-attribute : (w : Bytes) → key-of w ≡ other-key → Settled (attribute-stop bs) (point bs (attribute 1 other-key) (code-word w))
   unfolding choose name-part name-start between
   settled-attribute w e =
       record {

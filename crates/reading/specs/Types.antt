@@ -71,11 +71,11 @@ word-over bs foreign names d w c h =
     (λ s. refl) (λ s. refl) (λ s. refl) c h
 
 -- the names of a path, and a last one
-abbrev behind-path : List Body → ℕ → Bool → List Bytes → Bytes → Point
+abbrev pub behind-path : List Body → ℕ → Bool → List Bytes → Bytes → Point
 behind-path bs d foreign names w = record { bodies = bs; at = typed d foreign names; lexing = code-word w; owed = path-of foreign (w ∷ names) }
 
 module _ {bs : List Body} {d : ℕ} where
-  settled-word : (foreign : Bool) (names : List Bytes) (w : Bytes) → Settled (type-stop bs d) (behind-path bs d foreign names w)
+  pub settled-word : (foreign : Bool) (names : List Bytes) (w : Bytes) → Settled (type-stop bs d) (behind-path bs d foreign names w)
   settled-word foreign names w =
       record { settles = λ c h s. word-over bs foreign names d w c h s ∙ settles-code bs foreign (w ∷ names) d c h s }
 
