@@ -1,40 +1,38 @@
 -- What the reader sees in a field, a map field, a oneof's field and a oneof's variant. Assumes nothing.
-use Prim.Native.Nat.{ℕ, zero, suc}
+use Prim.Native.Nat.{ℕ}
 use mathlib.Core.Path.{_≡_, refl}
-use mathlib.Core.Bool.{Bool, true, false, _||_}
+use mathlib.Core.Bool.{Bool, false}
 use mathlib.Core.Option.{Option, some, none}
-use mathlib.Core.List.{List, [], _∷_, _++_}
+use mathlib.Core.List.{List, [], _∷_}
 use lib.Dec.{eqb}
-use Rattle.base.specs.Bytes.{b, same}
+use Rattle.base.specs.Bytes.{same}
 use Rattle.base.specs.Choose.{choose}
 use Rattle.base.specs.Lists.{Every}
 use Rattle.heck.specs.Case.{between}
 use Rattle.ident.specs.Name.{name-start, name-part}
 use Rattle.ident.specs.Ident.{to-snake, to-upper-camel}
-use Rattle.writer.specs.Decimal.{decimal}
 use Rattle.field_types.specs.Types.{sort-of, enumerated}
 use Rattle.descriptor.specs.Descriptor.{Bytes, FieldDescriptor, FileDescriptor}
-use Rattle.options.specs.Settings.{Setting, first-of-kind, prost-path}
-use Rattle.options.specs.declared.Found.{Found}
-use Rattle.name_rules.specs.Accessors.{text, number, type as type-of, is-repeated}
+use Rattle.options.specs.Settings.{Setting}
+use Rattle.name_rules.specs.Accessors.{text, number, type as type-of}
 use Rattle.name_rules.specs.FullNames.{_·_}
 use Rattle.context.specs.Context.{field-attributes, bytes-type, map-type, should-box-message-field, should-box-oneof-field}
-use Rattle.code_generator.specs.Piece.{Text, nothing, piece, _⟫_, when, _▹_, _◃_, raw, opaque, path, label, Owned, Way, Spelling, snake, camel, oneof-type, choice, spelt, opt, comma, tag-open, tag-close, wrap-open, wrap-close, lit, push-indent}
+use Rattle.code_generator.specs.Piece.{piece, _⟫_, when, opaque, label, Owned, snake, camel, choice, comma, lit, push-indent}
 use Rattle.code_generator.specs.Attributes.{line, attributes, deprecated, append-deprecated, append-field-attributes}
-use Rattle.code_generator.specs.Fields.{optional, field-name, field-line, append-field}
+use Rattle.code_generator.specs.Fields.{field-line, append-field}
 use Rattle.code_generator.specs.MapFields.{MapEntry, map-line, append-map-field}
-use Rattle.code_generator.specs.Oneofs.{OneofField, type-name, more-tags, tags, oneof-path, oneof-tag, oneof-line, append-oneof-field, append-oneof-fields, variant-tag, variant-line, append-variant, append-variants}
-use Rattle.sights.specs.Events.{Event, open-field}
+use Rattle.code_generator.specs.Oneofs.{OneofField, type-name, more-tags, tags, oneof-tag, oneof-line, append-oneof-field, append-oneof-fields, variant-tag, variant-line, append-variant, append-variants}
+use Rattle.sights.specs.Events.{open-field}
 use Rattle.text_reader.specs.Tokens.{code, code-word}
 use Rattle.text_reader.specs.Tokens as tokens
-use Rattle.text_reader.specs.Reader.{Body, struct-body, enum-body, At, start, public, attribute, other-key, tag-path}
-use Rattle.reading.specs.Reading.{Point, point, Reads, _▸_, still, same-pieces, reads-when, mark-last, Stop, stop-point, Settled, Ends, ends-there, _▹▹_, ends-then, from-settled, ends-from, stays, ends-as, after}
-use Rattle.reading.specs.Words.{is-word, in-code, word-read, indent-read}
+use Rattle.text_reader.specs.Reader.{Body, struct-body, enum-body, start, public, tag-path}
+use Rattle.reading.specs.Reading.{Point, point, Reads, _▸_, still, reads-when, mark-last, stop-point, Settled, Ends, ends-there, _▹▹_, ends-then, from-settled, stays, ends-as, after}
+use Rattle.reading.specs.Words.{in-code, word-read, indent-read}
 use Rattle.reading.specs.Paths.{Good-way}
-use Rattle.reading.specs.Types.{type-stop, type-start, typed-path, wrap-closed, key-closed, field-closed, variant-closed}
-use Rattle.reading.specs.Tags.{quoted-stop, quoted-path}
+use Rattle.reading.specs.Types.{type-start, typed-path, wrap-closed, key-closed, field-closed, variant-closed}
+use Rattle.reading.specs.Tags.{quoted-path}
 use Rattle.field_reading.specs.Readable.{Converts, Readable-field, snake-word, camel-word, oneof-word, oneof-free}
-use Rattle.field_reading.specs.TypeReading.{type-read, deeper, box-opened, box-closed, shape-opened, shape-closed, option-opens, map-opens}
+use Rattle.field_reading.specs.TypeReading.{type-read, box-opened, box-closed, shape-opened, shape-closed, option-opens, map-opens}
 use Rattle.field_reading.specs.TagReading.{tag-start, tag-string, type-tag, number-opened, number-in, tag-closed, tag-read, map-tag-read}
 
 -- between two items, fields or variants

@@ -1,31 +1,28 @@
 -- Fields whose names convert, and what follows for the words and paths that are written for them. Assumes nothing.
 use Prim.Native.Nat.{ℕ, zero, suc}
-use mathlib.Core.Path.{_≡_, refl, sym, subst}
+use mathlib.Core.Path.{_≡_, refl, subst}
 use mathlib.Core.Bool.{Bool, true, false, _&&_, _||_}
-use mathlib.Core.Logic.{_⊎_, inl, inr}
 use mathlib.Core.Option.{some}
-use mathlib.Core.List.{List, [], _∷_, _++_, append-nil}
+use mathlib.Core.List.{List, [], _∷_, append-nil}
 use native.Mathlib.Omega.{arith}
 use lib.Dec.{eqb}
 use lib.ListN.{getD, drop}
 use Rattle.base.specs.Bytes.{b, same}
 use Rattle.base.specs.Choose.{choose, choose-case}
-use Rattle.base.specs.Lists.{all, is-empty, Every}
+use Rattle.base.specs.Lists.{all, Every}
 use Rattle.base.specs.Tests.{and-left, and-right}
-use Rattle.writer.specs.Text.{pick}
 use Rattle.heck.specs.Case.{between}
 use Rattle.ident.specs.Name.{name-start, name-part, every, has-word}
 use Rattle.ident.specs.Ident.{among, to-snake, to-upper-camel}
 use Rattle.ident.specs.Reference.{primitive-types}
 use Rattle.ident.proofs.Written.{snake-identifier, camel-identifier, variant-identifier, camel-no-primitive}
-use Rattle.field_types.specs.Types.{FieldType, types, no-type, type-at, sort-of, tag-word, rust-word, group, message, enumerated}
+use Rattle.field_types.specs.Types.{FieldType, types, no-type, sort-of, tag-word, rust-word, group, message, enumerated}
 use Rattle.descriptor.specs.Descriptor.{Bytes, FieldDescriptor}
 use Rattle.extern_paths.specs.Split.{split}
 use Rattle.extern_paths.proofs.SplitLaws.{split-is}
 use Rattle.name_rules.specs.Accessors.{text, type}
-use Rattle.code_generator.specs.Piece.{Spelling, snake, camel, oneof-type, variant, spelt, Way}
+use Rattle.code_generator.specs.Piece.{oneof-type, variant, spelt}
 use Rattle.code_generator.specs.Resolve.{front, last-name, ident-path, ident-type, local-path, skip-common, way}
-use Rattle.text_reader.specs.Reader.{Key, path-key, map-key, other-key, key-of}
 use Rattle.reading.specs.Words.{is-word, identifier-word, word-append}
 use Rattle.reading.specs.Paths.{Good-way}
 use Rattle.reading.specs.Tags.{is-tag-word}

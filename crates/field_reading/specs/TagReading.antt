@@ -3,7 +3,7 @@ use Prim.Native.Nat.{ℕ}
 use mathlib.Core.Path.{_≡_, refl}
 use mathlib.Core.Bool.{Bool, true, false, _||_}
 use mathlib.Core.Option.{Option, some, none}
-use mathlib.Core.List.{List, [], _∷_, _++_}
+use mathlib.Core.List.{List, []}
 use lib.Dec.{eqb}
 use Rattle.base.specs.Bytes.{b, same}
 use Rattle.base.specs.Choose.{choose}
@@ -20,18 +20,18 @@ use Rattle.options.specs.Settings.{Setting, strips-prefix}
 use Rattle.extern_paths.specs.Split.{split}
 use Rattle.extern_paths.specs.ExternPaths.{taken, resolve-ident as extern-ident}
 use Rattle.name_rules.specs.Accessors.{text, number, label, type as type-of}
-use Rattle.code_generator.specs.Piece.{Text, nothing, piece, _⟫_, when, either, raw, name, type, spelt, lit}
+use Rattle.code_generator.specs.Piece.{Text, piece, _⟫_, when, either, raw, name, type, spelt, lit}
 use Rattle.code_generator.specs.Resolve.{last-name, way, resolve-ident, tag-ident, field-type-tag, map-value-type-tag}
 use Rattle.code_generator.specs.Fields.{optional, unpacked, label-tag, bytes-annotation, enum-value, default-text, default-given, default-tag, field-tag}
 use Rattle.code_generator.specs.MapFields.{MapEntry, map-tag}
 use Rattle.text_reader.specs.Tokens.{code, code-word}
 use Rattle.text_reader.specs.Tokens as tokens
-use Rattle.text_reader.specs.Reader.{Body, start, other-key, attribute, skipped, tag-path, map-path}
+use Rattle.text_reader.specs.Reader.{Body, start, other-key, attribute, tag-path, map-path}
 use Rattle.text_reader.specs.Reader as reader
-use Rattle.reading.specs.Reading.{Point, point, Reads, _▸_, Stop, stop-point, Settled, Ends, ends-there, _▹▹_, ends-then, from-settled, ends-from, stays, ends-as, ends-when, ends-either, after}
+use Rattle.reading.specs.Reading.{Point, point, Reads, Stop, stop-point, Settled, Ends, ends-there, _▹▹_, ends-then, from-settled, ends-from, stays, ends-as, ends-when, ends-either, after}
 use Rattle.reading.specs.Strings.{string-stop, string-name, string-text, decimal-word}
 use Rattle.reading.specs.Tags.{attribute-stop, settled-attribute, attribute-word, map-stop, map-word, quoted-stop, quoted-path, bracket-stop, bracket-path}
-use Rattle.field_reading.specs.Readable.{Converts, refers, Readable-field, tag-words, variant-word, good-way}
+use Rattle.field_reading.specs.Readable.{Converts, Readable-field, tag-words, variant-word, good-way}
 
 -- in a tag, and in a string of it
 abbrev pub tag-start : List Body → Point

@@ -1,9 +1,9 @@
 -- What the reader sees in a field's type, and in what stands around it. Assumes nothing.
-use Prim.Native.Nat.{ℕ, zero, suc}
+use Prim.Native.Nat.{ℕ, suc}
 use Prim.Native.String.{String}
 use mathlib.Core.Path.{_≡_, refl}
 use mathlib.Core.Bool.{Bool, true, false, _||_}
-use mathlib.Core.List.{List, [], _∷_, _++_}
+use mathlib.Core.List.{List, [], _∷_}
 use lib.Dec.{eqb}
 use Rattle.base.specs.Bytes.{b, same}
 use Rattle.base.specs.Choose.{choose}
@@ -15,20 +15,18 @@ use Rattle.ident.specs.Reference.{primitive-types}
 use Rattle.field_types.specs.Types.{sort-of, rust-word, text as string, bytes, group, message, enumerated}
 use Rattle.descriptor.specs.Descriptor.{Bytes, FieldDescriptor}
 use Rattle.options.specs.Settings.{Setting, first-of-kind, prost-path}
-use Rattle.options.specs.declared.Found.{Found}
 use Rattle.extern_paths.specs.ExternPaths.{taken, resolve-ident as extern-ident}
 use Rattle.name_rules.specs.Accessors.{text, type as type-of, is-repeated}
-use Rattle.code_generator.specs.Piece.{Text, nothing, piece, _⟫_, when, either, _◃_, raw, opaque, Wrap, opt, vec, box, table, type, wrap-open, wrap-close, lit}
+use Rattle.code_generator.specs.Piece.{Text, piece, _⟫_, when, either, _◃_, raw, opaque, opt, vec, box, table, type, wrap-open, wrap-close, lit}
 use Rattle.code_generator.specs.Resolve.{prost, way, resolve-ident, resolve-bytes, resolve-type}
 use Rattle.code_generator.specs.Fields.{optional, shape-open, shape-close, box-open, box-close}
 use Rattle.code_generator.specs.MapFields.{map-open}
 use Rattle.sights.specs.Events.{open-wrap, close-wrap}
-use Rattle.text_reader.specs.Tokens.{code, code-word}
-use Rattle.text_reader.specs.Reader.{path-of, Body, typed}
-use Rattle.reading.specs.Reading.{Point, point, Reads, _▸_, same-pieces, mark-last, Stop, stop-point, Settled, Ends, ends-there, ends-as, ends-when, ends-either, stays}
+use Rattle.text_reader.specs.Reader.{Body}
+use Rattle.reading.specs.Reading.{Point, Reads, _▸_, same-pieces, mark-last, Stop, stop-point, Settled, Ends, ends-there, ends-as, ends-either, stays}
 use Rattle.reading.specs.Words.{is-word}
 use Rattle.reading.specs.Types.{type-stop, type-start, behind-path, settled-word, typed-path, typed-extern, typed-word, typed-none, wrap-closed}
-use Rattle.field_reading.specs.Readable.{Converts, refers, Readable-field, is-rust-word, rust-words, good-way}
+use Rattle.field_reading.specs.Readable.{refers, Readable-field, is-rust-word, rust-words, good-way}
 
 -- ---- the prost path, and a text behind it
 module _ (rs : List Setting) {y : Text} where

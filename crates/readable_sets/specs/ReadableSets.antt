@@ -1,34 +1,33 @@
 -- A set without refusals 6 and 7: all names convert, and the reader of bytes sees what the marked pieces show. Assumes nothing.
 use Prim.Native.Nat.{ℕ, zero, suc, _+_, _≤_}
 use native.Mathlib.Omega.{arith}
-use mathlib.Core.Path.{_≡_, refl, sym, ap, subst, _∙_}
+use mathlib.Core.Path.{_≡_, refl, sym, ap, subst}
 use mathlib.Core.Bool.{Bool, true, false, _&&_, _||_, not}
 use mathlib.Core.Logic.{_⊎_, inl, inr}
 use mathlib.Core.Option.{Option, some, none}
 use mathlib.Core.List.{List, [], _∷_, _++_, map, map-append}
 use lib.Dec.{eqb, ltb}
-use lib.ListN.{getD, length, drop}
-use borrow.Author.Tests.{eqb-true, eq-eqb, ltb-false, not-true}
-use Rattle.base.specs.Bytes.{b, same, same-sound}
+use lib.ListN.{getD, length}
+use borrow.Author.Tests.{ltb-false, not-true}
+use Rattle.base.specs.Bytes.{same, same-sound}
 use Rattle.base.specs.Choose.{choose}
 use Rattle.base.specs.Lists.{all, all-of, Every, all-every, every-append, every-to}
-use Rattle.base.specs.Tests.{bool-cases, both-ways, and-left, and-right, or-left, or-right, or-cases}
-use Rattle.field_types.specs.Types.{FieldType, types, no-type, type-at, sort-of, group, message, enumerated}
+use Rattle.base.specs.Tests.{both-ways, and-left, and-right, or-left, or-right, or-cases}
+use Rattle.field_types.specs.Types.{FieldType, types, no-type, sort-of, group, message, enumerated}
 use Rattle.descriptor.specs.Descriptor.{Bytes, Forest, done, node, preorder, FieldDescriptor, EnumDescriptor, MessageDescriptor, FileDescriptor}
 use Rattle.options.specs.Settings.{Setting}
-use Rattle.extern_paths.specs.Split.{split}
 use Rattle.name_rules.specs.Accessors.{text, type, is-message, is-group, is-enum}
 use Rattle.name_rules.specs.FullNames.{_·_, package-scope, Entry, entries, Declaration, enum-declarations, entry-declarations, file-declarations, set-declarations, declared-as, equals, fresh, type-declared, fields-of-entries, file-fields, first-undeclared}
 use Rattle.name_rules.specs.Rules.{segments}
 use Rattle.name_rules.specs.Answer.{first-six, first-seven, names, refusal-number}
 use Rattle.name_rules.specs.declared.Names.the-variants.{Good, Six, Seven}
-use Rattle.name_rules.specs.WellFormed.{Name, Named, Good-field, Good-value, Good-enum, Good-message, Good-entry, Every-node, Well-formed}
+use Rattle.name_rules.specs.WellFormed.{Name, Good-field, Good-enum, Good-message, Good-entry, Every-node, Well-formed}
 use Rattle.name_rules.proofs.WellFormedLaws.{every-file}
 use Rattle.sights.specs.Sights.{read, file-place, file-sights, set-sights, Sight}
 use Rattle.sights.specs.Unmarked.{unmarked}
 use Rattle.text_reader.specs.Symbols.{text-symbols}
 use Rattle.text_reader.specs.Reader.{see}
-use Rattle.field_reading.specs.Readable.{Converts, refers, Readable-field}
+use Rattle.field_reading.specs.Readable.{refers, Readable-field}
 use Rattle.see_file.specs.EnumReading.{named-text}
 use Rattle.see_file.specs.MessageReading.{Readable-message}
 use Rattle.see_file.specs.SeeFile.{Readable-file, see-file}

@@ -1,14 +1,14 @@
 -- The reader goes through a path name by name, and finds the path again. Assumes nothing.
 use Prim.Native.Nat.{ℕ, zero, suc, _+_}
 use native.Mathlib.Omega.{arith}
-use mathlib.Core.Path.{_≡_, refl, sym, ap, _∙_}
-use mathlib.Core.Bool.{Bool, true, false, _||_}
+use mathlib.Core.Path.{_≡_, refl, ap, _∙_}
+use mathlib.Core.Bool.{true, false}
 use mathlib.Core.Option.{none}
 use mathlib.Core.List.{List, [], _∷_, _++_, map, reverse, reverseAux, reverseAux-reverseAux-nil}
 use Rattle.base.specs.Bytes.{b, same}
 use Rattle.base.specs.Choose.{choose}
 use Rattle.base.specs.Lists.{Every}
-use Rattle.base.specs.Tests.{both-ways, or-false-left, or-false-right}
+use Rattle.base.specs.Tests.{or-false-left, or-false-right}
 use Rattle.writer.specs.Text.{each}
 use Rattle.heck.specs.Case.{between}
 use Rattle.ident.specs.Name.{name-start, name-part, every, has-word}

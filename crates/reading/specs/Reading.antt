@@ -1,13 +1,13 @@
 -- How the reader of bytes goes through a text, from one point to another, and sees what the marked pieces show. Assumes nothing.
 use Prim.Native.Nat.{ℕ}
-use mathlib.Core.Path.{_≡_, refl, sym, ap, subst, _∙_}
+use mathlib.Core.Path.{_≡_, refl, sym, ap, _∙_}
 use mathlib.Core.Bool.{Bool, true, false}
 use mathlib.Core.List.{List, [], _∷_, _++_, map, map-append, append-assoc, append-nil}
-use Rattle.code_generator.specs.Piece.{Piece, Text, nothing, piece, _⟫_, when, either, _◃_, Mark, mark, pieces}
+use Rattle.code_generator.specs.Piece.{Piece, Text, nothing, _⟫_, when, either, _◃_, Mark, mark, pieces}
 use Rattle.sights.specs.Events.{Event, events, events-append}
 use Rattle.sights.specs.Unmarked.{unmarked-event}
 use Rattle.text_reader.specs.Symbols.{Symbol, char, piece-symbols, symbols-before}
-use Rattle.text_reader.specs.Tokens.{Lexing, code, tokens-from}
+use Rattle.text_reader.specs.Tokens.{Lexing, tokens-from}
 use Rattle.text_reader.specs.Reader.{Body, At, read-tokens}
 
 -- where the reader is, and what the pieces before have shown that it has not seen yet

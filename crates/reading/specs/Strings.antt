@@ -1,8 +1,8 @@
 -- The reader in strings, comments and numbers: it sees nothing there. Assumes nothing.
-use Prim.Native.Nat.{ℕ, zero, suc, _+_, _-_, _/_, _%_, _^_}
+use Prim.Native.Nat.{ℕ, _+_, _-_, _/_, _%_, _^_}
 use native.Mathlib.Omega.{arith}
 use mathlib.Core.Path.{_≡_, refl, sym, ap, subst, _∙_}
-use mathlib.Core.Bool.{Bool, true, false, _&&_, _||_, not}
+use mathlib.Core.Bool.{Bool, true, false, _&&_, not}
 use mathlib.Core.Logic.{_⊎_, inl, inr}
 use mathlib.Core.List.{List, [], _∷_, _++_}
 use lib.Dec.{eqb, leb, ltb}
@@ -19,9 +19,9 @@ use Rattle.literal.specs.Quotes.{Quote, between as inside, behind, closed, over
 use Rattle.descriptor.specs.Descriptor.{Bytes}
 use Rattle.code_generator.specs.Piece.{Piece, piece, raw}
 use Rattle.text_reader.specs.Symbols.{Symbol, char, chars, piece-symbols}
-use Rattle.text_reader.specs.Tokens.{Token, word, Lexing, code, code-word, string, string-word, escape, comment, is-blank, goes-on, tokens-from}
+use Rattle.text_reader.specs.Tokens.{Lexing, code, code-word, string, string-word, escape, comment, is-blank, goes-on, tokens-from}
 use Rattle.text_reader.specs.Reader.{Body, At, discriminant, skipped, read-tokens}
-use Rattle.reading.specs.Reading.{Point, point, shown, Reads, Stop, Settled, Ends, settled-there}
+use Rattle.reading.specs.Reading.{point, shown, Reads, Stop, Settled, Ends, settled-there}
 use Rattle.reading.specs.Words.{is-word, in-code, in-string, through-word, word-read}
 
 -- ---- in a string that is skipped

@@ -1,12 +1,11 @@
 -- The reader in a field's tag: the word of its type, and a path in quotes or brackets. Assumes nothing.
 use Prim.Native.Nat.{ℕ}
-use mathlib.Core.Path.{_≡_, refl, sym, ap, subst, _∙_}
+use mathlib.Core.Path.{_≡_, refl, sym, ap, subst}
 use mathlib.Core.Bool.{Bool, true, false, _&&_, _||_}
 use mathlib.Core.Logic.{_⊎_, inl, inr}
 use mathlib.Core.List.{List, [], _∷_, _++_}
 use lib.Dec.{eqb}
 use borrow.Author.Tests.{eqb-true}
-use Rattle.base.specs.Bytes.{same}
 use Rattle.base.specs.Choose.{choose}
 use Rattle.base.specs.Tests.{both-ways, and-left, and-right, or-cases}
 use Rattle.heck.specs.Case.{between}
@@ -15,10 +14,10 @@ use Rattle.extern_paths.specs.ExternPaths.{Segment}
 use Rattle.descriptor.specs.Descriptor.{Bytes}
 use Rattle.code_generator.specs.Piece.{Text, piece, either, _▹_, _◃_, raw, extern, path, Ref, Way, spelt, tag-open, tag-close}
 use Rattle.sights.specs.Events.{Event, open-tag, close-tag}
-use Rattle.text_reader.specs.Symbols.{Symbol, char, chars}
-use Rattle.text_reader.specs.Tokens.{Token, word, sign, value, Lexing, code, code-word, string, string-word, tokens-from}
-use Rattle.text_reader.specs.Reader.{path-of, tagged-path, Body, Key, path-key, map-key, other-key, key-of, At, attribute, skipped, tag-path, map-tag, map-path, read-tokens}
-use Rattle.reading.specs.Reading.{Point, point, reads-on, Reads, Stop, stop-point, Settled, Ends, ends-there, ends-as}
+use Rattle.text_reader.specs.Symbols.{Symbol, char}
+use Rattle.text_reader.specs.Tokens.{Token, word, sign, value, code, code-word, string, string-word, tokens-from}
+use Rattle.text_reader.specs.Reader.{tagged-path, Body, Key, path-key, map-key, other-key, key-of, At, attribute, skipped, tag-path, map-tag, map-path, read-tokens}
+use Rattle.reading.specs.Reading.{point, Stop, Settled, Ends, ends-there, ends-as}
 use Rattle.reading.specs.Words.{is-word, in-code, in-string, through-word}
 use Rattle.reading.specs.Paths.{Good-way, names-of, through-way, path-again}
 

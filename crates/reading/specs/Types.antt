@@ -3,25 +3,21 @@ use Prim.Native.Nat.{ℕ, zero, suc}
 use mathlib.Core.Path.{_≡_, refl, sym, ap, subst, _∙_}
 use mathlib.Core.Bool.{Bool, true, false, _||_}
 use mathlib.Core.Logic.{_⊎_, inl, inr}
-use mathlib.Core.Option.{none}
 use mathlib.Core.List.{List, [], _∷_, _++_, append-assoc}
 use lib.Dec.{eqb}
 use borrow.Author.Tests.{eqb-true}
-use Rattle.base.specs.Bytes.{b, same}
 use Rattle.base.specs.Choose.{choose}
 use Rattle.base.specs.Tests.{or-cases}
 use Rattle.heck.specs.Case.{between}
 use Rattle.ident.specs.Name.{name-start, name-part}
-use Rattle.ident.specs.Ident.{among}
-use Rattle.ident.specs.Reference.{primitive-types}
 use Rattle.extern_paths.specs.ExternPaths.{Segment}
 use Rattle.descriptor.specs.Descriptor.{Bytes}
 use Rattle.code_generator.specs.Piece.{piece, _◃_, raw, extern, path, Ref, Way, spelt, comma, wrap-close, lit}
-use Rattle.sights.specs.Events.{Event, close-field, close-wrap}
-use Rattle.text_reader.specs.Symbols.{Symbol, char, chars}
+use Rattle.sights.specs.Events.{close-field, close-wrap}
+use Rattle.text_reader.specs.Symbols.{Symbol, char}
 use Rattle.text_reader.specs.Tokens.{Token, sign, code, code-word, tokens-from}
 use Rattle.text_reader.specs.Reader.{path-of, Body, start, typed, read-tokens}
-use Rattle.reading.specs.Reading.{Point, point, reads-on, Reads, Stop, stop-point, Settled, Ends, ends-there, from-settled}
+use Rattle.reading.specs.Reading.{Point, point, Reads, Stop, stop-point, Settled, Ends, ends-there, from-settled}
 use Rattle.reading.specs.Words.{is-word, in-code, through-word}
 use Rattle.reading.specs.Paths.{Good-way, names-of, through-way, path-again}
 

@@ -1,7 +1,7 @@
 -- The reader goes through a name as one word, and through an indent as through nothing. Assumes nothing.
 use Prim.Native.Nat.{ℕ, zero, suc}
 use mathlib.Core.Path.{_≡_, refl, sym, ap, subst, _∙_}
-use mathlib.Core.Bool.{Bool, true, false, _&&_, _||_, not}
+use mathlib.Core.Bool.{Bool, true, false, _&&_, not}
 use mathlib.Core.Logic.{_⊎_, inl, inr}
 use mathlib.Core.List.{List, [], _∷_, _++_, append-assoc, append-nil}
 use lib.Dec.{eqb}
@@ -9,7 +9,7 @@ use lib.ListN.{take, drop, take-append-drop}
 use Rattle.base.specs.Bytes.{b, same, same-sound}
 use Rattle.base.specs.Choose.{choose}
 use Rattle.base.specs.Tests.{and-left, and-right, and-both, or-left, or-right, or-cases, both-ways}
-use Rattle.writer.specs.Text.{each, indent}
+use Rattle.writer.specs.Text.{indent}
 use Rattle.heck.specs.Case.{between, is-digit}
 use Rattle.ident.specs.Name.{name-start, name-part, every, is-name}
 use Rattle.ident.specs.Ident.{among}
@@ -18,9 +18,9 @@ use Rattle.ident.proofs.EveryLaws.{every-cons, every-head, every-tail, every-ap
 use Rattle.descriptor.specs.Descriptor.{Bytes}
 use Rattle.code_generator.specs.Piece.{Piece, piece, push-indent}
 use Rattle.text_reader.specs.Symbols.{Symbol, char, chars, piece-symbols}
-use Rattle.text_reader.specs.Tokens.{Token, word, sign, Lexing, code, code-word, string, string-word, goes-on, tokens-from}
+use Rattle.text_reader.specs.Tokens.{word, sign, Lexing, code, code-word, string, string-word, goes-on, tokens-from}
 use Rattle.text_reader.specs.Reader.{Body, At, read-tokens}
-use Rattle.reading.specs.Reading.{Point, point, shown, Reads}
+use Rattle.reading.specs.Reading.{point, shown, Reads}
 
 pub chars-append : (x y : Bytes) (s : List Symbol) → chars (x ++ y) ++ s ≡ chars x ++ (chars y ++ s)
 chars-append [] y s = refl

@@ -1,37 +1,32 @@
 -- What the reader sees in an enum: its declaration, and the blocks of its `impl`. Assumes nothing.
-use Prim.Native.Nat.{ℕ, zero, suc}
+use Prim.Native.Nat.{ℕ, suc}
 use Prim.Native.String.{String}
-use mathlib.Core.Path.{_≡_, refl, sym, ap, subst}
-use mathlib.Core.Bool.{Bool, true, false, not}
-use mathlib.Core.Option.{Option, some, none}
-use mathlib.Core.List.{List, [], _∷_, _++_}
-use lib.Dec.{eqb}
-use Rattle.base.specs.Bytes.{b, same}
+use mathlib.Core.Path.{_≡_, refl, sym, subst}
+use mathlib.Core.Bool.{Bool, true, not}
+use mathlib.Core.Option.{Option, none}
+use mathlib.Core.List.{List, [], _∷_}
+use Rattle.base.specs.Bytes.{same}
 use Rattle.base.specs.Choose.{choose, choose-case}
-use Rattle.base.specs.Lists.{Every, every-to}
+use Rattle.base.specs.Lists.{Every}
 use Rattle.heck.specs.Case.{between}
-use Rattle.ident.specs.Name.{name-start, name-part, has-word}
+use Rattle.ident.specs.Name.{name-start, name-part}
 use Rattle.ident.specs.Ident.{to-upper-camel}
-use Rattle.writer.specs.Decimal.{signed}
 use Rattle.descriptor.specs.Descriptor.{Bytes, ValueDescriptor, EnumDescriptor}
 use Rattle.options.specs.Settings.{Setting, first-of-kind, prost-path, strips-prefix}
-use Rattle.options.specs.declared.Found.{Found}
 use Rattle.extern_paths.specs.ExternPaths.{taken}
 use Rattle.name_rules.specs.Accessors.{text}
 use Rattle.name_rules.specs.FullNames.{_·_}
 use Rattle.name_rules.specs.WellFormed.{Name, Named, Good-value, Good-enum}
 use Rattle.context.specs.Context.{type-attributes, enum-attributes, field-attributes, should-skip-debug}
-use Rattle.code_generator.specs.Piece.{Text, nothing, piece, _⟫_, when, either, _◃_, raw, opaque, name, decl-open, Ref, type, Spelling, camel, variant, spelt, Mark, block-open, close, lit, push-indent}
-use Rattle.code_generator.specs.Resolve.{prost}
-use Rattle.code_generator.specs.Attributes.{line, block, end, attributes, append-type-attributes, append-enum-attributes, append-field-attributes, append-prost-path-attribute}
+use Rattle.code_generator.specs.Piece.{Text, piece, _⟫_, when, _◃_, raw, opaque, name, decl-open, Ref, type, Spelling, camel, spelt, block-open, close, lit}
+use Rattle.code_generator.specs.Attributes.{line, block, end, append-type-attributes, append-enum-attributes, append-field-attributes, append-prost-path-attribute}
 use Rattle.code_generator.specs.Enums.{value-number, is-used, mappings-from, build-enum-value-mappings, generated-variant-name, variant-lines, enum-variant, enum-variants, as-str-arm, as-str-arms, from-str-arm, from-str-arms, enum-derive, as-str-name, from-str-name, enum-impl, enum-declaration, append-enum, append-enums}
-use Rattle.sights.specs.Events.{Event, open-declaration, open-block, close-block}
-use Rattle.text_reader.specs.Symbols.{Symbol, chars, symbols-before}
+use Rattle.sights.specs.Events.{open-declaration, open-block, close-block}
 use Rattle.text_reader.specs.Tokens.{code, code-word, string}
-use Rattle.text_reader.specs.Reader.{Body, module-body, struct-body, enum-body, code-body, At, start, naming, header, discriminant, labelled, attribute, other-key, skipped}
-use Rattle.reading.specs.Reading.{Point, point, reads-on, Reads, _▸_, still, reads-when, mark-last, regrouped, Stop, stop-point, Settled, Ends, ends-there, _▹▹_, from-settled, after}
+use Rattle.text_reader.specs.Reader.{Body, module-body, enum-body, code-body, start, naming, header, discriminant, attribute, other-key, skipped}
+use Rattle.reading.specs.Reading.{Point, point, Reads, _▸_, still, reads-when, mark-last, regrouped, Ends, _▹▹_, from-settled, after}
 use Rattle.reading.specs.Words.{is-word, name-word, in-code, word-read, indent-read}
-use Rattle.reading.specs.Strings.{string-stop, string-name, number-stop, number-read}
+use Rattle.reading.specs.Strings.{string-stop, string-name, number-read}
 use Rattle.field_reading.specs.Readable.{Converts, camel-word, variant-word}
 use Rattle.field_reading.specs.TypeReading.{prost-then}
 use Rattle.field_reading.specs.FieldReading.{between-two, attributes-read, deprecated-read}

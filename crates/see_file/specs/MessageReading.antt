@@ -1,10 +1,10 @@
 -- What the reader sees in a message: its struct, and its module with all inside it. Assumes nothing.
-use Prim.Native.Nat.{ℕ, zero, suc}
-use mathlib.Core.Path.{_≡_, refl, sym, ap, subst, _∙_}
+use Prim.Native.Nat.{ℕ, suc}
+use mathlib.Core.Path.{_≡_, refl, sym, subst}
 use mathlib.Core.Bool.{Bool, true, false, _&&_, _||_, not}
 use mathlib.Core.Logic.{_⊎_, inl, inr}
 use mathlib.Core.Option.{Option, some, none}
-use mathlib.Core.List.{List, [], _∷_, _++_}
+use mathlib.Core.List.{List, [], _∷_}
 use lib.Dec.{eqb}
 use borrow.Author.Tests.{eqb-true}
 use Rattle.base.specs.Bytes.{b, same}
@@ -16,7 +16,7 @@ use Rattle.ident.specs.Name.{name-start, name-part}
 use Rattle.ident.specs.Ident.{to-snake, to-upper-camel}
 use Rattle.field_types.specs.Types.{sort-of, integer, boolean, enumerated}
 use Rattle.field_types.specs.Types as types
-use Rattle.descriptor.specs.Descriptor.{Bytes, Forest, done, node, FieldDescriptor, EnumDescriptor, MessageDescriptor, FileDescriptor}
+use Rattle.descriptor.specs.Descriptor.{Bytes, Forest, done, node, FieldDescriptor, MessageDescriptor, FileDescriptor}
 use Rattle.options.specs.Settings.{Setting}
 use Rattle.extern_paths.specs.ExternPaths.{taken}
 use Rattle.name_rules.specs.Accessors.{text, or-else}
@@ -25,16 +25,16 @@ use Rattle.name_rules.specs.FullNames.{_·_}
 use Rattle.name_rules.specs.Rules.{key-type}
 use Rattle.name_rules.specs.WellFormed.{Named, Good-message, Good-entry, Every-node}
 use Rattle.context.specs.Context.{type-attributes, message-attributes, enum-attributes, should-skip-debug, can-message-derive-copy, can-message-derive-eq}
-use Rattle.code_generator.specs.Piece.{Text, piece, _⟫_, when, raw, opaque, mod-open, decl-open, snake, camel, type, choice, spelt, lit}
-use Rattle.code_generator.specs.Attributes.{line, append-type-attributes, append-message-attributes, append-enum-attributes, append-skip-debug, derive}
+use Rattle.code_generator.specs.Piece.{piece, _⟫_, raw, opaque, mod-open, decl-open, snake, camel, type, choice, lit}
+use Rattle.code_generator.specs.Attributes.{append-type-attributes, append-message-attributes, append-enum-attributes, append-skip-debug, derive}
 use Rattle.code_generator.specs.MapFields.{MapEntry, entry-of, map-entry-of}
-use Rattle.code_generator.specs.Oneofs.{OneofField, oneof-of, is-plain, is-at, plain-fields, fields-at, meets, oneofs-from, oneof-fields, type-name, can-oneof-derive-copy, can-oneof-derive-eq, append-oneof, append-oneofs}
+use Rattle.code_generator.specs.Oneofs.{OneofField, oneof-of, is-plain, is-at, plain-fields, fields-at, oneofs-from, oneof-fields, type-name, can-oneof-derive-copy, can-oneof-derive-eq, append-oneof, append-oneofs}
 use Rattle.code_generator.specs.Generate.{has-module, push-mod, field-or-map, append-fields, append-struct, append-messages}
 use Rattle.sights.specs.Events.{open-module, open-declaration}
 use Rattle.text_reader.specs.Tokens.{code, code-word, comment}
-use Rattle.text_reader.specs.Reader.{Body, module-body, struct-body, enum-body, start, naming, attribute, other-key}
+use Rattle.text_reader.specs.Reader.{Body, module-body, struct-body, start, naming, attribute, other-key}
 use Rattle.reading.specs.Reading.{Point, point, Reads, _▸_, still, reads-when, regrouped}
-use Rattle.reading.specs.Words.{is-word, name-parts, in-code, word-read, indent-read}
+use Rattle.reading.specs.Words.{name-parts, in-code, word-read, indent-read}
 use Rattle.reading.specs.Strings.{comment-read}
 use Rattle.field_reading.specs.Readable.{Converts, Readable-field, snake-word, camel-word, oneof-word}
 use Rattle.field_reading.specs.TypeReading.{prost-then}

@@ -1,6 +1,6 @@
 -- Demand 3, first clause: what a reader of the bytes sees is what the marked pieces show. Assumes nothing.
-use mathlib.Core.Path.{_≡_, refl, sym, ap, _∙_}
-use mathlib.Core.List.{List, [], _∷_, _++_, map, append-nil}
+use mathlib.Core.Path.{_≡_, sym, ap, _∙_}
+use mathlib.Core.List.{List, [], map}
 use Rattle.base.specs.Lists.{Every}
 use Rattle.syntax.specs.Syntax.{syntax-of}
 use Rattle.descriptor.specs.Descriptor.{FileDescriptor}

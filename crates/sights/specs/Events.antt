@@ -1,7 +1,7 @@
 -- What stands in a text, one after another, for a reader of brackets: names are as written. Assumes nothing.
 use Prim.Native.Nat.{ℕ}
 use mathlib.Core.Path.{_≡_, refl, ap}
-use mathlib.Core.Option.{Option, some, none}
+use mathlib.Core.Option.{Option, some}
 use mathlib.Core.List.{List, [], _∷_, _++_, map}
 use Rattle.ident.specs.Ident.{to-snake}
 use Rattle.descriptor.specs.Descriptor.{Bytes}

@@ -1,12 +1,11 @@
 -- Events and sights without what they are for. Assumes nothing.
-use mathlib.Core.Path.{_≡_, refl, ap, _∙_}
-use mathlib.Core.Bool.{Bool}
+use mathlib.Core.Path.{_≡_, refl, ap}
 use mathlib.Core.Option.{Option, some, none}
-use mathlib.Core.List.{List, [], _∷_, _++_, map, map-append}
+use mathlib.Core.List.{List, [], _∷_, map, map-append}
 use Rattle.descriptor.specs.Descriptor.{Bytes}
 use Rattle.code_generator.specs.Piece.{Wrap, opt, vec, box, table}
-use Rattle.sights.specs.Events.{WrittenPath, Event, open-module, open-declaration, open-block, close-block, open-field, close-field, open-tag, close-tag, open-wrap, close-wrap, meet-path}
-use Rattle.sights.specs.Sights.{Item, Label, Use, BoxUse, Sight, an-item, a-path, a-box, Frame, in-module, in-declaration, in-block, in-field, in-tag, in-wrap, place-of, owner-of, field-of, wraps-of, tagged, closed, declaration-at, use-at, box-seen, read}
+use Rattle.sights.specs.Events.{Event, open-module, open-declaration, open-block, close-block, open-field, close-field, open-tag, close-tag, open-wrap, close-wrap, meet-path}
+use Rattle.sights.specs.Sights.{Item, Label, Use, BoxUse, Sight, an-item, a-path, a-box, Frame, in-module, in-declaration, in-block, in-field, in-tag, in-wrap, place-of, owner-of, field-of, wraps-of, tagged, closed, declaration-at, box-seen, read}
 
 abbrev pub unmarked-event : Event → Event
 unmarked-event (open-module n) = open-module n

@@ -1,7 +1,7 @@
 -- The reader on a text: words in strings, comments and defaults are none of its own, nor is a struct, field, variant or path called Box. Assumes nothing.
 use mathlib.Core.Path.{_≡_, refl}
 use mathlib.Core.Option.{none}
-use mathlib.Core.List.{List, [], _∷_, _++_}
+use mathlib.Core.List.{[], _∷_, _++_}
 use Rattle.base.specs.Bytes.{b, same}
 use Rattle.base.specs.Choose.{choose}
 use Rattle.heck.specs.Case.{between}
@@ -9,8 +9,8 @@ use Rattle.ident.specs.Name.{name-start, name-part}
 use Rattle.ident.specs.Ident.{among}
 use Rattle.ident.specs.Reference.{primitive-types}
 use Rattle.code_generator.specs.Piece.{opt, box}
-use Rattle.sights.specs.Events.{Event, open-module, open-declaration, open-block, close-block, open-field, close-field, open-tag, close-tag, open-wrap, close-wrap, meet-path}
-use Rattle.text_reader.specs.Symbols.{Symbol, chars, option-value}
+use Rattle.sights.specs.Events.{open-module, open-declaration, open-block, close-block, open-field, close-field, open-tag, close-tag, open-wrap, close-wrap, meet-path}
+use Rattle.text_reader.specs.Symbols.{chars, option-value}
 use Rattle.text_reader.specs.Reader.{see}
 
 -- a default's text is a string, whatever it says

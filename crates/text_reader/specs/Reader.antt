@@ -1,7 +1,7 @@
 -- A reader of the texts' bytes. It knows Rust's keywords and brackets, prost's tags and the names of the types that stand around others,
 -- and nothing of descriptors. It goes by words and brackets, whatever the lines and indents. Assumes nothing.
 use Prim.Native.Nat.{ℕ, zero, suc}
-use mathlib.Core.Bool.{Bool, true, false, _||_, not}
+use mathlib.Core.Bool.{Bool, true, false, _||_}
 use mathlib.Core.Option.{none}
 use mathlib.Core.List.{List, [], _∷_, _++_, reverse}
 use lib.Dec.{eqb}
@@ -12,7 +12,7 @@ use Rattle.ident.specs.Ident.{among}
 use Rattle.ident.specs.Reference.{primitive-types}
 use Rattle.descriptor.specs.Descriptor.{Bytes}
 use Rattle.code_generator.specs.Piece.{Wrap, opt, vec, box, table}
-use Rattle.sights.specs.Events.{WrittenPath, Event, open-module, open-declaration, open-block, close-block, open-field, close-field, open-tag, close-tag, open-wrap, close-wrap, meet-path}
+use Rattle.sights.specs.Events.{Event, open-module, open-declaration, open-block, close-block, open-field, close-field, open-tag, close-tag, open-wrap, close-wrap, meet-path}
 use Rattle.text_reader.specs.Symbols.{Symbol}
 use Rattle.text_reader.specs.Tokens.{Token, word, sign, quote, value, code, tokens-from}
 
