@@ -64,7 +64,7 @@ module _ (rs : List Setting) {bs : List Body} (scope : Bytes) (f : FieldDescript
       opens : Reads (tag-start bs) (lit "enumeration = \"") (point bs (tag-path 1 false []) tokens.string)
       opens = record { seen = []; onward = λ s. refl; complete = refl }
 
-  pub map-value-tag : Ends (stop-point (map-stop bs)) (map-value-type-tag rs scope f) (map-stop bs)
+  map-value-tag : Ends (stop-point (map-stop bs)) (map-value-type-tag rs scope f) (map-stop bs)
   unfolding map-value-type-tag field-type-tag choose same name-part name-start between
   map-value-tag =
       ends-either (eqb (sort-of (type-of f)) enumerated)
@@ -75,7 +75,7 @@ module _ (rs : List Setting) {bs : List Body} (scope : Bytes) (f : FieldDescript
       opens = record { seen = []; onward = λ s. refl; complete = refl }
 
 -- a map's key names no declaration
-pub map-key-tag : (rs : List Setting) {bs : List Body} (scope : Bytes) (f : FieldDescriptor) → eqb (sort-of (type-of f)) enumerated ≡ false
+map-key-tag : (rs : List Setting) {bs : List Body} (scope : Bytes) (f : FieldDescriptor) → eqb (sort-of (type-of f)) enumerated ≡ false
     → Ends (stop-point (map-stop bs)) (field-type-tag rs scope f) (map-stop bs)
 unfolding field-type-tag
 map-key-tag rs scope f e =

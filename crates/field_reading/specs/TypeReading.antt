@@ -38,7 +38,7 @@ module _ (rs : List Setting) {y : Text} where
       on true = same-pieces refl (f (prost-path rs))
       on false = same-pieces refl g
 
-  pub prost-ends : {a : Point} {g : Stop} → ((v : Bytes) → Ends a (piece (opaque v) ⟫ y) g) → Ends a (lit "::prost" ⟫ y) g → Ends a (prost rs ⟫ y) g
+  prost-ends : {a : Point} {g : Stop} → ((v : Bytes) → Ends a (piece (opaque v) ⟫ y) g) → Ends a (lit "::prost" ⟫ y) g → Ends a (prost rs ⟫ y) g
   unfolding prost
   prost-ends {a} {g} f h = on ((first-of-kind 10 0 rs) .found)
     where
@@ -48,7 +48,7 @@ module _ (rs : List Setting) {y : Text} where
 
 module _ (rs : List Setting) {bs : List Body} {d : ℕ} where
   -- ---- what opens around a type
-  pub vec-opens : Reads (type-start bs d) (prost rs ⟫ (lit "::alloc::vec::Vec<" ◃ wrap-open vec)) (type-start bs (suc d))
+  vec-opens : Reads (type-start bs d) (prost rs ⟫ (lit "::alloc::vec::Vec<" ◃ wrap-open vec)) (type-start bs (suc d))
   unfolding choose same name-part name-start between
   vec-opens =
       prost-then rs (λ v. record { seen = open-wrap vec ∷ []; onward = λ s. refl; complete = refl }) (record { seen = open-wrap vec ∷ []; onward = λ s. refl; complete = refl })
@@ -135,7 +135,7 @@ abbrev pub deeper : Bool → ℕ → ℕ
 deeper true d = suc d
 deeper false d = d
 
-pub closed-when : (t : Bool) {bs : List Body} {d : ℕ} {p : Point} → Settled (type-stop bs (deeper t d)) p → Ends p (when t (lit ">" ◃ wrap-close)) (type-stop bs d)
+closed-when : (t : Bool) {bs : List Body} {d : ℕ} {p : Point} → Settled (type-stop bs (deeper t d)) p → Ends p (when t (lit ">" ◃ wrap-close)) (type-stop bs d)
 closed-when true h = ends-as refl (ends-there (wrap-closed h))
 closed-when false h = ends-as refl (stays h)
 

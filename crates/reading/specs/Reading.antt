@@ -27,11 +27,11 @@ reads-on p s = read-tokens (p .bodies) (p .at) (tokens-from (p .lexing) s)
 abbrev pub shown : List Piece → List Event
 shown ps = map unmarked-event (events ps)
 
-pub symbols-append : (ps qs : List Piece) (s : List Symbol) → symbols-before (ps ++ qs) s ≡ symbols-before ps (symbols-before qs s)
+symbols-append : (ps qs : List Piece) (s : List Symbol) → symbols-before (ps ++ qs) s ≡ symbols-before ps (symbols-before qs s)
 symbols-append [] qs s = refl
 symbols-append (p ∷ ps) qs s = ap (λ (z : List Symbol). piece-symbols p ++ z) (symbols-append ps qs s)
 
-pub shown-append : (ps qs : List Piece) → shown (ps ++ qs) ≡ shown ps ++ shown qs
+shown-append : (ps qs : List Piece) → shown (ps ++ qs) ≡ shown ps ++ shown qs
 shown-append ps qs = ap (map unmarked-event) (events-append ps qs) ∙ map-append unmarked-event (events ps) (events qs)
 
 -- ---- from a point through a text to a point
@@ -75,10 +75,6 @@ same-pieces {a} same p =
 pub reads-when : (t : Bool) {a : Point} {x : Text} → Reads a x a → Reads a (when t x) a
 reads-when true p = same-pieces refl p
 reads-when false p = same-pieces refl still
-
-pub reads-either : (t : Bool) {a z : Point} {x y : Text} → (t ≡ true → Reads a x z) → (t ≡ false → Reads a y z) → Reads a (either t x y) z
-reads-either true f g = same-pieces refl (f refl)
-reads-either false f g = same-pieces refl (g refl)
 
 -- grouped the other way
 pub regrouped : {a e : Point} {x y z : Text} → Reads a (x ⟫ (y ⟫ z)) e → Reads a ((x ⟫ y) ⟫ z) e

@@ -5,7 +5,7 @@ use mathlib.Core.List.{List, [], _∷_, map, map-append}
 use Rattle.descriptor.specs.Descriptor.{Bytes}
 use Rattle.code_generator.specs.Piece.{Wrap, opt, vec, box, table}
 use Rattle.sights.specs.Events.{Event, open-module, open-declaration, open-block, close-block, open-field, close-field, open-tag, close-tag, open-wrap, close-wrap, meet-path}
-use Rattle.sights.specs.Sights.{Item, Label, Use, BoxUse, Sight, an-item, a-path, a-box, Frame, in-module, in-declaration, in-block, in-field, in-tag, in-wrap, place-of, owner-of, field-of, wraps-of, tagged, closed, declaration-at, box-seen, read}
+use Rattle.sights.specs.Sights.{Item, Label, Use, BoxUse, Sight, an-item, a-path, a-box, Frame, in-module, in-declaration, in-block, in-field, in-tag, in-wrap, place-of, owner-of, field-of, wraps-of, tagged, closed, declaration-at, box-seen, read, items, uses, boxes}
 
 abbrev pub unmarked-event : Event → Event
 unmarked-event (open-module n) = open-module n
@@ -131,3 +131,22 @@ read-in base fs (meet-path r p ∷ es) =
 
 pub read-unmarked : (base : List Bytes) (es : List Event) → read base [] (map unmarked-event es) ≡ map unmarked (read base [] es)
 read-unmarked base es = read-in base [] es
+
+-- ---- of one sort
+pub items-unmarked : (ss : List Sight) → items (map unmarked ss) ≡ map unmarked-item (items ss)
+items-unmarked [] = refl
+items-unmarked (an-item i ∷ ss) = ap {B = List Item} (λ (l : List Item). unmarked-item i ∷ l) (items-unmarked ss)
+items-unmarked (a-path u ∷ ss) = items-unmarked ss
+items-unmarked (a-box x ∷ ss) = items-unmarked ss
+
+pub uses-unmarked : (ss : List Sight) → uses (map unmarked ss) ≡ map unmarked-use (uses ss)
+uses-unmarked [] = refl
+uses-unmarked (an-item i ∷ ss) = uses-unmarked ss
+uses-unmarked (a-path u ∷ ss) = ap {B = List Use} (λ (l : List Use). unmarked-use u ∷ l) (uses-unmarked ss)
+uses-unmarked (a-box x ∷ ss) = uses-unmarked ss
+
+pub boxes-unmarked : (ss : List Sight) → boxes (map unmarked ss) ≡ map unmarked-box (boxes ss)
+boxes-unmarked [] = refl
+boxes-unmarked (an-item i ∷ ss) = boxes-unmarked ss
+boxes-unmarked (a-path u ∷ ss) = boxes-unmarked ss
+boxes-unmarked (a-box x ∷ ss) = ap {B = List BoxUse} (λ (l : List BoxUse). unmarked-box x ∷ l) (boxes-unmarked ss)

@@ -8,7 +8,7 @@ use Rattle.heck.specs.Case.{between}
 use Rattle.ident.specs.Name.{name-start, name-part}
 use Rattle.ident.specs.Ident.{among}
 use Rattle.ident.specs.Reference.{primitive-types}
-use Rattle.code_generator.specs.Piece.{opt, box}
+use Rattle.code_generator.specs.Piece.{opt, box, table}
 use Rattle.sights.specs.Events.{open-module, open-declaration, open-block, close-block, open-field, close-field, open-tag, close-tag, open-wrap, close-wrap, meet-path}
 use Rattle.text_reader.specs.Symbols.{chars, option-value}
 use Rattle.text_reader.specs.Reader.{see}
@@ -46,3 +46,25 @@ pub blocks : see (chars (b "impl E { /// a { \" comment\n pub fn f(&self) -> &'s
     ≡ open-block ∷ open-block ∷ open-block ∷ close-block ∷ close-block ∷ close-block ∷ open-module (b "m") ∷ close-block ∷ []
 unfolding choose same name-part name-start between among primitive-types
 blocks = refl
+
+-- a map's tag holds a path in brackets; the map stands around its value's path
+pub maps : see (chars (b "pub struct S { #[prost(btree_map = \"int32, enumeration(super::E)\", tag = \"1\")] pub m: ::prost::alloc::collections::BTreeMap<i32, super::Vec>, }"))
+    ≡ open-declaration none (b "S")
+    ∷ open-tag
+    ∷ meet-path none (record { supers = 1; modules = []; last = b "E" })
+    ∷ close-tag
+    ∷ open-field none (b "m")
+    ∷ open-wrap table
+    ∷ meet-path none (record { supers = 1; modules = []; last = b "Vec" })
+    ∷ close-wrap
+    ∷ close-field
+    ∷ close-block
+    ∷ []
+unfolding choose same name-part name-start between among primitive-types
+maps = refl
+
+-- no line ends are needed between blocks
+pub one-line : see (chars (b "impl ") ++ (option-value (b "p") ∷ chars (b "::Name for S {const NAME: &'static str = \"S\";fn full_name() -> String { \"a.S\".into() }fn type_url() -> String { \"/a.S\".into() }}")))
+    ≡ open-block ∷ open-block ∷ close-block ∷ open-block ∷ close-block ∷ close-block ∷ []
+unfolding choose same name-part name-start between among primitive-types
+one-line = refl
