@@ -1,0 +1,4 @@
+pub mod Readable
+pub mod TypeReading
+pub mod TagReading
+pub mod FieldReading

@@ -1,0 +1,3 @@
+pub mod EnumReading
+pub mod MessageReading
+pub mod SeeFile

@@ -1,0 +1,4 @@
+pub mod Events
+pub mod Sights
+pub mod Unmarked
+pub mod Examples
