@@ -1,0 +1,1 @@
+// The file with an index, of an accepted set: specs/.
