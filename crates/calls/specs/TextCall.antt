@@ -15,9 +15,9 @@ use Rattle.options.specs.Settings.{Setting, settings}
 use Rattle.options.specs.Layout.{layout}
 use Rattle.options.specs.declared.check.Layout.{Layout}
 use Rattle.options.specs.declared.check.Layout.the-variants as row
-use Rattle.extern_paths.specs.Doubles.{externs}
-use Rattle.extern_paths.specs.declared.check.Externs.{Externs}
-use Rattle.extern_paths.specs.declared.check.Externs.the-variants as extern
+use Rattle.extern_checks.specs.Doubles.{externs}
+use Rattle.extern_checks.specs.declared.Externs.{Externs}
+use Rattle.extern_checks.specs.declared.Externs.the-variants as extern
 use Rattle.name_rules.specs.Answer.{names}
 use Rattle.name_rules.specs.declared.Names.{Names}
 use Rattle.name_rules.specs.declared.Names.the-variants as name
