@@ -4,13 +4,12 @@ use mathlib.Core.Bool.{Bool, true, false, not}
 use mathlib.Core.List.{List, [], _∷_}
 use Prim.Native.Nat.{ℕ, zero, suc, _+_, _-_, _≤_}
 use native.Mathlib.Numerals.{sub-one}
-use native.Mathlib.Omega.{arith}
 use lib.ListN.{length}
 use borrow.Author.Tests.{not-true, not-false}
 use Rattle.base.specs.Choose.{choose}
 use Rattle.wire.specs.Records.{records, part}
 use Rattle.index.specs.Tree.{Place}
-use Rattle.declarations.specs.Rows.{State, state, Became, has-room, room, put, push-message, places-of, places, declaration-row, declare-enums, declare-messages}
+use Rattle.declarations.specs.Rows.{State, state, Became, has-room, room, push-message, places-of, places, declaration-row, declare-enums, declare-messages}
 use Rattle.declarations.specs.declared.Row.{Row}
 use Rattle.declarations.specs.declared.Count.{Count}
 use Rattle.declarations.proofs.PlaceLaws.{places-all}
@@ -70,20 +69,19 @@ module _ (bytes : List ℕ) (from to number left file up : ℕ) (s t₀ : List �
       unfolding choose
       going-full h = record { is = (let z : has-room t k ≡ false = sym r-is ∙ not-true r h in rw z at opened); fewer = going .fewer }
 
-      pub going-more : not r ≡ false → (row : Row) → row ≡ declaration-row bytes file up (m + 2) p → (w : List ℕ) → w ≡ put t k row
-          → (u v : List ℕ) (own next : Count)
-          → Became (declare-enums bytes file (k + 1) (places bytes 4 p) (held w (k + 1) (m + 1))) u own
+      pub going-more : not r ≡ false → (u v : List ℕ) (own next : Count)
+          → Became (declare-enums bytes file (k + 1) (places bytes 4 p) (push-message (declaration-row bytes file up (m + 2) p) (held t k m))) u own
           → Became (declare-messages bytes file (left - 1) (k + 1) (places bytes 3 p) (state u own)) v next
           → (to : ℕ) → ps ≡ places-of number from (records s to) → Going v to (next .rows) (next .messages)
       unfolding choose
-      going-more h row row-is w w-is u v own next own-is next-is to ps-is =
+      going-more h u v own next own-is next-is to ps-is =
           let z : has-room t k ≡ true = sym r-is ∙ not-false r h in
-          let w-as : w ≡ put t k (declaration-row bytes file up (m + 2) p) = w-is ∙ ap (put t k) row-is in
+          let row : Row = declaration-row bytes file up (m + 2) p in
           record {
             long =
                 ap (λ (y : State). length (y .table)) (next-is .is) ∙ messages-length bytes file (left - 1) (k + 1) (places bytes 3 p) (state u own)
-                ∙ ap (λ (y : State). length (y .table)) (own-is .is) ∙ enums-length bytes file (k + 1) (places bytes 4 p) (held w (k + 1) (m + 1))
-                ∙ ap length w-is ∙ put-length t k row ∙ going .long;
+                ∙ ap (λ (y : State). length (y .table)) (own-is .is) ∙ enums-length bytes file (k + 1) (places bytes 4 p) (push-message row (held t k m))
+                ∙ put-length t k row ∙ going .long;
             fewer = next-is .fewer;
-            left-over = rw (next-is .is, own-is .is, w-as, ← ps-is) (rw z at opened);
+            left-over = rw (next-is .is, own-is .is, ← ps-is) (rw z at opened);
           }

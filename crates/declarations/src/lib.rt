@@ -4,7 +4,7 @@ ghost use mathlib.Core.Bool.{true, false};
 ghost use Prim.Native.Nat.{ℕ, _+_, _*_, _-_, _<_, _≤_};
 ghost use lib.ListN.{length};
 ghost use Rattle.index.specs.Places.{end-in};
-ghost use Rattle.declarations.specs.Rows.{cell-at, row-at, has-room, put, state, Became, places, declaration-row, declare-enums, declare-messages, declare-members, declare-file, declared};
+ghost use Rattle.declarations.specs.Rows.{cell-at, row-at, has-room, put, push-message, state, Became, places, declaration-row, declare-enums, declare-messages, declare-members, declare-file, declared};
 use wire::Record;
 use wire::Step;
 
@@ -163,6 +163,30 @@ fn declare_enums(
     }
 }
 
+// The message at this place in the next row, and its enums.
+fn declare_message(
+    set: &[u8],
+    start: usize,
+    end: usize,
+    file: usize,
+    up: usize,
+    t: &mut [usize],
+    c: Count,
+) -> Count
+    requires { ⌜ (start ≤ end) × (end ≤ length (now set)) × (c .messages ≤ c .rows) ⌝ }
+    requires { ⌜ has-room (now t) (c .rows) ≡ true ⌝ }
+    ensures { λ r. ⌜ Became (declare-enums (now (set .entry)) file (c .rows + 1) (places (now (set .entry)) 4 (record { start = start; end = end })) (push-message (declaration-row (now (set .entry)) file up (c .messages + 2) (record { start = start; end = end })) (state (now (t .entry)) c))) (now (t .exit)) r ⌝ }
+{
+    let k = c.rows;
+    let m = c.messages;
+    let kind = m + 2;
+    let rows = k + 1;
+    let messages = m + 1;
+    put_row(t, k, declaration_row(set, start, end, file, up, kind));
+    let first = Count { rows, messages };
+    declare_enums(set, start, end, 4, file, rows, t, first)
+}
+
 // The messages with this field number of the part from `from` to `to`, with what is nested in them in so many levels.
 fn declare_messages(
     set: &[u8],
@@ -181,46 +205,23 @@ fn declare_messages(
     if left == 0 {
         return c;
     }
-    let fewer = left - 1;
     let s = descriptor::part_of(set, from, to);
     let mut at: usize = 0;
-    let mut k = c.rows;
-    let mut m = c.messages;
+    let mut d = c;
     loop {
         match wire::read_step(s, at) {
-            Step::End => {
-                return Count {
-                    rows: k,
-                    messages: m,
-                };
-            }
-            Step::Fault(_) => {
-                return Count {
-                    rows: k,
-                    messages: m,
-                };
-            }
+            Step::End => return d,
+            Step::Fault(_) => return d,
             Step::Found(f) => {
                 at = f.next;
                 if f.number == number {
-                    if !room_for(t, k) {
-                        return Count {
-                            rows: k,
-                            messages: m,
-                        };
+                    if !room_for(t, d.rows) {
+                        return d;
                     }
-                    let inner = end_of(f);
                     let start = from + f.start;
-                    let end = from + inner;
-                    let kind = m + 2;
-                    let rows = k + 1;
-                    let messages = m + 1;
-                    put_row(t, k, declaration_row(set, start, end, file, up, kind));
-                    let first = Count { rows, messages };
-                    let own = declare_enums(set, start, end, 4, file, rows, t, first);
-                    let next = declare_messages(set, start, end, 3, fewer, file, rows, t, own);
-                    k = next.rows;
-                    m = next.messages;
+                    let end = from + end_of(f);
+                    let own = declare_message(set, start, end, file, up, t, d);
+                    d = declare_messages(set, start, end, 3, left - 1, file, d.rows + 1, t, own);
                 }
             }
         }

@@ -1,7 +1,7 @@
 -- The two tables of a set within the limits, without refusals 6 and 7, say what the definitions by full names say. Assumes nothing.
 use mathlib.Core.Path.{_≡_, refl, sym, ap, _∙_, subst}
 use mathlib.Core.Bool.{true, false, _||_}
-use mathlib.Core.List.{List}
+use mathlib.Core.List.{List, []}
 use Prim.Native.Nat.{ℕ, _+_, _*_, _≤_, _<_}
 use native.Mathlib.Omega.{arith}
 use lib.ListN.{length, length-replicate, getD}
@@ -32,7 +32,7 @@ use Rattle.context_tables.specs.Cells.{message-table, field-table}
 use Rattle.table_laws.specs.SetTables.{rows-counted}
 use Rattle.table_laws.specs.FitLaws.{Within, within-limits}
 use Rattle.table_laws.specs.AfterLaws.{set-afters}
-use Rattle.table_laws.specs.NodeLaws.{nodes-say}
+use Rattle.table_laws.specs.NodeLaws.{MapField, entry-typed, nodes-say}
 use Rattle.table_laws.specs.TableTheorems.{message-table-says, message-table-after, field-table-says, field-table-place, field-table-no-place, field-table-lies}
 use Rattle.targets.proofs.TargetTheorem.{target-is}
 use Rattle.set_tables.specs.Filled.{most-fields, zeros, message-places, message-count, field-places, field-count, declarations-in, target-in, setting-bytes, columns-to, settings-to, columned, entries-by, message-numbers, field-numbers}
@@ -171,3 +171,10 @@ module _ (set o : List ℕ) (passed : limit-passed set ≡ 0) (good : names (dec
     pub tables-say : Says rs set (message-numbers message-size set o) (field-numbers field-size set o)
     unfolding message-numbers field-numbers
     tables-say = subst (λ (k : ℕ). Says rs set (messages-to k) (fields-to k)) (sym whole) all-say
+
+-- no field names a map entry but the repeated message fields of the message around it
+pub only-map-fields : (set : List ℕ) → limit-passed set ≡ 0 → names (decode-set set) ≡ Good → (r : Row) (k : ℕ) → At r (rows-of (set-entries (decode-set set))) k
+    → (d : Entry) (p : ℕ) → At d (set-entries (decode-set set)) p → d .message .map-entry ≡ true → d .full ≡ type-name-of r → MapField r d
+only-map-fields set passed good =
+    entry-typed (decode-set set) (sound set [] passed good) good (λ j. row-at (message-places set) j .after)
+    (set-afters set (message-places set) (message-count set) (message-table-is set [] passed good))

@@ -13,10 +13,8 @@ use borrow.Fn.PlainCycle.{Measures, is, falls, and}
 use Rattle.declarations.proofs.declare_messages.Reads as declare-messages
 use Rattle.declarations.proofs.declare_messages.Kinds as declare-messages-kinds
 use Rattle.declarations.proofs.+declare_messages.Lts-declare_messages as declare-messages-lts
-use Rattle.declarations.proofs.declaration_row.Reads as declaration-row-reads
-use Rattle.declarations.proofs.declare_enums.Reads as declare-enums-reads
+use Rattle.declarations.proofs.declare_message.Reads as declare-message-reads
 use Rattle.declarations.proofs.end_of.Reads as end-of-reads
-use Rattle.declarations.proofs.put_row.Reads as put-row-reads
 use Rattle.declarations.proofs.room_for.Reads as room-for-reads
 use Rattle.descriptor.proofs.part_of.Reads as part-of-reads
 use Rattle.wire.proofs.read_step.Reads as read-step-reads
@@ -43,20 +41,17 @@ declare-messages-below t =
     declare-messages.Pre
 
 abbrev declare-messages-claims : ℕ → declare-messages-lts.Claims
-declare-messages-claims t = (part-of-reads.Asked, part-of-reads.Learnt, read-step-reads.Asked, read-step-reads.Learnt, room-for-reads.Asked, room-for-reads.Learnt, end-of-reads.Asked, end-of-reads.Learnt, declaration-row-reads.Asked, declaration-row-reads.Learnt, put-row-reads.Asked, put-row-reads.Learnt, declare-enums-reads.Asked, declare-enums-reads.Learnt, declare-messages-below t, declare-messages.Post)
+declare-messages-claims t = (part-of-reads.Asked, part-of-reads.Learnt, read-step-reads.Asked, read-step-reads.Learnt, room-for-reads.Asked, room-for-reads.Learnt, end-of-reads.Asked, end-of-reads.Learnt, declare-message-reads.Asked, declare-message-reads.Learnt, declare-messages-below t, declare-messages.Post)
 
 abbrev declare-messages-Inv-loop : declare-messages-lts.InvT-loop
-declare-messages-Inv-loop set from to number left file up t₀ fewer s at₀ k₀ m₀ t at k m = Going set from to number left file up s t₀ (record { rows = k₀; messages = m₀ }) t at k m
+declare-messages-Inv-loop set from to number left file up t₀ s at₀ d₀ t at d = Going set from to number left file up s t₀ d₀ t at (d .rows) (d .messages)
 
 abbrev declare-messages-μ-loop : declare-messages-lts.MeasureT-loop
-declare-messages-μ-loop set from to number left file up t₀ fewer s at₀ k₀ m₀ t at k m = length s - at
+declare-messages-μ-loop set from to number left file up t₀ s at₀ d₀ t at d = length s - at
 
 module _ (t : ℕ) where
   declare-messages-returns : declare-messages-lts.Need-returns (declare-messages-claims t) (declare-messages-at t) declare-messages.Post declare-messages-Inv-loop declare-messages-μ-loop
   declare-messages-returns c = record { is = none-left _ _ _ _ _ _ (c .if1 .taken); fewer = c .before .before .before .pre .1 .2 }
-
-  declare-messages-sub-fewer : declare-messages-lts.Need-sub-fewer (declare-messages-claims t) (declare-messages-at t) declare-messages.Post declare-messages-Inv-loop declare-messages-μ-loop
-  declare-messages-sub-fewer c = search needs
 
   declare-messages-part-of-requires : declare-messages-lts.Need-part-of-requires (declare-messages-claims t) (declare-messages-at t) declare-messages.Post declare-messages-Inv-loop declare-messages-μ-loop
   declare-messages-part-of-requires c κs = search needs
@@ -97,48 +92,38 @@ module _ (t : ℕ) where
   declare-messages-returns-4 : declare-messages-lts.Need-returns-4 (declare-messages-claims t) (declare-messages-at t) declare-messages.Post declare-messages-Inv-loop declare-messages-μ-loop
   declare-messages-returns-4 c = going-full _ _ _ _ _ _ _ _ _ _ _ _ _ _ (c .before .before .before .before .before .before .before .before .before .loop .inv) (c .before .before .before .before .before .before .before .before .before .before .before .if1 .left) _ _ (places-found _ _ _ _ _ (c .before .before .before .before .before .before .before .before .read-step .ensures) _ (c .before .before .before .before .before .before .f .given .1) (c .before .before .before .if2 .taken) _ refl) _ (c .before .room-for .ensures) (c .if3 .taken)
 
+  declare-messages-add-start : declare-messages-lts.Need-add-start (declare-messages-claims t) (declare-messages-at t) declare-messages.Post declare-messages-Inv-loop declare-messages-μ-loop
+  declare-messages-add-start c = omega (arith, inside-set _ _ _ _ (c .before .before .before .before .before .before .before .before .before .before .before .part-of .ensures) (c .before .before .before .before .before .before .before .before .before .before .before .before .before .before .before .pre .1 .0) (c .before .before .before .before .before .before .before .before .before .before .before .before .before .before .before .pre .1 .1) _ _ _ (c .before .before .before .before .before .before .before .before .before .read-step .ensures) (c .before .before .before .before .before .before .before .f .given .1) (c .before .before .before .before .before .before .before .f .given .0 .0 .start) (search places))
+
   declare-messages-end-of-requires : declare-messages-lts.Need-end-of-requires (declare-messages-claims t) (declare-messages-at t) declare-messages.Post declare-messages-Inv-loop declare-messages-μ-loop
   declare-messages-end-of-requires c κs = search places
 
-  declare-messages-add-start : declare-messages-lts.Need-add-start (declare-messages-claims t) (declare-messages-at t) declare-messages.Post declare-messages-Inv-loop declare-messages-μ-loop
-  declare-messages-add-start c = omega (arith, inside-set _ _ _ _ (c .before .before .before .before .before .before .before .before .before .before .before .before .part-of .ensures) (c .before .before .before .before .before .before .before .before .before .before .before .before .before .before .before .before .pre .1 .0) (c .before .before .before .before .before .before .before .before .before .before .before .before .before .before .before .before .pre .1 .1) _ _ _ (c .before .before .before .before .before .before .before .before .before .before .read-step .ensures) (c .before .before .before .before .before .before .before .before .f .given .1) (c .before .before .before .before .before .before .before .before .f .given .0 .0 .start) (search places))
-
   declare-messages-add-end : declare-messages-lts.Need-add-end (declare-messages-claims t) (declare-messages-at t) declare-messages.Post declare-messages-Inv-loop declare-messages-μ-loop
-  declare-messages-add-end c = omega (arith, inside-set _ _ _ _ (c .before .before .before .before .before .before .before .before .before .before .before .before .part-of .ensures) (c .before .before .before .before .before .before .before .before .before .before .before .before .before .before .before .before .pre .1 .0) (c .before .before .before .before .before .before .before .before .before .before .before .before .before .before .before .before .pre .1 .1) _ _ _ (c .before .before .before .before .before .before .before .before .before .before .read-step .ensures) (c .before .before .before .before .before .before .before .before .f .given .1) _ (c .before .end-of .ensures .2))
+  declare-messages-add-end c = omega (arith, inside-set _ _ _ _ (c .before .before .before .before .before .before .before .before .before .before .before .before .part-of .ensures) (c .before .before .before .before .before .before .before .before .before .before .before .before .before .before .before .before .pre .1 .0) (c .before .before .before .before .before .before .before .before .before .before .before .before .before .before .before .before .pre .1 .1) _ _ _ (c .before .before .before .before .before .before .before .before .before .before .read-step .ensures) (c .before .before .before .before .before .before .before .before .f .given .1) _ (c .end-of .ensures .2))
 
-  declare-messages-add-kind : declare-messages-lts.Need-add-kind (declare-messages-claims t) (declare-messages-at t) declare-messages.Post declare-messages-Inv-loop declare-messages-μ-loop
-  declare-messages-add-kind c = omega (arith, c .before .before .before .before .before .before .before .before .before .before .before .loop .inv .fewer, room-is _ _ (sym (c .before .before .before .room-for .ensures) ∙ not-false _ (c .before .before .if3 .left)))
+  declare-messages-declare-message-requires : declare-messages-lts.Need-declare-message-requires (declare-messages-claims t) (declare-messages-at t) declare-messages.Post declare-messages-Inv-loop declare-messages-μ-loop
+  declare-messages-declare-message-requires c κs =
+      let i = inside-set _ _ _ _ (c .before .before .before .before .before .before .before .before .before .before .before .before .before .part-of .ensures) (c .before .before .before .before .before .before .before .before .before .before .before .before .before .before .before .before .before .pre .1 .0) (c .before .before .before .before .before .before .before .before .before .before .before .before .before .before .before .before .before .pre .1 .1) _ _ _ (c .before .before .before .before .before .before .before .before .before .before .before .read-step .ensures) (c .before .before .before .before .before .before .before .before .before .f .given .1) _ (c .before .end-of .ensures .2) in
+      let e = c .before .end-of .ensures .1 in
+      ((omega arith, i, c .before .before .before .before .before .before .before .before .before .before .before .before .loop .inv .fewer), sym (c .before .before .before .before .room-for .ensures) ∙ not-false _ (c .before .before .before .if3 .left))
 
-  declare-messages-add-rows : declare-messages-lts.Need-add-rows (declare-messages-claims t) (declare-messages-at t) declare-messages.Post declare-messages-Inv-loop declare-messages-μ-loop
-  declare-messages-add-rows c = omega (arith, c .before .before .before .before .before .before .before .before .before .before .before .loop .inv .fewer, room-is _ _ (sym (c .before .before .before .room-for .ensures) ∙ not-false _ (c .before .before .if3 .left)))
+  declare-messages-sub-declare-messages : declare-messages-lts.Need-sub-declare-messages (declare-messages-claims t) (declare-messages-at t) declare-messages.Post declare-messages-Inv-loop declare-messages-μ-loop
+  declare-messages-sub-declare-messages c = omega (arith, c .before .before .before .before .before .before .before .before .before .before .before .before .before .before .before .before .before .if1 .left)
 
-  declare-messages-add-messages : declare-messages-lts.Need-add-messages (declare-messages-claims t) (declare-messages-at t) declare-messages.Post declare-messages-Inv-loop declare-messages-μ-loop
-  declare-messages-add-messages c = omega (arith, c .before .before .before .before .before .before .before .before .before .before .before .loop .inv .fewer, room-is _ _ (sym (c .before .before .before .room-for .ensures) ∙ not-false _ (c .before .before .if3 .left)))
-
-  declare-messages-declaration-row-requires : declare-messages-lts.Need-declaration-row-requires (declare-messages-claims t) (declare-messages-at t) declare-messages.Post declare-messages-Inv-loop declare-messages-μ-loop
-  declare-messages-declaration-row-requires c κs = search needs
-
-  declare-messages-put-row-requires : declare-messages-lts.Need-put-row-requires (declare-messages-claims t) (declare-messages-at t) declare-messages.Post declare-messages-Inv-loop declare-messages-μ-loop
-  declare-messages-put-row-requires c κs = room-is _ _ (sym (c .before .before .before .before .before .room-for .ensures) ∙ not-false _ (c .before .before .before .before .if3 .left))
-
-  declare-messages-declare-enums-requires : declare-messages-lts.Need-declare-enums-requires (declare-messages-claims t) (declare-messages-at t) declare-messages.Post declare-messages-Inv-loop declare-messages-μ-loop
-  declare-messages-declare-enums-requires c κs =
-      let i = inside-set _ _ _ _ (c .before .before .before .before .before .before .before .before .before .before .before .before .before .before .before .before .before .before .part-of .ensures) (c .before .before .before .before .before .before .before .before .before .before .before .before .before .before .before .before .before .before .before .before .before .before .pre .1 .0) (c .before .before .before .before .before .before .before .before .before .before .before .before .before .before .before .before .before .before .before .before .before .before .pre .1 .1) _ _ _ (c .before .before .before .before .before .before .before .before .before .before .before .before .before .before .before .before .read-step .ensures) (c .before .before .before .before .before .before .before .before .before .before .before .before .before .before .f .given .1) _ (c .before .before .before .before .before .before .before .end-of .ensures .2) in
-      let f = c .before .before .before .before .before .before .before .before .before .before .before .before .before .before .before .before .before .loop .inv .fewer in
-      let e = c .before .before .before .before .before .before .before .end-of .ensures .1 in
-      (omega arith, i, omega arith)
+  declare-messages-add-declare-messages : declare-messages-lts.Need-add-declare-messages (declare-messages-claims t) (declare-messages-at t) declare-messages.Post declare-messages-Inv-loop declare-messages-μ-loop
+  declare-messages-add-declare-messages c = omega (arith, room-is _ _ (sym (c .before .before .before .before .before .before .before .before .room-for .ensures) ∙ not-false _ (c .before .before .before .before .before .before .before .if3 .left)))
 
   declare-messages-declare-messages-requires : declare-messages-lts.Need-declare-messages-requires (declare-messages-claims t) (declare-messages-at t) declare-messages.Post declare-messages-Inv-loop declare-messages-μ-loop
   declare-messages-declare-messages-requires c κs =
-      let i = inside-set _ _ _ _ (c .before .before .before .before .before .before .before .before .before .before .before .before .before .before .before .before .before .before .before .before .before .before .part-of .ensures) (c .before .before .before .before .before .before .before .before .before .before .before .before .before .before .before .before .before .before .before .before .before .before .before .before .before .before .pre .1 .0) (c .before .before .before .before .before .before .before .before .before .before .before .before .before .before .before .before .before .before .before .before .before .before .before .before .before .before .pre .1 .1) _ _ _ (c .before .before .before .before .before .before .before .before .before .before .before .before .before .before .before .before .before .before .before .before .read-step .ensures) (c .before .before .before .before .before .before .before .before .before .before .before .before .before .before .before .before .before .before .f .given .1) _ (c .before .before .before .before .before .before .before .before .before .before .before .end-of .ensures .2) in
-      let e = c .before .before .before .before .before .before .before .before .before .before .before .end-of .ensures .1 in
-      (omega (arith, c .before .before .before .before .before .before .before .before .before .before .before .before .before .before .before .before .before .before .before .before .before .before .before .if1 .left, c .before .before .before .before .before .before .before .before .before .before .before .before .before .before .before .before .before .before .before .before .before .before .before .before .before .before .pre .0), (omega arith, i, c .before .before .before .declare-enums .ensures .fewer))
+      let i = inside-set _ _ _ _ (c .before .before .before .before .before .before .before .before .before .before .before .before .before .before .before .before .before .before .part-of .ensures) (c .before .before .before .before .before .before .before .before .before .before .before .before .before .before .before .before .before .before .before .before .before .before .pre .1 .0) (c .before .before .before .before .before .before .before .before .before .before .before .before .before .before .before .before .before .before .before .before .before .before .pre .1 .1) _ _ _ (c .before .before .before .before .before .before .before .before .before .before .before .before .before .before .before .before .read-step .ensures) (c .before .before .before .before .before .before .before .before .before .before .before .before .before .before .f .given .1) _ (c .before .before .before .before .before .before .end-of .ensures .2) in
+      let e = c .before .before .before .before .before .before .end-of .ensures .1 in
+      (omega (arith, c .before .before .before .before .before .before .before .before .before .before .before .before .before .before .before .before .before .before .before .if1 .left, c .before .before .before .before .before .before .before .before .before .before .before .before .before .before .before .before .before .before .before .before .before .before .pre .0), (omega arith, i, c .before .before .before .before .declare-message .ensures .fewer))
 
   declare-messages-loop-less : declare-messages-lts.Need-loop-less (declare-messages-claims t) (declare-messages-at t) declare-messages.Post declare-messages-Inv-loop declare-messages-μ-loop
-  declare-messages-loop-less c = closer _ _ _ _ (c .before .before .before .before .before .before .before .before .before .before .before .before .before .before .before .before .before .before .before .before .before .before .before .read-step .ensures) (c .before .before .before .before .before .before .before .before .before .before .before .before .before .before .before .before .before .before .before .before .before .f .given .1)
+  declare-messages-loop-less c = closer _ _ _ _ (c .before .before .before .before .before .before .before .before .before .before .before .before .before .before .before .before .before .before .before .read-step .ensures) (c .before .before .before .before .before .before .before .before .before .before .before .before .before .before .before .before .before .f .given .1)
 
   declare-messages-loop-again : declare-messages-lts.Need-loop-again (declare-messages-claims t) (declare-messages-at t) declare-messages.Post declare-messages-Inv-loop declare-messages-μ-loop
-  declare-messages-loop-again c = going-more _ _ _ _ _ _ _ _ _ _ _ _ _ _ (c .before .before .before .before .before .before .before .before .before .before .before .before .before .before .before .before .before .before .before .before .before .before .before .before .loop .inv) (c .before .before .before .before .before .before .before .before .before .before .before .before .before .before .before .before .before .before .before .before .before .before .before .before .before .before .if1 .left) _ _ (places-found _ _ _ _ _ (c .before .before .before .before .before .before .before .before .before .before .before .before .before .before .before .before .before .before .before .before .before .before .before .read-step .ensures) _ (c .before .before .before .before .before .before .before .before .before .before .before .before .before .before .before .before .before .before .before .before .before .f .given .1) (c .before .before .before .before .before .before .before .before .before .before .before .before .before .before .before .before .before .before .if2 .taken) _ (c .before .before .before .before .before .before .before .before .before .before .before .before .before .before .end-of .ensures .0)) _ (c .before .before .before .before .before .before .before .before .before .before .before .before .before .before .before .before .room-for .ensures) (c .before .before .before .before .before .before .before .before .before .before .before .before .before .before .before .if3 .left) _ (c .before .before .before .before .before .before .before .before .before .before .before .declaration-row .ensures) _ (c .before .before .before .before .before .before .before .before .before .before .put-row .ensures) _ _ _ _ (c .before .before .before .before .before .before .declare-enums .ensures) (c .before .before .declare-messages .ensures) _ refl
+  declare-messages-loop-again c = going-more _ _ _ _ _ _ _ _ _ _ _ _ _ _ (c .before .before .before .before .before .before .before .before .before .before .before .before .before .before .before .before .before .before .before .before .loop .inv) (c .before .before .before .before .before .before .before .before .before .before .before .before .before .before .before .before .before .before .before .before .before .before .if1 .left) _ _ (places-found _ _ _ _ _ (c .before .before .before .before .before .before .before .before .before .before .before .before .before .before .before .before .before .before .before .read-step .ensures) _ (c .before .before .before .before .before .before .before .before .before .before .before .before .before .before .before .before .before .f .given .1) (c .before .before .before .before .before .before .before .before .before .before .before .before .before .before .if2 .taken) _ (c .before .before .before .before .before .before .before .before .before .end-of .ensures .0)) _ (c .before .before .before .before .before .before .before .before .before .before .before .before .room-for .ensures) (c .before .before .before .before .before .before .before .before .before .before .before .if3 .left) _ _ _ _ (c .before .before .before .before .before .before .before .declare-message .ensures) (c .before .before .declare-messages .ensures) _ refl
 
   declare-messages-loop-less-2 : declare-messages-lts.Need-loop-less-2 (declare-messages-claims t) (declare-messages-at t) declare-messages.Post declare-messages-Inv-loop declare-messages-μ-loop
   declare-messages-loop-less-2 c = search places
@@ -153,7 +138,6 @@ pub +declare-messages-spec : {M : Type 1} → statement M
     declare-messages-Inv-loop
     declare-messages-μ-loop
     (declare-messages-returns t)
-    (declare-messages-sub-fewer t)
     (declare-messages-part-of-requires t)
     (declare-messages-loop-holds t)
     (declare-messages-read-step-requires t)
@@ -167,15 +151,12 @@ pub +declare-messages-spec : {M : Type 1} → statement M
     (declare-messages-room-for-requires t)
     (declare-messages-same-length-3 t)
     (declare-messages-returns-4 t)
-    (declare-messages-end-of-requires t)
     (declare-messages-add-start t)
+    (declare-messages-end-of-requires t)
     (declare-messages-add-end t)
-    (declare-messages-add-kind t)
-    (declare-messages-add-rows t)
-    (declare-messages-add-messages t)
-    (declare-messages-declaration-row-requires t)
-    (declare-messages-put-row-requires t)
-    (declare-messages-declare-enums-requires t)
+    (declare-messages-declare-message-requires t)
+    (declare-messages-sub-declare-messages t)
+    (declare-messages-add-declare-messages t)
     (declare-messages-declare-messages-requires t)
     (declare-messages-loop-less t)
     (declare-messages-loop-again t)
