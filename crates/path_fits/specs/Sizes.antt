@@ -6,7 +6,7 @@ use mathlib.Core.Option.{Option, some, none}
 use mathlib.Core.List.{List, [], _∷_}
 use lib.Dec.{eqb}
 use lib.ListN.{length, getD}
-use Rattle.base.specs.Choose.{choose, choose-case}
+use Rattle.base.specs.Choose.{choose-case}
 use Rattle.heck.specs.Case.{is-upper}
 use Rattle.heck.specs.Pass.{cased}
 use Rattle.heck.specs.declared.State.the-variants.{Start}
