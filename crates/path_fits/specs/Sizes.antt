@@ -1,4 +1,4 @@
--- How long a written name is, whatever its bytes: sanitising adds at most two. Assumes nothing.
+-- How long a written name is at most, whatever its bytes. Assumes nothing.
 use Prim.Native.Nat.{ℕ, suc, _+_, _≤_}
 use native.Mathlib.Omega.{arith}
 use mathlib.Core.Bool.{true}
