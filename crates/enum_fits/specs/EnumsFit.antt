@@ -2,7 +2,7 @@
 use Prim.Native.Nat.{ℕ, _+_, _≤_}
 use native.Mathlib.Omega.{arith}
 use mathlib.Core.Path.{_≡_, refl}
-use mathlib.Core.Bool.{Bool, true, false}
+use mathlib.Core.Bool.{Bool, true, false, _||_}
 use mathlib.Core.List.{List, [], _∷_}
 use lib.ListN.{length}
 use borrow.Author.Tests.{le-leb}
@@ -21,7 +21,7 @@ use Rattle.path_fits.specs.PathsFit.{NameFits, EnumFits, PathsFit, FileFits}
 use Rattle.path_fits.specs.FitLaws.{set-fits}
 use Rattle.code_generator.specs.Piece.{flat, spelt, variant}
 use Rattle.code_generator.specs.Enums.{append-enum, append-enums}
-use Rattle.code_generator.specs.Refusals.{enum-overlaps}
+use Rattle.code_generator.specs.Refusals.{any-message, enum-overlaps, variants-overlap}
 use Rattle.enum_text.specs.EnumText.{enum-fits, enum-text, enum-texts}
 use Rattle.enum_text.specs.Overlap.{variant-name, has-room, enum-meets, meets-fully}
 use Rattle.enum_text.proofs.EnumLaws.{enum-text-is, enum-texts-are}
@@ -110,3 +110,15 @@ module _ (rs : List Setting) where
 
   pub overlaps-whole : (scope : Bytes) (es : List EnumDescriptor) → EnumsWhole rs scope es → any (enum-meets rs scope) es ≡ any (enum-overlaps rs scope) es
   overlaps-whole scope es h = any-meets scope es (h .named)
+
+  -- ---- over the messages that are written, and over a file
+  pub forest-overlaps : (scope : Bytes) (F : Forest MessageDescriptor) → EnumsFit rs scope F → any-message rs (λ full m nested. any (enum-meets rs full) (m .enums)) scope F ≡ any-message rs (λ full m nested. any (enum-overlaps rs full) (m .enums)) scope F
+  unfolding any-message
+  forest-overlaps scope done h = refl
+  forest-overlaps scope (node m nested following) h =
+      let full = scope · text (m .name) in
+      rw (overlaps-whole full (m .enums) (h .0), forest-overlaps full nested (h .1 .0), forest-overlaps scope following (h .1 .1))
+
+  pub file-overlaps : (f : FileDescriptor) → FileEnumsFit rs f → (any-message rs (λ full m nested. any (enum-meets rs full) (m .enums)) (package-scope (f .package-name)) (f .messages) || any (enum-meets rs (package-scope (f .package-name))) (f .enums)) ≡ variants-overlap rs f
+  unfolding variants-overlap
+  file-overlaps f h = rw (forest-overlaps (package-scope (f .package-name)) (f .messages) (h .nested), overlaps-whole (package-scope (f .package-name)) (f .enums) (h .own))

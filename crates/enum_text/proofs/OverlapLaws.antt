@@ -1,6 +1,6 @@
 -- Names that are met again among an enum's values, one record on; and that within the limits it is refusal 8. Assumes nothing.
 use Prim.Native.Nat.{ℕ, _+_, _-_, _≤_, _<_}
-use mathlib.Core.Path.{_≡_, refl, sym, ap, ap₂, _∙_}
+use mathlib.Core.Path.{_≡_, refl, sym, ap, _∙_}
 use mathlib.Core.Bool.{Bool, true, false, _&&_, _||_, not}
 use mathlib.Core.List.{List, [], _∷_, map}
 use lib.Dec.{leb}
@@ -31,9 +31,9 @@ use Rattle.name_rules.specs.FullNames.{_·_}
 use Rattle.joined.specs.Joined as joined
 use Rattle.code_generator.specs.Piece.{spelt, variant}
 use Rattle.code_generator.specs.Enums.{build-enum-value-mappings, generated-variant-name}
-use Rattle.code_generator.specs.Refusals.{overlap, generated-names, enum-overlaps}
+use Rattle.code_generator.specs.Refusals.{overlap, enum-overlaps}
 use Rattle.enum_values.specs.Kept.{marked}
-use Rattle.enum_text.specs.EnumText.{values-fit, enum-fits, first-values}
+use Rattle.enum_text.specs.EnumText.{values-fit, enum-fits}
 use Rattle.enum_text.specs.Overlap.{variant-name, has-room, names, asked, names-from, enum-meets, meets-fully}
 use Rattle.enum_text.proofs.EnumLaws.{all-kept}
 

@@ -1,8 +1,8 @@
 -- An enum by its part: where its text is left out; and the enums of a part, one record on. Assumes nothing.
 use Prim.Native.Nat.{ℕ, _-_, _≤_, _<_}
-use mathlib.Core.Path.{_≡_, refl, sym, ap, ap₂, subst, _∙_}
+use mathlib.Core.Path.{_≡_, ap, ap₂, _∙_}
 use mathlib.Core.Bool.{Bool, true, false}
-use mathlib.Core.List.{List, [], _∷_, _++_, map}
+use mathlib.Core.List.{List, [], _++_, map}
 use lib.ListN.{length, take, drop}
 use Rattle.base.specs.Choose.{choose}
 use Rattle.writer.specs.Wrote.{Wrote, named}

@@ -1,5 +1,4 @@
 // code_generator.rs, append_enum: the text of an enum.
-ghost use mathlib.Core.Path.{_≡_};
 ghost use Rattle.writer.specs.Wrote.{Wrote};
 ghost use Rattle.options.specs.Settings.{settings};
 ghost use Rattle.descriptor.specs.Decode.{decode-enum};

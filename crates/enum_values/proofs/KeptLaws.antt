@@ -6,12 +6,11 @@ use native.Mathlib.Decide.{decLt}
 use mathlib.Core.Path.{_≡_, refl, sym, ap, _∙_}
 use mathlib.Core.Bool.{Bool, true, false, not, _||_}
 use mathlib.Core.List.{List, [], _∷_}
-use lib.Dec.{eqb, ltb}
+use lib.Dec.{eqb}
 use lib.ListN.{length, getD, set, take, length-set, length-replicate}
 use lib.Seq.{take-nil, getD-set-same, getD-set-other}
 use borrow.Author.Tests.{lt-ltb, le-ltb, eqb-true, eq-eqb, ne-eqb}
 use Rattle.base.specs.Choose.{choose}
-use Rattle.base.specs.Tests.{bool-cases}
 use Rattle.descriptor.specs.Descriptor.{ValueDescriptor}
 use Rattle.code_generator.specs.Enums.{value-number, is-used, mappings-from, build-enum-value-mappings}
 use Rattle.enum_values.specs.Kept.{numbers-before, no-values, note, noted, marked}

@@ -1,7 +1,7 @@
 -- Laws of refusal 2, as the code goes through the rows. Assumes nothing.
 use mathlib.Core.Path.{_≡_, refl, sym, ap, _∙_}
-use mathlib.Core.Bool.{Bool, true, false, _&&_, _||_, not}
-use mathlib.Core.List.{List, [], _∷_, map}
+use mathlib.Core.Bool.{Bool, true, false, _||_, not}
+use mathlib.Core.List.{List, [], _∷_}
 use Prim.Native.Nat.{ℕ, zero, suc, _+_, _-_, _≤_, _<_}
 use native.Mathlib.Omega.{arith}
 use native.Mathlib.Numerals.{add-one}
@@ -10,17 +10,16 @@ use lib.ListN.{length, take, drop, getD}
 use lib.Seq.{drop-cons}
 use borrow.Author.Tests.{eq-eqb, ne-eqb}
 use Rattle.base.specs.Choose.{choose}
-use Rattle.base.specs.Bytes.{b, same}
-use Rattle.options.specs.Settings.{Setting, number, row-count, bodies, path-length, value-length, settings-from, settings, row, setting-of}
+use Rattle.base.specs.Bytes.{same}
+use Rattle.options.specs.Settings.{Setting, row-count, bodies, path-length, value-length, settings-from, settings, row, setting-of}
 use Rattle.options.specs.declared.Row.{Row}
 use Rattle.options.proofs.RowLaws.{settings-step, settings-end}
 use Rattle.path.specs.Forms.{among}
-use Rattle.split.specs.Split.{begins, push, split-behind, split}
+use Rattle.split.specs.Split.{begins, split-behind, split}
 use Rattle.extern_paths.specs.ExternPaths.{extern, prost-types}
 use Rattle.extern_paths.specs.ProstTypes.{path-words}
-use Rattle.base.specs.Lists.{any, is-empty}
+use Rattle.base.specs.Lists.{any}
 use Rattle.extern_checks.specs.Doubles.{has-gap, valid-path, prost-type-paths, lists, doubled, at-fault, externs-from, externs}
-use Rattle.extern_checks.specs.declared.Externs.{Externs}
 use Rattle.extern_checks.specs.declared.Externs.the-variants.{Good, Bad}
 use Rattle.extern_paths.proofs.TakerLaws.{length-settings}
 use Rattle.split.proofs.SplitLaws.{by-test, eqb-turned}

@@ -1,9 +1,9 @@
 -- Theorems about extern paths: what is taken stays taken under further segments, and document 01's row. Assumes nothing.
-use mathlib.Core.Path.{_≡_, refl, sym, ap, _∙_}
-use mathlib.Core.Logic.{_⊎_, inl, inr, ⊎-elim}
+use mathlib.Core.Path.{_≡_, refl, sym, _∙_}
+use mathlib.Core.Logic.{_⊎_, ⊎-elim}
 use mathlib.Core.Bool.{Bool, true, false, _&&_, _||_, and-false}
 use mathlib.Core.List.{List, [], _∷_, _++_}
-use Prim.Native.Nat.{ℕ, suc, _+_, _-_, _≤_, _<_}
+use Prim.Native.Nat.{ℕ, _+_, _-_, _≤_, _<_}
 use native.Mathlib.Omega.{arith}
 use native.Mathlib.Nat.{sub-zero}
 use native.Mathlib.Decide.{decLt}
@@ -11,14 +11,13 @@ use borrow.Author.Tests.{eqb-true, eqb-false}
 use lib.Dec.{eqb}
 use lib.ListN.{length, take, drop, getD, length-append, List·getD-append}
 use lib.Seq.{take-append-le, take-append-seam, getD-append-seam}
-use Rattle.base.specs.Choose.{choose, choose-case}
+use Rattle.base.specs.Choose.{choose}
 use Rattle.base.specs.Lists.{any}
 use Rattle.base.specs.Tests.{both-ways, and-left, and-right, and-both, or-left, or-right, or-cases}
 use Rattle.base.specs.Bytes.{b, same, same-refl, same-sound}
 use Rattle.heck.specs.Case.{between, class, lowered, raised, parts, words, to-snake-case, to-upper-camel-case}
 use Rattle.ident.specs.Ident.{among as among-words, raw-words, kept-words, addition, with-addition, sanitize-identifier, to-snake, to-upper-camel}
 use Rattle.options.specs.Settings.{Setting, value-of}
-use Rattle.options.specs.declared.Found.{Found}
 use Rattle.path.specs.Forms.{before-dots, filled, prefixes, among}
 use Rattle.path.specs.PathMap.{first-with, find-best}
 use Rattle.path.proofs.FormLaws.{prefix-empty, prefix-long, prefix-no-dot, prefix-same}

@@ -1,14 +1,12 @@
 -- Which extern path takes a name, as the code searches: the rows, then the words of prost types. Assumes nothing.
 use mathlib.Core.Path.{_≡_, refl, sym, ap, _∙_}
 use mathlib.Core.Bool.{Bool, true, false, not}
-use mathlib.Core.Option.{Option, some, none}
 use mathlib.Core.List.{List, [], _∷_, _++_, append-nil}
 use Prim.Native.Nat.{ℕ, zero, suc, _+_, _-_, _^_, _≤_, _<_}
 use native.Mathlib.Omega.{arith}
 use native.Mathlib.Nat.{zero-add}
-use native.Mathlib.Numerals.{add-one}
 use lib.Dec.{eqb, ltb}
-use lib.ListN.{length, getD, length-append, List·getD-append}
+use lib.ListN.{length, getD, List·getD-append}
 use lib.Seq.{getD-append-add}
 use borrow.Author.Tests.{eq-eqb, ne-eqb}
 use Rattle.base.specs.Choose.{choose, choose-case}
@@ -16,8 +14,7 @@ use Rattle.base.specs.Bytes.{b, same}
 use Rattle.options.specs.Settings.{Setting, row-count, bodies, path-length, value-length, settings-from, settings, row, setting-of, row-by, row-number, between, first-of-kind, value-of, prost-path}
 use Rattle.options.specs.declared.Row.{Row}
 use Rattle.options.specs.declared.Found.{Found}
-use Rattle.options.proofs.RowLaws.{settings-step, row-by-end, row-by-step, value-is, given, value-in}
-use Rattle.path.specs.Forms.{prefixes}
+use Rattle.options.proofs.RowLaws.{settings-step, value-is, given, value-in}
 use Rattle.path.specs.PathMap.{find-best}
 use Rattle.path.specs.Worth.{Form, weighed, worth-in, worth-of, improve, best-of, none-yet, found-of}
 use Rattle.path.specs.declared.Best.{Best}

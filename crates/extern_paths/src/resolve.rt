@@ -13,7 +13,7 @@ ghost use Prim.Native.Nat.{_+_, _^_, _<_};
 ghost use lib.ListN.{length};
 ghost use Rattle.base.specs.Bytes.{b};
 ghost use Rattle.writer.specs.Wrote.{Wrote};
-ghost use Rattle.options.specs.Settings.{settings, row-count, setting-of, prost-path, between};
+ghost use Rattle.options.specs.Settings.{settings, row-count, prost-path, between};
 ghost use Rattle.options.proofs.RowLaws.{Lies};
 ghost use Rattle.path.specs.Worth.{weighed, best-of, none-yet};
 ghost use Rattle.split.specs.Split.{split};

@@ -11,7 +11,7 @@ use lib.ListN.{length, length-append}
 use lib.Seq.{take-all}
 use borrow.Author.Tests.{ltb-false, le-leb}
 use Rattle.base.specs.Choose.{choose}
-use Rattle.base.specs.Lists.{any, all-of, Every, every-to}
+use Rattle.base.specs.Lists.{any, all-of, Every}
 use Rattle.base.specs.Tests.{or-false-left, or-false-right}
 use Rattle.ident.specs.Ident.{to-upper-camel}
 use Rattle.descriptor.specs.Descriptor.{Bytes, Forest, done, node, preorder, FieldDescriptor, ValueDescriptor, EnumDescriptor, MessageDescriptor, FileDescriptor}

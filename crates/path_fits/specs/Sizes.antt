@@ -1,4 +1,4 @@
--- How long a written name is, whatever its bytes: sanitising adds at most two. Assumes nothing.
+-- How long a written name is at most, whatever its bytes. Assumes nothing.
 use Prim.Native.Nat.{ℕ, suc, _+_, _≤_}
 use native.Mathlib.Omega.{arith}
 use mathlib.Core.Bool.{true}
@@ -6,7 +6,7 @@ use mathlib.Core.Option.{Option, some, none}
 use mathlib.Core.List.{List, [], _∷_}
 use lib.Dec.{eqb}
 use lib.ListN.{length, getD}
-use Rattle.base.specs.Choose.{choose, choose-case}
+use Rattle.base.specs.Choose.{choose-case}
 use Rattle.heck.specs.Case.{is-upper}
 use Rattle.heck.specs.Pass.{cased}
 use Rattle.heck.specs.declared.State.the-variants.{Start}

@@ -1,19 +1,17 @@
 -- Where a text that a `::` follows is cut. Assumes nothing.
 use mathlib.Core.Path.{_≡_, refl, sym, ap, _∙_}
-use mathlib.Core.Bool.{Bool, true, false, _&&_, _||_, and-false}
+use mathlib.Core.Bool.{Bool, true, false, _&&_, and-false}
 use mathlib.Core.List.{List, [], _∷_, _++_}
 use Prim.Native.Nat.{ℕ, zero, suc, _+_, _-_, _≤_, _<_}
 use native.Mathlib.Omega.{arith}
-use native.Mathlib.Numerals.{add-one}
 use lib.Dec.{eqb}
 use lib.ListN.{length, take, drop, length-drop, drop-of-length-le}
 use lib.Seq.{take-all, drop-drop, drop-append-add}
 use Rattle.base.specs.Choose.{choose, choose-case}
-use Rattle.base.specs.Lists.{is-empty}
 use Rattle.base.specs.Tests.{both-ways, and-left, and-right}
 use borrow.Author.Tests.{eqb-true}
 use Rattle.base.specs.Bytes.{b, same, same-sound}
-use Rattle.split.specs.Split.{begins, push, split-behind, split, first-part}
+use Rattle.split.specs.Split.{begins, push, split-behind, split}
 use Rattle.rust_paths.specs.Parts.{cut, is-tail}
 use Rattle.split.proofs.SplitLaws.{by-test, split-is}
 

@@ -1,6 +1,6 @@
 -- Laws of `split`: its first part, and what is left behind the separator. Assumes nothing.
 use mathlib.Core.Path.{_≡_, refl, sym, ap, _∙_}
-use mathlib.Core.Bool.{Bool, true, false, _&&_, _||_, and-false}
+use mathlib.Core.Bool.{Bool, true, false, _&&_, and-false}
 use mathlib.Core.List.{List, [], _∷_}
 use Prim.Native.Nat.{ℕ, zero, suc, _+_, _-_, _≤_, _<_, min}
 use native.Mathlib.Omega.{arith}
@@ -8,11 +8,11 @@ use native.Mathlib.Numerals.{add-one}
 use native.Mathlib.Decide.{decLe, decLt}
 use borrow.Author.Tests.{lt-ltb, le-ltb, eq-eqb, ne-eqb, eqb-true, eqb-false}
 use lib.Dec.{eqb, ltb}
-use lib.ListN.{length, take, drop, getD, length-drop, length-take, drop-of-length-le}
-use lib.Seq.{drop-cons, drop-drop, drop-nil}
+use lib.ListN.{length, take, drop, length-drop, drop-of-length-le}
+use lib.Seq.{drop-cons, drop-drop}
 use Rattle.base.specs.Choose.{choose, choose-case}
 use Rattle.base.specs.Tests.{both-ways, and-right}
-use Rattle.base.specs.Bytes.{b, same, same-length, same-refl}
+use Rattle.base.specs.Bytes.{same}
 use Rattle.split.specs.Split.{begins, push, split-behind, split, first-part}
 
 pub by-test : (P : Bool → Type 0) (t : Bool) → (t ≡ true → P true) → (t ≡ false → P false) → P t

@@ -1,7 +1,7 @@
 // The parts of a text between the places where a separator stands.
 ghost use mathlib.Core.Path.{_≡_};
-ghost use Prim.Native.Nat.{_+_, _≤_, _<_};
-ghost use lib.ListN.{length, drop};
+ghost use Prim.Native.Nat.{_+_, _<_};
+ghost use lib.ListN.{drop};
 ghost use Rattle.base.specs.Bytes.{b};
 ghost use Rattle.path.specs.Forms.{among};
 ghost use Rattle.split.specs.Split.{begins, first-part, split};

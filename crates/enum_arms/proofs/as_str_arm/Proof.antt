@@ -1,7 +1,6 @@
-use Rattle.writer.specs.Wrote.{_►_, kept, named, none}
+use Rattle.writer.specs.Wrote.{_►_, kept}
 use mathlib.Core.Path.{refl}
 use Rattle.code_generator.specs.Enums.{as-str-arm}
-use borrow.Author.Needs.{needs}
 use Rattle.enum_arms.proofs.as_str_arm.Statement.{statement}
 use Rattle.enum_arms.proofs.as_str_arm.Tie as tie
 

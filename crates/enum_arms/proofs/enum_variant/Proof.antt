@@ -1,7 +1,5 @@
-use Rattle.writer.specs.Wrote.{_►_, kept, named, none}
-use mathlib.Core.Path.{refl}
+use Rattle.writer.specs.Wrote.{_►_, kept}
 use Rattle.enum_arms.specs.ValueText.{variant-text}
-use borrow.Author.Needs.{needs}
 use Rattle.enum_arms.proofs.enum_variant.Statement.{statement}
 use Rattle.enum_arms.proofs.enum_variant.Tie as tie
 

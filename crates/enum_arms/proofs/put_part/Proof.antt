@@ -1,5 +1,4 @@
-use Rattle.writer.specs.Wrote.{_►_, kept, named, none}
-use mathlib.Core.Path.{refl}
+use Rattle.writer.specs.Wrote.{kept, named, none}
 use Rattle.enum_arms.proofs.ValueLaws.{part-text}
 use borrow.Author.Needs.{needs}
 use Rattle.enum_arms.proofs.put_part.Statement.{statement}

@@ -1,8 +1,6 @@
-use Rattle.writer.specs.Wrote.{_►_, kept, named, none}
-use mathlib.Core.Path.{refl}
+use Rattle.writer.specs.Wrote.{kept}
 use Rattle.enum_arms.specs.ValueText.{value-text}
 use borrow.Author.Tests.{eq-eqb, ne-eqb}
-use borrow.Author.Needs.{needs}
 use Rattle.enum_arms.proofs.put_value.Statement.{statement}
 use Rattle.enum_arms.proofs.put_value.Tie as tie
 

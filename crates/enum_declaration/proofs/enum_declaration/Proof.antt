@@ -1,4 +1,4 @@
-use Rattle.writer.specs.Wrote.{_►_, kept, named, none}
+use Rattle.writer.specs.Wrote.{_►_, kept}
 use mathlib.Core.Path.{refl}
 use Rattle.enum_declaration.specs.DeclarationText.{declaration-text}
 use Rattle.code_generator.specs.Attributes.{append-type-attributes, append-enum-attributes}

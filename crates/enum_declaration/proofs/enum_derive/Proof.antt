@@ -1,12 +1,11 @@
-use Rattle.writer.specs.Wrote.{_►_, kept, named, none}
-use mathlib.Core.Path.{refl, _≡_, ap}
-use mathlib.Core.Bool.{Bool, not}
+use Rattle.writer.specs.Wrote.{_►_, kept, named}
+use mathlib.Core.Path.{refl, ap}
+use mathlib.Core.Bool.{not}
 use mathlib.Core.List.{[]}
 use Rattle.base.specs.Bytes.{b}
 use Rattle.writer.specs.Text.{pick}
 use Rattle.options.specs.declared.Found.{Found}
 use Rattle.code_generator.specs.Enums.{enum-derive}
-use borrow.Author.Needs.{needs}
 use Rattle.enum_declaration.proofs.enum_derive.Statement.{statement}
 use Rattle.enum_declaration.proofs.enum_derive.Tie as tie
 

@@ -1,7 +1,5 @@
-use Rattle.writer.specs.Wrote.{_►_, kept, named, none}
-use mathlib.Core.Path.{refl}
+use Rattle.writer.specs.Wrote.{kept, named}
 use Rattle.enum_arms.proofs.ValueLaws.{as-str-arms-are}
-use borrow.Author.Needs.{needs}
 use Rattle.enum_impl.proofs.as_str_arms.Statement.{statement}
 use Rattle.enum_impl.proofs.as_str_arms.Tie as tie
 

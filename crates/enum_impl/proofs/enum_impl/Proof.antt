@@ -1,5 +1,4 @@
-use Rattle.writer.specs.Wrote.{_►_, kept, named, none}
-use mathlib.Core.Path.{refl}
+use Rattle.writer.specs.Wrote.{_►_, kept}
 use Rattle.code_generator.specs.Enums.{enum-impl}
 use Rattle.enum_impl.specs.ImplText.{impl-line}
 use borrow.Author.Needs.{needs}

@@ -1,7 +1,6 @@
-use Rattle.writer.specs.Wrote.{_►_, kept, named, none}
+use Rattle.writer.specs.Wrote.{_►_, kept}
 use mathlib.Core.Path.{refl}
 use Rattle.enum_impl.specs.ImplText.{impl-line}
-use borrow.Author.Needs.{needs}
 use Rattle.enum_impl.proofs.impl_line.Statement.{statement}
 use Rattle.enum_impl.proofs.impl_line.Tie as tie
 

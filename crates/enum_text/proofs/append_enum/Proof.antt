@@ -1,6 +1,6 @@
 use Prim.Native.Nat.{ℕ}
 use lib.ListN.{length-replicate}
-use Rattle.writer.specs.Wrote.{kept, named, none}
+use Rattle.writer.specs.Wrote.{named, none}
 use Rattle.enum_text.proofs.WalkLaws.{own-name, enum-unfit, enum-taken, enum-there}
 use borrow.Author.Needs.{needs}
 use Rattle.enum_text.proofs.append_enum.Statement.{statement}

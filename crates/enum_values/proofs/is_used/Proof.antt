@@ -1,7 +1,7 @@
-use Prim.Native.Nat.{ℕ, _≤_}
+use Prim.Native.Nat.{_≤_}
 use native.Mathlib.Omega.{arith}
 use borrow.Author.Needs.{needs}
-use mathlib.Core.Path.{_≡_, refl, sym, ap, _∙_}
+use mathlib.Core.Path.{_≡_, refl, sym, _∙_}
 use Rattle.code_generator.specs.Enums.{is-used}
 use Rattle.enum_values.specs.Kept.{numbers-before}
 use Rattle.enum_values.proofs.KeptLaws.{used-hit, used-miss, used-start}

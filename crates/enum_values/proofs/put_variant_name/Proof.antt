@@ -1,6 +1,4 @@
-use Rattle.writer.specs.Wrote.{_►_, kept, named, none}
-use mathlib.Core.Path.{refl}
-use borrow.Author.Needs.{needs}
+use Rattle.writer.specs.Wrote.{kept}
 use Rattle.enum_values.proofs.put_variant_name.Statement.{statement}
 use Rattle.enum_values.proofs.put_variant_name.Tie as tie
 

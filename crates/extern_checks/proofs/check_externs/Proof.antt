@@ -1,7 +1,6 @@
-use mathlib.Core.Path.{_≡_, refl, sym, ap, _∙_}
+use mathlib.Core.Path.{_≡_, sym, _∙_}
 use borrow.Author.Needs.{needs}
 use Prim.Native.Nat.{_-_}
-use native.Mathlib.Omega.{arith}
 use Rattle.options.specs.Settings.{settings}
 use Rattle.options.proofs.RowLaws.{row-lies}
 use Rattle.extern_checks.specs.Doubles.{externs-from, externs}

@@ -1,4 +1,4 @@
-use mathlib.Core.Path.{_≡_, refl, sym, ap, _∙_}
+use mathlib.Core.Path.{refl}
 use Rattle.extern_checks.proofs.GapLaws.{no-dot, last-dot, next-dot}
 use borrow.Author.Needs.{needs}
 use Rattle.extern_checks.proofs.gap_at.Statement.{statement}

@@ -1,4 +1,4 @@
-use mathlib.Core.Path.{_≡_, refl, sym, ap, _∙_}
+use mathlib.Core.Path.{refl}
 use Rattle.extern_checks.specs.Doubles.{at-fault}
 use borrow.Author.Needs.{needs}
 use Rattle.extern_checks.proofs.is_at_fault.Statement.{statement}

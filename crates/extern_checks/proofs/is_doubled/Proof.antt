@@ -1,4 +1,3 @@
-use mathlib.Core.Path.{_≡_, refl, sym, ap, _∙_}
 use Rattle.extern_checks.proofs.DoubleLaws.{doubled-one, doubled-prost, doubled-none}
 use borrow.Author.Needs.{needs}
 use Rattle.extern_checks.proofs.is_doubled.Statement.{statement}

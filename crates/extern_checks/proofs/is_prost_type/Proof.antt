@@ -1,5 +1,5 @@
 use Rattle.extern_paths.specs.ProstTypes.{path-words}
-use mathlib.Core.Path.{_≡_, refl, sym, ap, _∙_}
+use mathlib.Core.Path.{ap, _∙_}
 use Rattle.path.specs.Forms.{among}
 use Rattle.extern_checks.proofs.DoubleLaws.{prost-words}
 use borrow.Author.Needs.{needs}

@@ -1,4 +1,3 @@
-use mathlib.Core.Path.{_≡_, refl, sym, ap, _∙_}
 use Rattle.extern_checks.proofs.DoubleLaws.{prost-one, prost-is}
 use borrow.Author.Needs.{needs}
 use Rattle.extern_checks.proofs.lists_prost_type.Statement.{statement}

@@ -2,23 +2,16 @@ use Rattle.rust_paths.proofs.PartLaws.{tail-empty, tail-begins}
 use borrow.Author.Needs.{needs}
 use Rattle.rust_paths.proofs.is_rest.Statement.{statement}
 use Rattle.rust_paths.proofs.is_rest.Tie as tie
-use Rattle.rust_paths.proofs.is_rest.Reads as reads
-use Rattle.rust_paths.proofs.is_rest.Lts as lts
-use Rattle.split.proofs.begins_at.Reads as begins-at-reads
 
--- src/lib.rt:110:9
 returns : tie.Need-returns
 returns c = tail-empty _ (c .if1 .taken)
 
--- src/lib.rt:112:21
 slice-aggregate-begins-at : tie.Need-slice-aggregate-begins-at
 slice-aggregate-begins-at c = search needs
 
--- src/lib.rt:112:5
 begins-at-requires : tie.Need-begins-at-requires
 begins-at-requires c κs = search needs
 
--- src/lib.rt:106:1
 returns-2 : tie.Need-returns-2
 returns-2 c = tail-begins _ _ (c .before .before .if1 .left) (c .begins-at .ensures)
 

@@ -1,5 +1,4 @@
 use mathlib.Core.Path.{ap}
-use mathlib.Core.List.{List, _++_}
 use native.Mathlib.Omega.{arith}
 use Rattle.writer.specs.Wrote.{_►_, named}
 use Rattle.rust_paths.specs.Parts.{path-text}

@@ -2,7 +2,7 @@ use Rattle.base.specs.Bytes.{b}
 use mathlib.Core.Path.{sym}
 use native.Mathlib.Omega.{arith}
 use Rattle.writer.specs.Wrote.{_►_, named}
-use Rattle.split.proofs.SplitLaws.{Parted, spans, sep-within}
+use Rattle.split.proofs.SplitLaws.{spans, sep-within}
 use Rattle.rust_paths.proofs.PartLaws.{path-last, path-more}
 use borrow.Author.Needs.{needs}
 use Rattle.rust_paths.proofs.put_path.Statement.{statement}

@@ -1,4 +1,3 @@
-use mathlib.Core.Path.{_≡_, refl, sym, ap, _∙_}
 use Rattle.split.proofs.SplitLaws.{begins-not, begins-is}
 use borrow.Author.Needs.{needs}
 use Rattle.split.proofs.begins_at.Statement.{statement}

@@ -5,9 +5,9 @@ use Rattle.split.specs.Split.{split}
 use Rattle.split.proofs.SplitLaws.{Parted, spans, parted-next}
 use Rattle.split.proofs.WordLaws.{among-last, among-hit, among-more}
 use lib.ListN.{length, drop}
-use Prim.Native.Nat.{_-_, _<_, _≤_}
+use Prim.Native.Nat.{_-_}
 use native.Mathlib.Omega.{arith}
-use mathlib.Core.Path.{_≡_, refl, sym, _∙_}
+use mathlib.Core.Path.{_≡_, refl, _∙_}
 use Rattle.split.proofs.is_word.Statement.{statement}
 use Rattle.split.proofs.is_word.Tie as tie
 

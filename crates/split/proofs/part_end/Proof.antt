@@ -1,8 +1,7 @@
-use mathlib.Core.Path.{_≡_, refl, sym, ap, _∙_}
+use mathlib.Core.Path.{_≡_, refl, sym, _∙_}
 use borrow.Author.Needs.{needs}
-use Prim.Native.Nat.{_+_, _-_, _≤_}
+use Prim.Native.Nat.{_+_, _-_}
 use lib.ListN.{length, drop}
-use native.Mathlib.Omega.{arith}
 use Rattle.split.specs.Split.{first-part}
 use Rattle.split.proofs.SplitLaws.{part-stops, part-goes, part-ends}
 use Rattle.split.proofs.part_end.Statement.{statement}

@@ -4,9 +4,9 @@ use Rattle.split.specs.Split.{split}
 use Rattle.split.proofs.SplitLaws.{Parted, spans, parted-next}
 use Rattle.split.proofs.WordLaws.{word-hit, word-more, word-last, word-none}
 use lib.ListN.{length, drop, getD}
-use Prim.Native.Nat.{_-_, _<_, _≤_}
+use Prim.Native.Nat.{_-_, _≤_}
 use native.Mathlib.Omega.{arith}
-use mathlib.Core.Path.{_≡_, refl, sym, _∙_}
+use mathlib.Core.Path.{_≡_, refl, _∙_}
 use mathlib.Core.List.{[]}
 use Rattle.split.proofs.word.Statement.{statement}
 use Rattle.split.proofs.word.Tie as tie

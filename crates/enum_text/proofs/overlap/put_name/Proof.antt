@@ -1,4 +1,4 @@
-use Rattle.writer.specs.Wrote.{kept, named}
+use Rattle.writer.specs.Wrote.{named}
 use Rattle.enum_text.proofs.OverlapLaws.{named-part}
 use borrow.Author.Needs.{needs}
 use Rattle.enum_text.proofs.overlap.put_name.Statement.{statement}

@@ -1,8 +1,4 @@
-use mathlib.Core.Path.{ap}
-use mathlib.Core.List.{List, _++_}
-use Prim.Native.Nat.{ℕ}
 use Rattle.options.proofs.RowLaws.{number-lies}
-use Rattle.extern_paths.specs.ExternPaths.{extern}
 use Rattle.extern_paths.proofs.TakerLaws.{prost-given, prost-default}
 use borrow.Author.Needs.{needs}
 use Rattle.extern_paths.proofs.resolve.put_by_prost.Statement.{statement}

@@ -1,4 +1,3 @@
-use mathlib.Core.Path.{_≡_, refl}
 use Rattle.writer.specs.Wrote.{none, named}
 use Rattle.options.proofs.RowLaws.{number-lies}
 use Rattle.extern_paths.specs.ExternPaths.{extern-text}
