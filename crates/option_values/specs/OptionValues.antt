@@ -9,7 +9,6 @@ use Rattle.base.specs.Bytes.{b}
 use Rattle.base.specs.Choose.{choose, choose-case}
 use Rattle.base.specs.Lists.{Every, every-append, every-to}
 use Rattle.base.specs.Tests.{both-ways}
-use Rattle.field_types.specs.Types.{message}
 use Rattle.syntax.specs.Syntax.{syntax-of}
 use Rattle.descriptor.specs.Descriptor.{Bytes, Forest, done, node, FieldDescriptor, ValueDescriptor, EnumDescriptor, MessageDescriptor, FileDescriptor}
 use Rattle.options.specs.Settings.{Setting, first-of-kind, found-at, value-of, or-else, prost-path}
@@ -52,27 +51,27 @@ Of-options rs (label o n) = Unit
 Of-options rs (path r w) = Unit
 Of-options rs (mark m) = Unit
 
--- ---- of a text
+-- ---- of a text: each of its opaque pieces is such a value
 module _ (rs : List Setting) where
-  abbrev Fair : Text → Type 0
-  Fair nothing = Unit
-  Fair (piece p) = Of-options rs p
-  Fair (x ⟫ y) = Fair x × Fair y
-  Fair (when t x) = t ≡ true → Fair x
-  Fair (either t x y) = (t ≡ true → Fair x) × (t ≡ false → Fair y)
-  Fair (m ▹ x) = Fair x
-  Fair (x ◃ m) = Fair x
+  abbrev Valued : Text → Type 0
+  Valued nothing = Unit
+  Valued (piece p) = Of-options rs p
+  Valued (x ⟫ y) = Valued x × Valued y
+  Valued (when t x) = t ≡ true → Valued x
+  Valued (either t x y) = (t ≡ true → Valued x) × (t ≡ false → Valued y)
+  Valued (m ▹ x) = Valued x
+  Valued (x ◃ m) = Valued x
 
-  fair-pieces : (x : Text) → Fair x → Every (Of-options rs) (pieces x)
-  fair-pieces nothing h = tt
-  fair-pieces (piece p) h = (h, tt)
-  fair-pieces (x ⟫ y) h = every-append (Of-options rs) (pieces x) (pieces y) (fair-pieces x (h .0)) (fair-pieces y (h .1))
-  fair-pieces (when true x) h = fair-pieces x (h refl)
-  fair-pieces (when false x) h = tt
-  fair-pieces (either true x y) h = fair-pieces x (h .0 refl)
-  fair-pieces (either false x y) h = fair-pieces y (h .1 refl)
-  fair-pieces (m ▹ x) h = (tt, fair-pieces x h)
-  fair-pieces (x ◃ m) h = every-append (Of-options rs) (pieces x) (mark m ∷ []) (fair-pieces x h) (tt, tt)
+  valued-pieces : (x : Text) → Valued x → Every (Of-options rs) (pieces x)
+  valued-pieces nothing h = tt
+  valued-pieces (piece p) h = (h, tt)
+  valued-pieces (x ⟫ y) h = every-append (Of-options rs) (pieces x) (pieces y) (valued-pieces x (h .0)) (valued-pieces y (h .1))
+  valued-pieces (when true x) h = valued-pieces x (h refl)
+  valued-pieces (when false x) h = tt
+  valued-pieces (either true x y) h = valued-pieces x (h .0 refl)
+  valued-pieces (either false x y) h = valued-pieces y (h .1 refl)
+  valued-pieces (m ▹ x) h = (tt, valued-pieces x h)
+  valued-pieces (x ◃ m) h = every-append (Of-options rs) (pieces x) (mark m ∷ []) (valued-pieces x h) (tt, tt)
 
 infixl 60 _&_
 _&_ : {A B : Type 0} → A → B → A × B
@@ -97,269 +96,269 @@ got-values kind forms (r ∷ rs) =
     choose-case (Every (Row-value (r ∷ rs))) (eqb (r .kind) kind && among (r .path) forms) (λ _. (List·Memᴰ·head refl, others)) (λ _. others)
 
 module _ (rs : List Setting) where
-  attributes-fair : (d : ℕ) (vs : List Bytes) → Every (Row-value rs) vs → Fair rs (attributes d vs)
+  attributes-valued : (d : ℕ) (vs : List Bytes) → Every (Row-value rs) vs → Valued rs (attributes d vs)
   unfolding attributes
-  attributes-fair d [] h = tt
-  attributes-fair d (v ∷ vs) h = tt & h .0 & tt & attributes-fair d vs (h .1)
+  attributes-valued d [] h = tt
+  attributes-valued d (v ∷ vs) h = tt & h .0 & tt & attributes-valued d vs (h .1)
 
-  type-attributes-fair : (d : ℕ) (full : Bytes) → Fair rs (append-type-attributes rs d full)
+  type-attributes-valued : (d : ℕ) (full : Bytes) → Valued rs (append-type-attributes rs d full)
   unfolding append-type-attributes
-  type-attributes-fair d full = attributes-fair d (type-attributes rs full) (got-values 5 (sub-path-iter full) rs)
+  type-attributes-valued d full = attributes-valued d (type-attributes rs full) (got-values 5 (sub-path-iter full) rs)
 
-  message-attributes-fair : (d : ℕ) (full : Bytes) → Fair rs (append-message-attributes rs d full)
+  message-attributes-valued : (d : ℕ) (full : Bytes) → Valued rs (append-message-attributes rs d full)
   unfolding append-message-attributes
-  message-attributes-fair d full = attributes-fair d (message-attributes rs full) (got-values 7 (sub-path-iter full) rs)
+  message-attributes-valued d full = attributes-valued d (message-attributes rs full) (got-values 7 (sub-path-iter full) rs)
 
-  enum-attributes-fair : (d : ℕ) (full : Bytes) → Fair rs (append-enum-attributes rs d full)
+  enum-attributes-valued : (d : ℕ) (full : Bytes) → Valued rs (append-enum-attributes rs d full)
   unfolding append-enum-attributes
-  enum-attributes-fair d full = attributes-fair d (enum-attributes rs full) (got-values 8 (sub-path-iter full) rs)
+  enum-attributes-valued d full = attributes-valued d (enum-attributes rs full) (got-values 8 (sub-path-iter full) rs)
 
-  field-attributes-fair : (d : ℕ) (full field : Bytes) → Fair rs (append-field-attributes rs d full field)
+  field-attributes-valued : (d : ℕ) (full field : Bytes) → Valued rs (append-field-attributes rs d full field)
   unfolding append-field-attributes
-  field-attributes-fair d full field = attributes-fair d (field-attributes rs full field) (got-values 6 (sub-path-iter (full · field)) rs)
+  field-attributes-valued d full field = attributes-valued d (field-attributes rs full field) (got-values 6 (sub-path-iter (full · field)) rs)
 
-  prost-fair : Fair rs (prost rs)
+  prost-valued : Valued rs (prost rs)
   unfolding prost prost-path
-  prost-fair = (λ h. found-value 10 0 rs (b "::prost") h) & (λ _. tt)
+  prost-valued = (λ h. found-value 10 0 rs (b "::prost") h) & (λ _. tt)
 
-  path-attribute-fair : Fair rs (append-prost-path-attribute rs)
+  path-attribute-valued : Valued rs (append-prost-path-attribute rs)
   unfolding append-prost-path-attribute prost-path
-  path-attribute-fair h = tt & found-value 10 0 rs (b "::prost") h & tt
+  path-attribute-valued h = tt & found-value 10 0 rs (b "::prost") h & tt
 
-  skip-debug-fair : (d : ℕ) (full : Bytes) → Fair rs (append-skip-debug rs d full)
+  skip-debug-valued : (d : ℕ) (full : Bytes) → Valued rs (append-skip-debug rs d full)
   unfolding append-skip-debug
-  skip-debug-fair d full _ = tt & tt
+  skip-debug-valued d full _ = tt & tt
 
-  derive-fair : (d : ℕ) (copy eq : Bool) (what : Bytes) → Fair rs (derive rs d copy eq what)
+  derive-valued : (d : ℕ) (copy eq : Bool) (what : Bytes) → Valued rs (derive rs d copy eq what)
   unfolding derive
-  derive-fair d copy eq what = tt & tt & (λ _. tt) & tt & (λ _. tt) & prost-fair & tt
+  derive-valued d copy eq what = tt & tt & (λ _. tt) & tt & (λ _. tt) & prost-valued & tt
 
-  deprecated-fair : (d : ℕ) (f : FieldDescriptor) → Fair rs (append-deprecated d f)
+  deprecated-valued : (d : ℕ) (f : FieldDescriptor) → Valued rs (append-deprecated d f)
   unfolding append-deprecated
-  deprecated-fair d f _ = tt & tt
+  deprecated-valued d f _ = tt & tt
 
   -- ---- types and tags
-  ident-fair : (scope ident : Bytes) → Fair rs (resolve-ident rs scope ident)
+  ident-valued : (scope ident : Bytes) → Valued rs (resolve-ident rs scope ident)
   unfolding resolve-ident
-  ident-fair scope ident = (λ h. record { ident = ident; takes = h; is = refl }) & (λ _. tt)
+  ident-valued scope ident = (λ h. record { ident = ident; takes = h; is = refl }) & (λ _. tt)
 
-  type-fair : (scope : Bytes) (as-bytes : Bool) (f : FieldDescriptor) → Fair rs (resolve-type rs scope as-bytes f)
+  type-valued : (scope : Bytes) (as-bytes : Bool) (f : FieldDescriptor) → Valued rs (resolve-type rs scope as-bytes f)
   unfolding resolve-type resolve-bytes
-  type-fair scope as-bytes f =
-      (λ _. prost-fair & tt)
-      & (λ _. (λ _. (λ _. prost-fair & tt) & (λ _. prost-fair & tt & tt)) & (λ _. (λ _. ident-fair scope (text (f .type-name))) & (λ _. tt)))
+  type-valued scope as-bytes f =
+      (λ _. prost-valued & tt)
+      & (λ _. (λ _. (λ _. prost-valued & tt) & (λ _. prost-valued & tt & tt)) & (λ _. (λ _. ident-valued scope (text (f .type-name))) & (λ _. tt)))
 
-  type-tag-fair : (scope : Bytes) (f : FieldDescriptor) → Fair rs (field-type-tag rs scope f)
+  type-tag-valued : (scope : Bytes) (f : FieldDescriptor) → Valued rs (field-type-tag rs scope f)
   unfolding field-type-tag tag-ident
-  type-tag-fair scope f = (λ _. tt & ident-fair scope (text (f .type-name)) & tt) & (λ _. tt)
+  type-tag-valued scope f = (λ _. tt & ident-valued scope (text (f .type-name)) & tt) & (λ _. tt)
 
-  value-tag-fair : (scope : Bytes) (f : FieldDescriptor) → Fair rs (map-value-type-tag rs scope f)
+  value-tag-valued : (scope : Bytes) (f : FieldDescriptor) → Valued rs (map-value-type-tag rs scope f)
   unfolding map-value-type-tag tag-ident
-  value-tag-fair scope f = (λ _. tt & ident-fair scope (text (f .type-name)) & tt) & (λ _. type-tag-fair scope f)
+  value-tag-valued scope f = (λ _. tt & ident-valued scope (text (f .type-name)) & tt) & (λ _. type-tag-valued scope f)
 
-  default-fair : (f : FieldDescriptor) (o : Option Bytes) → Fair rs (default-given rs f o)
+  default-valued : (f : FieldDescriptor) (o : Option Bytes) → Valued rs (default-given rs f o)
   unfolding default-text
-  default-fair f none = tt
-  default-fair f (some v) = tt & ((λ _. tt & tt & tt) & (λ _. (λ _. tt) & (λ _. tt)))
+  default-valued f none = tt
+  default-valued f (some v) = tt & ((λ _. tt & tt & tt) & (λ _. (λ _. tt) & (λ _. tt)))
 
-  tag-fair : (proto3 : Bool) (scope : Bytes) (f : FieldDescriptor) (boxed as-bytes : Bool) → Fair rs (field-tag rs proto3 scope f boxed as-bytes)
+  tag-valued : (proto3 : Bool) (scope : Bytes) (f : FieldDescriptor) (boxed as-bytes : Bool) → Valued rs (field-tag rs proto3 scope f boxed as-bytes)
   unfolding field-tag bytes-annotation label-tag default-tag
-  tag-fair proto3 scope f boxed as-bytes =
-      type-tag-fair scope f
+  tag-valued proto3 scope f boxed as-bytes =
+      type-tag-valued scope f
       & (λ _. (λ _. tt) & (λ _. tt))
       & ((λ _ _. tt) & (λ _. (λ _. tt) & (λ _. tt & (λ _. tt))))
       & (λ _. tt)
       & tt
       & tt
-      & default-fair f (f .default-value)
+      & default-valued f (f .default-value)
       & tt
 
   -- ---- lines
-  box-open-fair : (boxed : Bool) → Fair rs (box-open rs boxed)
+  box-open-valued : (boxed : Bool) → Valued rs (box-open rs boxed)
   unfolding box-open
-  box-open-fair boxed _ = prost-fair & tt
+  box-open-valued boxed _ = prost-valued & tt
 
-  line-fair : (proto3 : Bool) (d : ℕ) (scope full : Bytes) (f : FieldDescriptor) (boxed as-bytes : Bool) → Fair rs (field-line rs proto3 d scope full f boxed as-bytes)
+  line-valued : (proto3 : Bool) (d : ℕ) (scope full : Bytes) (f : FieldDescriptor) (boxed as-bytes : Bool) → Valued rs (field-line rs proto3 d scope full f boxed as-bytes)
   unfolding field-line shape-open shape-close box-close
-  line-fair proto3 d scope full f boxed as-bytes =
+  line-valued proto3 d scope full f boxed as-bytes =
       tt & tt & tt & tt
-      & ((λ _. prost-fair & tt) & (λ _ _. tt))
-      & box-open-fair boxed
-      & type-fair scope as-bytes f
+      & ((λ _. prost-valued & tt) & (λ _ _. tt))
+      & box-open-valued boxed
+      & type-valued scope as-bytes f
       & (λ _. tt)
       & (λ _. tt)
       & tt
 
-  field-fair : (set : List FileDescriptor) (proto3 : Bool) (d : ℕ) (scope full : Bytes) (f : FieldDescriptor) → Fair rs (append-field rs set proto3 d scope full f)
+  field-valued : (set : List FileDescriptor) (proto3 : Bool) (d : ℕ) (scope full : Bytes) (f : FieldDescriptor) → Valued rs (append-field rs set proto3 d scope full f)
   unfolding append-field
-  field-fair set proto3 d scope full f =
-      deprecated-fair d f
+  field-valued set proto3 d scope full f =
+      deprecated-valued d f
       & (tt & tt)
-      & tag-fair proto3 scope f (should-box-message-field rs set full f) (bytes-type rs full (text (f .name)))
-      & field-attributes-fair d full (text (f .name))
-      & line-fair proto3 d scope full f (should-box-message-field rs set full f) (bytes-type rs full (text (f .name)))
+      & tag-valued proto3 scope f (should-box-message-field rs set full f) (bytes-type rs full (text (f .name)))
+      & field-attributes-valued d full (text (f .name))
+      & line-valued proto3 d scope full f (should-box-message-field rs set full f) (bytes-type rs full (text (f .name)))
 
-  map-tag-fair : (scope : Bytes) (f : FieldDescriptor) (e : MapEntry) (btree : Bool) → Fair rs (map-tag rs scope f e btree)
+  map-tag-valued : (scope : Bytes) (f : FieldDescriptor) (e : MapEntry) (btree : Bool) → Valued rs (map-tag rs scope f e btree)
   unfolding map-tag
-  map-tag-fair scope f e btree = ((λ _. tt) & (λ _. tt)) & tt & type-tag-fair scope (e .key) & tt & value-tag-fair scope (e .value) & tt & tt & tt
+  map-tag-valued scope f e btree = ((λ _. tt) & (λ _. tt)) & tt & type-tag-valued scope (e .key) & tt & value-tag-valued scope (e .value) & tt & tt & tt
 
-  map-line-fair : (d : ℕ) (scope full : Bytes) (f : FieldDescriptor) (e : MapEntry) (btree key-bytes value-bytes : Bool) → Fair rs (map-line rs d scope full f e btree key-bytes value-bytes)
+  map-line-valued : (d : ℕ) (scope full : Bytes) (f : FieldDescriptor) (e : MapEntry) (btree key-bytes value-bytes : Bool) → Valued rs (map-line rs d scope full f e btree key-bytes value-bytes)
   unfolding map-line map-open
-  map-line-fair d scope full f e btree key-bytes value-bytes =
-      tt & tt & tt & tt & ((λ _. prost-fair & tt) & (λ _. tt)) & type-fair scope key-bytes (e .key) & tt & type-fair scope value-bytes (e .value) & tt & tt
+  map-line-valued d scope full f e btree key-bytes value-bytes =
+      tt & tt & tt & tt & ((λ _. prost-valued & tt) & (λ _. tt)) & type-valued scope key-bytes (e .key) & tt & type-valued scope value-bytes (e .value) & tt & tt
 
-  map-fair : (d : ℕ) (scope full : Bytes) (f : FieldDescriptor) (e : MapEntry) → Fair rs (append-map-field rs d scope full f e)
+  map-valued : (d : ℕ) (scope full : Bytes) (f : FieldDescriptor) (e : MapEntry) → Valued rs (append-map-field rs d scope full f e)
   unfolding append-map-field
-  map-fair d scope full f e =
+  map-valued d scope full f e =
       tt & tt
-      & map-tag-fair scope f e (map-type rs full (text (f .name)))
-      & field-attributes-fair d full (text (f .name))
-      & map-line-fair d scope full f e (map-type rs full (text (f .name))) (bytes-type rs full (text (e .key .name))) (bytes-type rs full (text (e .value .name)))
+      & map-tag-valued scope f e (map-type rs full (text (f .name)))
+      & field-attributes-valued d full (text (f .name))
+      & map-line-valued d scope full f e (map-type rs full (text (f .name))) (bytes-type rs full (text (e .key .name))) (bytes-type rs full (text (e .value .name)))
 
   -- ---- oneofs
-  more-tags-fair : (fs : List FieldDescriptor) → Fair rs (more-tags fs)
+  more-tags-valued : (fs : List FieldDescriptor) → Valued rs (more-tags fs)
   unfolding more-tags
-  more-tags-fair [] = tt
-  more-tags-fair (f ∷ fs) = tt & tt & more-tags-fair fs
+  more-tags-valued [] = tt
+  more-tags-valued (f ∷ fs) = tt & tt & more-tags-valued fs
 
-  tags-fair : (fs : List FieldDescriptor) → Fair rs (tags fs)
+  tags-valued : (fs : List FieldDescriptor) → Valued rs (tags fs)
   unfolding tags
-  tags-fair [] = tt
-  tags-fair (f ∷ fs) = tt & more-tags-fair fs
+  tags-valued [] = tt
+  tags-valued (f ∷ fs) = tt & more-tags-valued fs
 
-  oneof-field-fair : (d : ℕ) (full message : Bytes) (x : OneofField) → Fair rs (append-oneof-field rs d full message x)
+  oneof-field-valued : (d : ℕ) (full message : Bytes) (x : OneofField) → Valued rs (append-oneof-field rs d full message x)
   unfolding append-oneof-field oneof-tag oneof-line
-  oneof-field-fair d full message x =
-      tt & tt & (tt & tt & tt & tags-fair (x .fields) & tt) & field-attributes-fair d full (x .name) & (tt & tt & tt & tt & tt & tt & tt & tt)
+  oneof-field-valued d full message x =
+      tt & tt & (tt & tt & tt & tags-valued (x .fields) & tt) & field-attributes-valued d full (x .name) & (tt & tt & tt & tt & tt & tt & tt & tt)
 
-  oneof-fields-fair : (d : ℕ) (full message : Bytes) (xs : List OneofField) → Fair rs (append-oneof-fields rs d full message xs)
+  oneof-fields-valued : (d : ℕ) (full message : Bytes) (xs : List OneofField) → Valued rs (append-oneof-fields rs d full message xs)
   unfolding append-oneof-fields
-  oneof-fields-fair d full message [] = tt
-  oneof-fields-fair d full message (x ∷ xs) = oneof-field-fair d full message x & oneof-fields-fair d full message xs
+  oneof-fields-valued d full message [] = tt
+  oneof-fields-valued d full message (x ∷ xs) = oneof-field-valued d full message x & oneof-fields-valued d full message xs
 
-  variant-line-fair : (d : ℕ) (scope full : Bytes) (f : FieldDescriptor) (boxed as-bytes : Bool) → Fair rs (variant-line rs d scope full f boxed as-bytes)
+  variant-line-valued : (d : ℕ) (scope full : Bytes) (f : FieldDescriptor) (boxed as-bytes : Bool) → Valued rs (variant-line rs d scope full f boxed as-bytes)
   unfolding variant-line box-close
-  variant-line-fair d scope full f boxed as-bytes = tt & tt & tt & box-open-fair boxed & type-fair scope as-bytes f & (λ _. tt) & tt
+  variant-line-valued d scope full f boxed as-bytes = tt & tt & tt & box-open-valued boxed & type-valued scope as-bytes f & (λ _. tt) & tt
 
   -- ---- enums
   module _ (enum : Bytes) where
-    enum-variants-fair : (d : ℕ) (full : Bytes) (vs : List ValueDescriptor) → Fair rs (enum-variants rs d full enum vs)
+    enum-variants-valued : (d : ℕ) (full : Bytes) (vs : List ValueDescriptor) → Valued rs (enum-variants rs d full enum vs)
     unfolding enum-variants enum-variant variant-lines
-    enum-variants-fair d full [] = tt
-    enum-variants-fair d full (v ∷ vs) =
-        field-attributes-fair d full (text (v .name)) & ((λ _. tt & tt) & tt & tt & tt & tt & tt) & enum-variants-fair d full vs
+    enum-variants-valued d full [] = tt
+    enum-variants-valued d full (v ∷ vs) =
+        field-attributes-valued d full (text (v .name)) & ((λ _. tt & tt) & tt & tt & tt & tt & tt) & enum-variants-valued d full vs
 
-    as-str-fair : (d : ℕ) (vs : List ValueDescriptor) → Fair rs (as-str-arms rs d enum vs)
+    as-str-valued : (d : ℕ) (vs : List ValueDescriptor) → Valued rs (as-str-arms rs d enum vs)
     unfolding as-str-arms as-str-arm
-    as-str-fair d [] = tt
-    as-str-fair d (v ∷ vs) = (λ _. tt & tt) & (tt & tt) & tt & tt & tt & tt & as-str-fair d vs
+    as-str-valued d [] = tt
+    as-str-valued d (v ∷ vs) = (λ _. tt & tt) & (tt & tt) & tt & tt & tt & tt & as-str-valued d vs
 
-    from-str-fair : (d : ℕ) (vs : List ValueDescriptor) → Fair rs (from-str-arms rs d enum vs)
+    from-str-valued : (d : ℕ) (vs : List ValueDescriptor) → Valued rs (from-str-arms rs d enum vs)
     unfolding from-str-arms from-str-arm
-    from-str-fair d [] = tt
-    from-str-fair d (v ∷ vs) = tt & tt & tt & tt & (λ _. tt) & tt & tt & tt & from-str-fair d vs
+    from-str-valued d [] = tt
+    from-str-valued d (v ∷ vs) = tt & tt & tt & tt & (λ _. tt) & tt & tt & tt & from-str-valued d vs
 
-    impl-fair : (d : ℕ) (vs : List ValueDescriptor) → Fair rs (enum-impl rs d enum vs)
+    impl-valued : (d : ℕ) (vs : List ValueDescriptor) → Valued rs (enum-impl rs d enum vs)
     unfolding enum-impl as-str-name from-str-name
-    impl-fair d vs =
+    impl-valued d vs =
         tt & tt & tt & tt
-        & (tt & tt & (tt & tt) & (tt & tt) & (tt & tt) & (tt & tt) & (tt & tt) & as-str-fair (suc (suc (suc d))) vs & (tt & tt) & (tt & tt))
-        & (tt & tt & (tt & tt) & (tt & tt) & from-str-fair (suc (suc (suc d))) vs & (tt & tt) & (tt & tt) & (tt & tt))
+        & (tt & tt & (tt & tt) & (tt & tt) & (tt & tt) & (tt & tt) & (tt & tt) & as-str-valued (suc (suc (suc d))) vs & (tt & tt) & (tt & tt))
+        & (tt & tt & (tt & tt) & (tt & tt) & from-str-valued (suc (suc (suc d))) vs & (tt & tt) & (tt & tt) & (tt & tt))
         & (tt & tt)
 
-    declaration-fair : (d : ℕ) (full : Bytes) (vs : List ValueDescriptor) → Fair rs (enum-declaration rs d full enum vs)
+    declaration-valued : (d : ℕ) (full : Bytes) (vs : List ValueDescriptor) → Valued rs (enum-declaration rs d full enum vs)
     unfolding enum-declaration enum-derive
-    declaration-fair d full vs =
-        type-attributes-fair d full
-        & enum-attributes-fair d full
-        & (tt & tt & (λ _. tt) & tt & prost-fair & tt)
-        & path-attribute-fair
+    declaration-valued d full vs =
+        type-attributes-valued d full
+        & enum-attributes-valued d full
+        & (tt & tt & (λ _. tt) & tt & prost-valued & tt)
+        & path-attribute-valued
         & (tt & tt)
         & (tt & tt)
         & tt
         & tt
-        & enum-variants-fair (suc d) full vs
+        & enum-variants-valued (suc d) full vs
         & (tt & tt)
 
-  enums-fair : (d : ℕ) (scope : Bytes) (es : List EnumDescriptor) → Fair rs (append-enums rs d scope es)
+  enums-valued : (d : ℕ) (scope : Bytes) (es : List EnumDescriptor) → Valued rs (append-enums rs d scope es)
   unfolding append-enums append-enum
-  enums-fair d scope [] = tt
-  enums-fair d scope (e ∷ es) =
-      (λ _. declaration-fair (text (e .name)) d (scope · text (e .name)) (build-enum-value-mappings (e .values)) & impl-fair (text (e .name)) d (build-enum-value-mappings (e .values)))
-      & enums-fair d scope es
+  enums-valued d scope [] = tt
+  enums-valued d scope (e ∷ es) =
+      (λ _. declaration-valued (text (e .name)) d (scope · text (e .name)) (build-enum-value-mappings (e .values)) & impl-valued (text (e .name)) d (build-enum-value-mappings (e .values)))
+      & enums-valued d scope es
 
   -- ---- messages
   module _ (set : List FileDescriptor) where
-    variants-fair : (d : ℕ) (full : Bytes) (x : OneofField) (fs : List FieldDescriptor) → Fair rs (append-variants rs set d full x fs)
+    variants-valued : (d : ℕ) (full : Bytes) (x : OneofField) (fs : List FieldDescriptor) → Valued rs (append-variants rs set d full x fs)
     unfolding append-variants append-variant variant-tag
-    variants-fair d full x [] = tt
-    variants-fair d full x (f ∷ fs) =
-        deprecated-fair d f
+    variants-valued d full x [] = tt
+    variants-valued d full x (f ∷ fs) =
+        deprecated-valued d f
         & (tt & tt)
-        & (type-tag-fair full f & tt & tt & tt)
-        & field-attributes-fair d (full · x .name) (text (f .name))
-        & variant-line-fair d full full f (should-box-oneof-field rs set full (x .name) f) (bytes-type rs full (text (f .name)))
-        & variants-fair d full x fs
+        & (type-tag-valued full f & tt & tt & tt)
+        & field-attributes-valued d (full · x .name) (text (f .name))
+        & variant-line-valued d full full f (should-box-oneof-field rs set full (x .name) f) (bytes-type rs full (text (f .name)))
+        & variants-valued d full x fs
 
-    oneofs-fair : (d : ℕ) (full : Bytes) (xs : List OneofField) → Fair rs (append-oneofs rs set d full xs)
+    oneofs-valued : (d : ℕ) (full : Bytes) (xs : List OneofField) → Valued rs (append-oneofs rs set d full xs)
     unfolding append-oneofs append-oneof
-    oneofs-fair d full [] = tt
-    oneofs-fair d full (x ∷ xs) =
-        type-attributes-fair d (full · x .name)
-        & enum-attributes-fair d (full · x .name)
-        & derive-fair d (can-oneof-derive-copy rs set full x) (can-oneof-derive-eq rs set full x) (b "::Oneof)]\n")
-        & path-attribute-fair
-        & skip-debug-fair d full
+    oneofs-valued d full [] = tt
+    oneofs-valued d full (x ∷ xs) =
+        type-attributes-valued d (full · x .name)
+        & enum-attributes-valued d (full · x .name)
+        & derive-valued d (can-oneof-derive-copy rs set full x) (can-oneof-derive-eq rs set full x) (b "::Oneof)]\n")
+        & path-attribute-valued
+        & skip-debug-valued d full
         & (tt & tt)
         & tt
         & tt
-        & variants-fair (suc d) full x (x .fields)
+        & variants-valued (suc d) full x (x .fields)
         & (tt & tt)
-        & oneofs-fair d full xs
+        & oneofs-valued d full xs
 
     module _ (proto3 : Bool) where
-      choice-fair : (d : ℕ) (scope full : Bytes) (f : FieldDescriptor) (o : Option MapEntry) → Fair rs (field-or-map rs set proto3 d scope full f o)
-      choice-fair d scope full f none = field-fair set proto3 d scope full f
-      choice-fair d scope full f (some e) = map-fair d scope full f e
+      choice-valued : (d : ℕ) (scope full : Bytes) (f : FieldDescriptor) (o : Option MapEntry) → Valued rs (field-or-map rs set proto3 d scope full f o)
+      choice-valued d scope full f none = field-valued set proto3 d scope full f
+      choice-valued d scope full f (some e) = map-valued d scope full f e
 
-      fields-fair : (d : ℕ) (scope full : Bytes) (nested : Forest MessageDescriptor) (fs : List FieldDescriptor) → Fair rs (append-fields rs set proto3 d scope full nested fs)
+      fields-valued : (d : ℕ) (scope full : Bytes) (nested : Forest MessageDescriptor) (fs : List FieldDescriptor) → Valued rs (append-fields rs set proto3 d scope full nested fs)
       unfolding append-fields
-      fields-fair d scope full nested [] = tt
-      fields-fair d scope full nested (f ∷ fs) = choice-fair d scope full f (map-entry-of full nested (f .type-name)) & fields-fair d scope full nested fs
+      fields-valued d scope full nested [] = tt
+      fields-valued d scope full nested (f ∷ fs) = choice-valued d scope full f (map-entry-of full nested (f .type-name)) & fields-valued d scope full nested fs
 
-      struct-fair : (d : ℕ) (scope full : Bytes) (m : MessageDescriptor) (nested : Forest MessageDescriptor) → Fair rs (append-struct rs set proto3 d scope full m nested)
+      struct-valued : (d : ℕ) (scope full : Bytes) (m : MessageDescriptor) (nested : Forest MessageDescriptor) → Valued rs (append-struct rs set proto3 d scope full m nested)
       unfolding append-struct
-      struct-fair d scope full m nested =
-          type-attributes-fair d full
-          & message-attributes-fair d full
-          & derive-fair d (can-message-derive-copy rs set full) (can-message-derive-eq set full) (b "::Message)]\n")
-          & path-attribute-fair
-          & skip-debug-fair d full
+      struct-valued d scope full m nested =
+          type-attributes-valued d full
+          & message-attributes-valued d full
+          & derive-valued d (can-message-derive-copy rs set full) (can-message-derive-eq set full) (b "::Message)]\n")
+          & path-attribute-valued
+          & skip-debug-valued d full
           & (tt & tt)
           & tt
           & tt
-          & fields-fair (suc d) scope full nested (plain-fields (m .fields))
-          & oneof-fields-fair (suc d) full (text (m .name)) (oneof-fields m nested)
+          & fields-valued (suc d) scope full nested (plain-fields (m .fields))
+          & oneof-fields-valued (suc d) full (text (m .name)) (oneof-fields m nested)
           & (tt & tt)
 
-      messages-fair : (d : ℕ) (scope : Bytes) (F : Forest MessageDescriptor) → Fair rs (append-messages rs set proto3 d scope F)
+      messages-valued : (d : ℕ) (scope : Bytes) (F : Forest MessageDescriptor) → Valued rs (append-messages rs set proto3 d scope F)
       unfolding append-messages push-mod
-      messages-fair d scope done = tt
-      messages-fair d scope (node m nested following) =
-          (λ _. struct-fair d scope (scope · text (m .name)) m nested
+      messages-valued d scope done = tt
+      messages-valued d scope (node m nested following) =
+          (λ _. struct-valued d scope (scope · text (m .name)) m nested
           & (λ _. (tt & tt & tt & tt & (tt & tt) & tt & tt)
-          & messages-fair (suc d) (scope · text (m .name)) nested
-          & enums-fair (suc d) (scope · text (m .name)) (m .enums)
-          & oneofs-fair (suc d) (scope · text (m .name)) (oneof-fields m nested)
+          & messages-valued (suc d) (scope · text (m .name)) nested
+          & enums-valued (suc d) (scope · text (m .name)) (m .enums)
+          & oneofs-valued (suc d) (scope · text (m .name)) (oneof-fields m nested)
           & (tt & tt)))
-          & messages-fair d scope following
+          & messages-valued d scope following
 
 -- every opaque piece of a file's text is an option's value
 pub option-values : (rs : List Setting) (set : List FileDescriptor) (f : FileDescriptor) → Every (Of-options rs) (pieces (generate rs set f))
 unfolding generate
 option-values rs set f =
-    fair-pieces rs (generate rs set f)
-    (messages-fair rs set (is-proto3 (syntax-of (f .syntax))) 0 (package-scope (f .package-name)) (f .messages) & enums-fair rs 0 (package-scope (f .package-name)) (f .enums))
+    valued-pieces rs (generate rs set f)
+    (messages-valued rs set (is-proto3 (syntax-of (f .syntax))) 0 (package-scope (f .package-name)) (f .messages) & enums-valued rs 0 (package-scope (f .package-name)) (f .enums))
 
 -- ---- without options
 none-best : (forms : List Bytes) → (find-best 1 forms 0 []) .found ≡ false
