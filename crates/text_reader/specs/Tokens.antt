@@ -1,5 +1,6 @@
 -- Tokens of Rust: words, signs, quotes, and options' values. Blanks and comments fall away; in a string, `\` takes the next character with it. Assumes nothing.
 use Prim.Native.Nat.{ℕ}
+use Prim.Native.Char.{Char, code as code-of}
 use mathlib.Core.Bool.{Bool, _||_}
 use mathlib.Core.List.{List, [], _∷_, _++_}
 use lib.Dec.{eqb}
@@ -7,6 +8,10 @@ use Rattle.base.specs.Choose.{choose}
 use Rattle.ident.specs.Name.{name-part}
 use Rattle.descriptor.specs.Descriptor.{Bytes}
 use Rattle.text_reader.specs.Symbols.{Symbol, char, option-value}
+
+-- is it this character?
+abbrev pub is-char : Char → ℕ → Bool
+is-char x c = eqb c (code-of x)
 
 -- inside a string too, what stands there is words and signs
 pub data Token : Type 0 where
@@ -36,25 +41,25 @@ behind t x = record { tokens = t ∷ x .tokens; next = x .next }
 
 -- a blank or the end of a line
 abbrev pub is-blank : ℕ → Bool
-is-blank c = eqb c 32 || eqb c 10
+is-blank c = is-char " " c || is-char "\n" c
 
 -- `#` belongs to a word that has begun, as in `r#type`
 abbrev pub goes-on : ℕ → Bool
-goes-on c = name-part c || eqb c 35
+goes-on c = name-part c || is-char "#" c
 
 abbrev pub in-code : ℕ → Taken
 in-code c =
     choose (name-part c) (taken [] (code-word (c ∷ [])))
     (choose (is-blank c) (taken [] code)
-    (choose (eqb c 34) (taken (quote ∷ []) string)
-    (choose (eqb c 47) (taken [] slash) (taken (sign c ∷ []) code))))
+    (choose (is-char "\"" c) (taken (quote ∷ []) string)
+    (choose (is-char "/" c) (taken [] slash) (taken (sign c ∷ []) code))))
 
 abbrev pub in-string : ℕ → Taken
 in-string c =
     choose (name-part c) (taken [] (string-word (c ∷ [])))
     (choose (is-blank c) (taken [] string)
-    (choose (eqb c 34) (taken (quote ∷ []) code)
-    (choose (eqb c 92) (taken [] escape) (taken (sign c ∷ []) string))))
+    (choose (is-char "\"" c) (taken (quote ∷ []) code)
+    (choose (is-char "\\" c) (taken [] escape) (taken (sign c ∷ []) string))))
 
 abbrev pub take-char : Lexing → ℕ → Taken
 take-char code c = in-code c
@@ -62,8 +67,8 @@ take-char (code-word w) c = choose (goes-on c) (taken [] (code-word (w ++ (c ∷
 take-char string c = in-string c
 take-char (string-word w) c = choose (goes-on c) (taken [] (string-word (w ++ (c ∷ [])))) (behind (word w) (in-string c))
 take-char escape c = taken [] string
-take-char slash c = choose (eqb c 47) (taken [] comment) (behind (sign 47) (in-code c))
-take-char comment c = choose (eqb c 10) (taken [] code) (taken [] comment)
+take-char slash c = choose (is-char "/" c) (taken [] comment) (behind (sign (code-of "/")) (in-code c))
+take-char comment c = choose (is-char "\n" c) (taken [] code) (taken [] comment)
 
 abbrev pub take-value : Lexing → Taken
 take-value code = taken (value ∷ []) code
@@ -71,7 +76,7 @@ take-value (code-word w) = taken (word w ∷ value ∷ []) code
 take-value string = taken (value ∷ []) string
 take-value (string-word w) = taken (word w ∷ value ∷ []) string
 take-value escape = taken (value ∷ []) string
-take-value slash = taken (sign 47 ∷ value ∷ []) code
+take-value slash = taken (sign (code-of "/") ∷ value ∷ []) code
 take-value comment = taken [] comment
 
 abbrev pub take-symbol : Lexing → Symbol → Taken
@@ -85,7 +90,7 @@ left-over (code-word w) = word w ∷ []
 left-over string = []
 left-over (string-word w) = word w ∷ []
 left-over escape = []
-left-over slash = sign 47 ∷ []
+left-over slash = sign (code-of "/") ∷ []
 left-over comment = []
 
 abbrev pub tokens-from : Lexing → List Symbol → List Token
