@@ -175,62 +175,62 @@ bracket-at d path-key = map-path d false []
 bracket-at d map-key = map-tag d other-key
 bracket-at d other-key = map-tag d other-key
 
-abbrev pub move : List Body → At → Token → Move
-move bs start t = at-start bs t
-move bs public (word w) = public-in bs bs w
-move bs public (sign c) = to bs public
-move bs public quote = to bs public
-move bs public value = to bs public
-move bs header (word w) = to bs header
-move bs header (sign c) = choose (is-char "{" c) (sees (open-block ∷ []) (code-body ∷ bs) start) (choose (is-char ";" c) (to bs start) (to bs header))
-move bs header quote = to bs (skipped header)
-move bs header value = to bs header
-move bs discriminant (word w) = to bs discriminant
-move bs discriminant (sign c) = choose (is-char "," c) (to bs start) (to bs discriminant)
-move bs discriminant quote = to bs (skipped discriminant)
-move bs discriminant value = to bs discriminant
-move bs hash (word w) = to bs start
-move bs hash (sign c) = choose (is-char "[" c) (to bs (attribute 0 other-key)) (to bs hash)
-move bs hash quote = to bs start
-move bs hash value = to bs start
-move bs (naming x) (word w) = to bs (opening x w)
-move bs (naming x) (sign c) = to bs (naming x)
-move bs (naming x) quote = to bs (naming x)
-move bs (naming x) value = to bs (naming x)
-move bs (opening x n) (word w) = to bs (opening x n)
-move bs (opening x n) (sign c) = choose (is-char "{" c) (sees (opened x n ∷ []) (x ∷ bs) start) (choose (is-char ";" c) (to bs start) (to bs (opening x n)))
-move bs (opening x n) quote = to bs (opening x n)
-move bs (opening x n) value = to bs (opening x n)
-move bs (labelled n) (word w) = to bs (labelled n)
-move bs (labelled n) (sign c) =
+abbrev pub next-move : List Body → At → Token → Move
+next-move bs start t = at-start bs t
+next-move bs public (word w) = public-in bs bs w
+next-move bs public (sign c) = to bs public
+next-move bs public quote = to bs public
+next-move bs public value = to bs public
+next-move bs header (word w) = to bs header
+next-move bs header (sign c) = choose (is-char "{" c) (sees (open-block ∷ []) (code-body ∷ bs) start) (choose (is-char ";" c) (to bs start) (to bs header))
+next-move bs header quote = to bs (skipped header)
+next-move bs header value = to bs header
+next-move bs discriminant (word w) = to bs discriminant
+next-move bs discriminant (sign c) = choose (is-char "," c) (to bs start) (to bs discriminant)
+next-move bs discriminant quote = to bs (skipped discriminant)
+next-move bs discriminant value = to bs discriminant
+next-move bs hash (word w) = to bs start
+next-move bs hash (sign c) = choose (is-char "[" c) (to bs (attribute 0 other-key)) (to bs hash)
+next-move bs hash quote = to bs start
+next-move bs hash value = to bs start
+next-move bs (naming x) (word w) = to bs (opening x w)
+next-move bs (naming x) (sign c) = to bs (naming x)
+next-move bs (naming x) quote = to bs (naming x)
+next-move bs (naming x) value = to bs (naming x)
+next-move bs (opening x n) (word w) = to bs (opening x n)
+next-move bs (opening x n) (sign c) = choose (is-char "{" c) (sees (opened x n ∷ []) (x ∷ bs) start) (choose (is-char ";" c) (to bs start) (to bs (opening x n)))
+next-move bs (opening x n) quote = to bs (opening x n)
+next-move bs (opening x n) value = to bs (opening x n)
+next-move bs (labelled n) (word w) = to bs (labelled n)
+next-move bs (labelled n) (sign c) =
     choose (is-char ":" c || is-char "(" c) (sees (open-field none n ∷ []) bs (typed 0 false []))
     (choose (is-char "=" c) (to bs discriminant) (choose (is-char "," c) (to bs start) (to bs (labelled n))))
-move bs (labelled n) quote = to bs (labelled n)
-move bs (labelled n) value = to bs (labelled n)
-move bs (typed d foreign names) t = in-type bs d foreign names t
-move bs (attribute d k) t = in-attribute bs d k t
-move bs (skipped q) (word w) = to bs (skipped q)
-move bs (skipped q) (sign c) = to bs (skipped q)
-move bs (skipped q) quote = to bs q
-move bs (skipped q) value = to bs (skipped q)
-move bs (tag-path d foreign names) (word w) = to bs (tag-path d foreign (w ∷ names))
-move bs (tag-path d foreign names) (sign c) = to bs (tag-path d (foreign-at foreign names) names)
-move bs (tag-path d foreign names) quote = sees (tagged-path foreign names) bs (attribute d other-key)
-move bs (tag-path d foreign names) value = to bs (tag-path d true names)
-move bs (map-tag d k) (word w) = to bs (map-tag d (key-of w))
-move bs (map-tag d k) (sign c) = choose (is-char "(" c) (to bs (bracket-at d k)) (to bs (map-tag d other-key))
-move bs (map-tag d k) quote = to bs (attribute d other-key)
-move bs (map-tag d k) value = to bs (map-tag d other-key)
-move bs (map-path d foreign names) (word w) = to bs (map-path d foreign (w ∷ names))
-move bs (map-path d foreign names) (sign c) =
+next-move bs (labelled n) quote = to bs (labelled n)
+next-move bs (labelled n) value = to bs (labelled n)
+next-move bs (typed d foreign names) t = in-type bs d foreign names t
+next-move bs (attribute d k) t = in-attribute bs d k t
+next-move bs (skipped q) (word w) = to bs (skipped q)
+next-move bs (skipped q) (sign c) = to bs (skipped q)
+next-move bs (skipped q) quote = to bs q
+next-move bs (skipped q) value = to bs (skipped q)
+next-move bs (tag-path d foreign names) (word w) = to bs (tag-path d foreign (w ∷ names))
+next-move bs (tag-path d foreign names) (sign c) = to bs (tag-path d (foreign-at foreign names) names)
+next-move bs (tag-path d foreign names) quote = sees (tagged-path foreign names) bs (attribute d other-key)
+next-move bs (tag-path d foreign names) value = to bs (tag-path d true names)
+next-move bs (map-tag d k) (word w) = to bs (map-tag d (key-of w))
+next-move bs (map-tag d k) (sign c) = choose (is-char "(" c) (to bs (bracket-at d k)) (to bs (map-tag d other-key))
+next-move bs (map-tag d k) quote = to bs (attribute d other-key)
+next-move bs (map-tag d k) value = to bs (map-tag d other-key)
+next-move bs (map-path d foreign names) (word w) = to bs (map-path d foreign (w ∷ names))
+next-move bs (map-path d foreign names) (sign c) =
     choose (is-char ")" c) (sees (tagged-path foreign names) bs (map-tag d other-key)) (to bs (map-path d (foreign-at foreign names) names))
-move bs (map-path d foreign names) quote = to bs (map-path d foreign names)
-move bs (map-path d foreign names) value = to bs (map-path d true names)
+next-move bs (map-path d foreign names) quote = to bs (map-path d foreign names)
+next-move bs (map-path d foreign names) value = to bs (map-path d true names)
 
 -- ---- reading
 abbrev pub read-tokens : List Body → At → List Token → List Event
 read-tokens bs q [] = []
-read-tokens bs q (t ∷ ts) = move bs q t .seen ++ read-tokens (move bs q t .bodies) (move bs q t .next) ts
+read-tokens bs q (t ∷ ts) = next-move bs q t .seen ++ read-tokens (next-move bs q t .bodies) (next-move bs q t .next) ts
 
 -- what is seen in a text that stands in a module
 abbrev pub see : List Symbol → List Event

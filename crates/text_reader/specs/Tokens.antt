@@ -32,8 +32,8 @@ pub record Taken : Type 0 where
   pub tokens : List Token
   pub next : Lexing
 
-abbrev taken : List Token → Lexing → Taken
-taken ts l = record { tokens = ts; next = l }
+abbrev gives : List Token → Lexing → Taken
+gives ts l = record { tokens = ts; next = l }
 
 -- with a token in front
 abbrev behind : Token → Taken → Taken
@@ -49,35 +49,35 @@ goes-on c = name-part c || is-char "#" c
 
 abbrev pub in-code : ℕ → Taken
 in-code c =
-    choose (name-part c) (taken [] (code-word (c ∷ [])))
-    (choose (is-blank c) (taken [] code)
-    (choose (is-char "\"" c) (taken (quote ∷ []) string)
-    (choose (is-char "/" c) (taken [] slash) (taken (sign c ∷ []) code))))
+    choose (name-part c) (gives [] (code-word (c ∷ [])))
+    (choose (is-blank c) (gives [] code)
+    (choose (is-char "\"" c) (gives (quote ∷ []) string)
+    (choose (is-char "/" c) (gives [] slash) (gives (sign c ∷ []) code))))
 
 abbrev pub in-string : ℕ → Taken
 in-string c =
-    choose (name-part c) (taken [] (string-word (c ∷ [])))
-    (choose (is-blank c) (taken [] string)
-    (choose (is-char "\"" c) (taken (quote ∷ []) code)
-    (choose (is-char "\\" c) (taken [] escape) (taken (sign c ∷ []) string))))
+    choose (name-part c) (gives [] (string-word (c ∷ [])))
+    (choose (is-blank c) (gives [] string)
+    (choose (is-char "\"" c) (gives (quote ∷ []) code)
+    (choose (is-char "\\" c) (gives [] escape) (gives (sign c ∷ []) string))))
 
 abbrev pub take-char : Lexing → ℕ → Taken
 take-char code c = in-code c
-take-char (code-word w) c = choose (goes-on c) (taken [] (code-word (w ++ (c ∷ [])))) (behind (word w) (in-code c))
+take-char (code-word w) c = choose (goes-on c) (gives [] (code-word (w ++ (c ∷ [])))) (behind (word w) (in-code c))
 take-char string c = in-string c
-take-char (string-word w) c = choose (goes-on c) (taken [] (string-word (w ++ (c ∷ [])))) (behind (word w) (in-string c))
-take-char escape c = taken [] string
-take-char slash c = choose (is-char "/" c) (taken [] comment) (behind (sign (code-of "/")) (in-code c))
-take-char comment c = choose (is-char "\n" c) (taken [] code) (taken [] comment)
+take-char (string-word w) c = choose (goes-on c) (gives [] (string-word (w ++ (c ∷ [])))) (behind (word w) (in-string c))
+take-char escape c = gives [] string
+take-char slash c = choose (is-char "/" c) (gives [] comment) (behind (sign (code-of "/")) (in-code c))
+take-char comment c = choose (is-char "\n" c) (gives [] code) (gives [] comment)
 
 abbrev pub take-value : Lexing → Taken
-take-value code = taken (value ∷ []) code
-take-value (code-word w) = taken (word w ∷ value ∷ []) code
-take-value string = taken (value ∷ []) string
-take-value (string-word w) = taken (word w ∷ value ∷ []) string
-take-value escape = taken (value ∷ []) string
-take-value slash = taken (sign (code-of "/") ∷ value ∷ []) code
-take-value comment = taken [] comment
+take-value code = gives (value ∷ []) code
+take-value (code-word w) = gives (word w ∷ value ∷ []) code
+take-value string = gives (value ∷ []) string
+take-value (string-word w) = gives (word w ∷ value ∷ []) string
+take-value escape = gives (value ∷ []) string
+take-value slash = gives (sign (code-of "/") ∷ value ∷ []) code
+take-value comment = gives [] comment
 
 abbrev pub take-symbol : Lexing → Symbol → Taken
 take-symbol l (char c) = take-char l c
