@@ -1,7 +1,7 @@
 -- A set that the theorem speaks of: a message that holds itself, an enum and a oneof. Assumes nothing.
 use Prim.Native.Nat.{ℕ}
 use mathlib.Core.Path.{_≡_, refl}
-use mathlib.Core.Bool.{Bool, true, false}
+use mathlib.Core.Bool.{false}
 use mathlib.Core.Option.{Option, some, none}
 use mathlib.Core.List.{List, [], _∷_, map}
 use Rattle.base.specs.Bytes.{b, same}
@@ -10,7 +10,7 @@ use Rattle.base.specs.Lists.{all, first-failing, count}
 use Rattle.heck.specs.Case.{between, class}
 use Rattle.ident.specs.Name.{name-start, name-part, every, is-name, has-word}
 use Rattle.syntax.specs.Syntax.{syntax-of}
-use Rattle.descriptor.specs.Descriptor.{Bytes, done, node, FieldDescriptor, ValueDescriptor, EnumDescriptor, MessageDescriptor, FileDescriptor}
+use Rattle.descriptor.specs.Descriptor.{Bytes, done, node, FieldDescriptor, EnumDescriptor, MessageDescriptor, FileDescriptor}
 use Rattle.name_rules.specs.FullNames.{entries, set-entries, file-declarations, set-declarations, declared, declared-as, fresh, type-declared, fields-of-entries, first-undeclared}
 use Rattle.name_rules.specs.Rules.{good-name, segments, field-good, value-good, enum-good, message-good, messages-good, file-good}
 use Rattle.name_rules.specs.MapEntries.{entries-named, map-entries-named}
