@@ -1,2 +1,3 @@
 pub mod Dots
 pub mod ReadableSets
+pub mod Examples

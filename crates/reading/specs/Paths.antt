@@ -18,10 +18,10 @@ use Rattle.ident.proofs.Written.{snake-identifier, snake-free}
 use Rattle.descriptor.specs.Descriptor.{Bytes}
 use Rattle.code_generator.specs.Piece.{Way, through, way-text, spelt}
 use Rattle.sights.specs.Events.{Event, meet-path, written-path}
-use Rattle.text_reader.specs.Symbols.{Symbol, char, chars}
+use Rattle.text_reader.specs.Symbols.{Symbol, char, chars, chars-append}
 use Rattle.text_reader.specs.Tokens.{Token, word, sign, Lexing, tokens-from}
 use Rattle.text_reader.specs.Reader.{path-through, path-of, Body, At, read-tokens}
-use Rattle.reading.specs.Words.{chars-append, is-word, identifier-word, Mode, through-word}
+use Rattle.reading.specs.Words.{is-word, identifier-word, Mode, through-word}
 
 -- what a path is written from: names that convert
 pub record Good-way (w : Way) : Type 0 where

@@ -17,14 +17,10 @@ use Rattle.ident.specs.Reference.{keywords, never-raw, non-keyword-identifier, 
 use Rattle.ident.proofs.EveryLaws.{every-cons, every-head, every-tail, every-append, every-also}
 use Rattle.descriptor.specs.Descriptor.{Bytes}
 use Rattle.code_generator.specs.Piece.{Piece, piece, push-indent}
-use Rattle.text_reader.specs.Symbols.{Symbol, char, chars, piece-symbols}
+use Rattle.text_reader.specs.Symbols.{Symbol, char, chars, chars-append, piece-symbols}
 use Rattle.text_reader.specs.Tokens.{word, sign, Lexing, code, code-word, string, string-word, goes-on, tokens-from}
 use Rattle.text_reader.specs.Reader.{Body, At, read-tokens}
 use Rattle.reading.specs.Reading.{point, shown, Reads}
-
-pub chars-append : (x y : Bytes) (s : List Symbol) → chars (x ++ y) ++ s ≡ chars x ++ (chars y ++ s)
-chars-append [] y s = refl
-chars-append (c ∷ x) y s = ap {B = List Symbol} (λ (l : List Symbol). char c ∷ l) (chars-append x y s)
 
 -- ---- words
 abbrev pub is-word : Bytes → Bool

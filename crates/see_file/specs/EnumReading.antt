@@ -262,11 +262,11 @@ module _ (rs : List Setting) {bs : List Body} (i : Items bs) (d : ℕ) where
   unfolding append-enum
   enum-read scope e h =
       reads-when (not (taken rs (scope · text (e .name))))
-      (declaration-read (scope · text (e .name)) (text (e .name)) converts (build-enum-value-mappings (e .values)) values
-      ▸ impl-read (text (e .name)) converts (build-enum-value-mappings (e .values)) values)
+      (declaration-read (scope · text (e .name)) (text (e .name)) named (build-enum-value-mappings (e .values)) values
+      ▸ impl-read (text (e .name)) named (build-enum-value-mappings (e .values)) values)
     where
-      converts : Converts (text (e .name))
-      converts = named-text (e .name) (h .named) .letter-or-digit
+      named : Converts (text (e .name))
+      named = named-text (e .name) (h .named) .letter-or-digit
 
       values : Every Good-value (build-enum-value-mappings (e .values))
       values = mappings-good [] (e .values) (h .values)

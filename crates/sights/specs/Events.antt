@@ -37,20 +37,20 @@ mark-event tag-close = close-tag
 mark-event wrap-close = close-wrap
 mark-event (wrap-open w) = open-wrap w
 
-abbrev pub event : Piece → List Event
-event (raw x) = []
-event (opaque v) = []
-event (extern xs) = []
-event (name n) = []
-event (mod-open n) = open-module (spelt n) ∷ []
-event (decl-open r n) = open-declaration (some r) (spelt n) ∷ []
-event (label o n) = open-field o (spelt n) ∷ []
-event (path r w) = meet-path (some r) (written-path w) ∷ []
-event (mark m) = mark-event m ∷ []
+abbrev pub piece-events : Piece → List Event
+piece-events (raw x) = []
+piece-events (opaque v) = []
+piece-events (extern xs) = []
+piece-events (name n) = []
+piece-events (mod-open n) = open-module (spelt n) ∷ []
+piece-events (decl-open r n) = open-declaration (some r) (spelt n) ∷ []
+piece-events (label o n) = open-field o (spelt n) ∷ []
+piece-events (path r w) = meet-path (some r) (written-path w) ∷ []
+piece-events (mark m) = mark-event m ∷ []
 
 abbrev pub events : List Piece → List Event
 events [] = []
-events (p ∷ ps) = event p ++ events ps
+events (p ∷ ps) = piece-events p ++ events ps
 
 pub events-append : (ps qs : List Piece) → events (ps ++ qs) ≡ events ps ++ events qs
 events-append [] qs = refl

@@ -7,8 +7,7 @@ use Rattle.base.specs.Bytes.{b, same}
 use Rattle.base.specs.Choose.{choose}
 use Rattle.heck.specs.Case.{between, class, lowered, raised, parts, words, to-snake-case, to-upper-camel-case}
 use Rattle.ident.specs.Ident.{among, raw-words, kept-words, addition, with-addition, sanitize-identifier, to-snake, to-upper-camel}
-use Rattle.descriptor.specs.Descriptor.{Bytes}
-use Rattle.code_generator.specs.Piece.{Piece, raw, opaque, decl-open, mod-open, label, path, mark, Way, snake, camel, type, opt, box, tag-open, tag-close, wrap-open, wrap-close, comma, close}
+use Rattle.code_generator.specs.Piece.{Piece, opaque, decl-open, mod-open, label, path, mark, Way, snake, camel, type, opt, box, tag-open, tag-close, wrap-open, wrap-close, comma, close}
 use Rattle.sights.specs.Events.{WrittenPath, events}
 use Rattle.sights.specs.Sights.{Item, Label, an-item, a-path, a-box, read}
 

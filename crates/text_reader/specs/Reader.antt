@@ -4,7 +4,6 @@ use Prim.Native.Nat.{ℕ, zero, suc}
 use mathlib.Core.Bool.{Bool, true, false, _||_}
 use mathlib.Core.Option.{none}
 use mathlib.Core.List.{List, [], _∷_, _++_, reverse}
-use lib.Dec.{eqb}
 use Rattle.base.specs.Bytes.{b, same}
 use Rattle.base.specs.Choose.{choose}
 use Rattle.base.specs.Lists.{is-empty}
@@ -14,7 +13,7 @@ use Rattle.descriptor.specs.Descriptor.{Bytes}
 use Rattle.code_generator.specs.Piece.{Wrap, opt, vec, box, table}
 use Rattle.sights.specs.Events.{Event, open-module, open-declaration, open-block, close-block, open-field, close-field, open-tag, close-tag, open-wrap, close-wrap, meet-path}
 use Rattle.text_reader.specs.Symbols.{Symbol}
-use Rattle.text_reader.specs.Tokens.{Token, word, sign, quote, value, code, tokens-from}
+use Rattle.text_reader.specs.Tokens.{is-char, Token, word, sign, quote, value, code, tokens-from}
 
 -- ---- paths
 -- the modules before the last name: each `super` in front counts
@@ -73,7 +72,7 @@ pub data At : Type 0 where
   map-tag : ℕ → Key → At
   map-path : ℕ → Bool → List Bytes → At
 
--- ---- what a token leads to
+-- ---- what a token leads to: what is seen, the blocks that are open, and where the reader is then
 pub record Move : Type 0 where
   pub seen : List Event
   pub bodies : List Body
@@ -90,12 +89,12 @@ outside [] = []
 outside (x ∷ bs) = bs
 
 abbrev is-opener : ℕ → Bool
-is-opener c = eqb c 40 || (eqb c 91 || eqb c 123)
+is-opener c = is-char "(" c || (is-char "[" c || is-char "{" c)
 
 abbrev is-closer : ℕ → Bool
-is-closer c = eqb c 41 || (eqb c 93 || eqb c 125)
+is-closer c = is-char ")" c || (is-char "]" c || is-char "}" c)
 
--- a word where something may begin
+-- a word where something may begin, by the block that it stands in (the second list is the first)
 abbrev begin-in : List Body → List Body → Bytes → Move
 begin-in bs [] w = to bs (choose (same w (b "pub")) public header)
 begin-in bs (module-body ∷ _) w = to bs (choose (same w (b "pub")) public header)
@@ -106,11 +105,12 @@ begin-in bs (code-body ∷ _) w = to bs start
 abbrev at-start : List Body → Token → Move
 at-start bs (word w) = begin-in bs bs w
 at-start bs (sign c) =
-    choose (eqb c 125) (sees (close-block ∷ []) (outside bs) start)
-    (choose (eqb c 123) (sees (open-block ∷ []) (code-body ∷ bs) start) (choose (eqb c 35) (to bs hash) (to bs start)))
+    choose (is-char "}" c) (sees (close-block ∷ []) (outside bs) start)
+    (choose (is-char "{" c) (sees (open-block ∷ []) (code-body ∷ bs) start) (choose (is-char "#" c) (to bs hash) (to bs start)))
 at-start bs quote = to bs (skipped start)
 at-start bs value = to bs start
 
+-- behind `pub`
 abbrev item-word : List Body → Bytes → Move
 item-word bs w =
     choose (same w (b "mod")) (to bs (naming module-body))
@@ -123,12 +123,14 @@ public-in bs (struct-body ∷ _) w = to bs (labelled w)
 public-in bs (enum-body ∷ _) w = item-word bs w
 public-in bs (code-body ∷ _) w = item-word bs w
 
+-- a module, declaration or other block opens
 abbrev opened : Body → Bytes → Event
 opened module-body n = open-module n
 opened struct-body n = open-declaration none n
 opened enum-body n = open-declaration none n
 opened code-body n = open-block
 
+-- a comma ends a field; inside `<` and `>` it stands between two types. es: the path before it
 abbrev comma-at : ℕ → List Body → List Event → Move
 comma-at zero bs es = sees (es ++ (close-field ∷ [])) bs start
 comma-at (suc d) bs es = sees es bs (typed (suc d) false [])
@@ -140,18 +142,20 @@ out-of (suc d) = d
 abbrev in-type : List Body → ℕ → Bool → List Bytes → Token → Move
 in-type bs d foreign names (word w) = to bs (typed d foreign (w ∷ names))
 in-type bs d foreign names (sign c) =
-    choose (eqb c 60) (sees (open-wrap (wrap-of names) ∷ []) bs (typed (suc d) false []))
-    (choose (eqb c 62) (sees (path-of foreign names ++ (close-wrap ∷ [])) bs (typed (out-of d) true []))
-    (choose (eqb c 44) (comma-at d bs (path-of foreign names))
-    (choose (eqb c 41) (sees (path-of foreign names ++ (close-field ∷ [])) bs discriminant) (to bs (typed d (foreign-at foreign names) names)))))
+    choose (is-char "<" c) (sees (open-wrap (wrap-of names) ∷ []) bs (typed (suc d) false []))
+    (choose (is-char ">" c) (sees (path-of foreign names ++ (close-wrap ∷ [])) bs (typed (out-of d) true []))
+    (choose (is-char "," c) (comma-at d bs (path-of foreign names))
+    (choose (is-char ")" c) (sees (path-of foreign names ++ (close-field ∷ [])) bs discriminant) (to bs (typed d (foreign-at foreign names) names)))))
 in-type bs d foreign names quote = to bs (typed d foreign names)
 in-type bs d foreign names value = to bs (typed d true names)
 
+-- a string in an attribute, by the word before it
 abbrev quoted-at : ℕ → Key → At
 quoted-at d path-key = tag-path d false []
 quoted-at d map-key = map-tag d other-key
 quoted-at d other-key = skipped (attribute d other-key)
 
+-- behind a closing bracket of an attribute
 abbrev closed-at : ℕ → At
 closed-at zero = start
 closed-at (suc d) = attribute d other-key
@@ -159,73 +163,74 @@ closed-at (suc d) = attribute d other-key
 abbrev in-attribute : List Body → ℕ → Key → Token → Move
 in-attribute bs d k (word w) = to bs (attribute d (key-of w))
 in-attribute bs d k (sign c) =
-    choose (eqb c 61) (to bs (attribute d k))
+    choose (is-char "=" c) (to bs (attribute d k))
     (choose (is-opener c) (to bs (attribute (suc d) other-key))
     (choose (is-closer c) (to bs (closed-at d)) (to bs (attribute d other-key))))
 in-attribute bs d k quote = to bs (quoted-at d k)
 in-attribute bs d k value = to bs (attribute d other-key)
 
+-- a bracket in a map's tag, by the word before it
 abbrev bracket-at : ℕ → Key → At
 bracket-at d path-key = map-path d false []
 bracket-at d map-key = map-tag d other-key
 bracket-at d other-key = map-tag d other-key
 
-abbrev pub move : List Body → At → Token → Move
-move bs start t = at-start bs t
-move bs public (word w) = public-in bs bs w
-move bs public (sign c) = to bs public
-move bs public quote = to bs public
-move bs public value = to bs public
-move bs header (word w) = to bs header
-move bs header (sign c) = choose (eqb c 123) (sees (open-block ∷ []) (code-body ∷ bs) start) (choose (eqb c 59) (to bs start) (to bs header))
-move bs header quote = to bs (skipped header)
-move bs header value = to bs header
-move bs discriminant (word w) = to bs discriminant
-move bs discriminant (sign c) = choose (eqb c 44) (to bs start) (to bs discriminant)
-move bs discriminant quote = to bs (skipped discriminant)
-move bs discriminant value = to bs discriminant
-move bs hash (word w) = to bs start
-move bs hash (sign c) = choose (eqb c 91) (to bs (attribute 0 other-key)) (to bs hash)
-move bs hash quote = to bs start
-move bs hash value = to bs start
-move bs (naming x) (word w) = to bs (opening x w)
-move bs (naming x) (sign c) = to bs (naming x)
-move bs (naming x) quote = to bs (naming x)
-move bs (naming x) value = to bs (naming x)
-move bs (opening x n) (word w) = to bs (opening x n)
-move bs (opening x n) (sign c) = choose (eqb c 123) (sees (opened x n ∷ []) (x ∷ bs) start) (choose (eqb c 59) (to bs start) (to bs (opening x n)))
-move bs (opening x n) quote = to bs (opening x n)
-move bs (opening x n) value = to bs (opening x n)
-move bs (labelled n) (word w) = to bs (labelled n)
-move bs (labelled n) (sign c) =
-    choose (eqb c 58 || eqb c 40) (sees (open-field none n ∷ []) bs (typed 0 false []))
-    (choose (eqb c 61) (to bs discriminant) (choose (eqb c 44) (to bs start) (to bs (labelled n))))
-move bs (labelled n) quote = to bs (labelled n)
-move bs (labelled n) value = to bs (labelled n)
-move bs (typed d foreign names) t = in-type bs d foreign names t
-move bs (attribute d k) t = in-attribute bs d k t
-move bs (skipped q) (word w) = to bs (skipped q)
-move bs (skipped q) (sign c) = to bs (skipped q)
-move bs (skipped q) quote = to bs q
-move bs (skipped q) value = to bs (skipped q)
-move bs (tag-path d foreign names) (word w) = to bs (tag-path d foreign (w ∷ names))
-move bs (tag-path d foreign names) (sign c) = to bs (tag-path d (foreign-at foreign names) names)
-move bs (tag-path d foreign names) quote = sees (tagged-path foreign names) bs (attribute d other-key)
-move bs (tag-path d foreign names) value = to bs (tag-path d true names)
-move bs (map-tag d k) (word w) = to bs (map-tag d (key-of w))
-move bs (map-tag d k) (sign c) = choose (eqb c 40) (to bs (bracket-at d k)) (to bs (map-tag d other-key))
-move bs (map-tag d k) quote = to bs (attribute d other-key)
-move bs (map-tag d k) value = to bs (map-tag d other-key)
-move bs (map-path d foreign names) (word w) = to bs (map-path d foreign (w ∷ names))
-move bs (map-path d foreign names) (sign c) =
-    choose (eqb c 41) (sees (tagged-path foreign names) bs (map-tag d other-key)) (to bs (map-path d (foreign-at foreign names) names))
-move bs (map-path d foreign names) quote = to bs (map-path d foreign names)
-move bs (map-path d foreign names) value = to bs (map-path d true names)
+abbrev pub next-move : List Body → At → Token → Move
+next-move bs start t = at-start bs t
+next-move bs public (word w) = public-in bs bs w
+next-move bs public (sign c) = to bs public
+next-move bs public quote = to bs public
+next-move bs public value = to bs public
+next-move bs header (word w) = to bs header
+next-move bs header (sign c) = choose (is-char "{" c) (sees (open-block ∷ []) (code-body ∷ bs) start) (choose (is-char ";" c) (to bs start) (to bs header))
+next-move bs header quote = to bs (skipped header)
+next-move bs header value = to bs header
+next-move bs discriminant (word w) = to bs discriminant
+next-move bs discriminant (sign c) = choose (is-char "," c) (to bs start) (to bs discriminant)
+next-move bs discriminant quote = to bs (skipped discriminant)
+next-move bs discriminant value = to bs discriminant
+next-move bs hash (word w) = to bs start
+next-move bs hash (sign c) = choose (is-char "[" c) (to bs (attribute 0 other-key)) (to bs hash)
+next-move bs hash quote = to bs start
+next-move bs hash value = to bs start
+next-move bs (naming x) (word w) = to bs (opening x w)
+next-move bs (naming x) (sign c) = to bs (naming x)
+next-move bs (naming x) quote = to bs (naming x)
+next-move bs (naming x) value = to bs (naming x)
+next-move bs (opening x n) (word w) = to bs (opening x n)
+next-move bs (opening x n) (sign c) = choose (is-char "{" c) (sees (opened x n ∷ []) (x ∷ bs) start) (choose (is-char ";" c) (to bs start) (to bs (opening x n)))
+next-move bs (opening x n) quote = to bs (opening x n)
+next-move bs (opening x n) value = to bs (opening x n)
+next-move bs (labelled n) (word w) = to bs (labelled n)
+next-move bs (labelled n) (sign c) =
+    choose (is-char ":" c || is-char "(" c) (sees (open-field none n ∷ []) bs (typed 0 false []))
+    (choose (is-char "=" c) (to bs discriminant) (choose (is-char "," c) (to bs start) (to bs (labelled n))))
+next-move bs (labelled n) quote = to bs (labelled n)
+next-move bs (labelled n) value = to bs (labelled n)
+next-move bs (typed d foreign names) t = in-type bs d foreign names t
+next-move bs (attribute d k) t = in-attribute bs d k t
+next-move bs (skipped q) (word w) = to bs (skipped q)
+next-move bs (skipped q) (sign c) = to bs (skipped q)
+next-move bs (skipped q) quote = to bs q
+next-move bs (skipped q) value = to bs (skipped q)
+next-move bs (tag-path d foreign names) (word w) = to bs (tag-path d foreign (w ∷ names))
+next-move bs (tag-path d foreign names) (sign c) = to bs (tag-path d (foreign-at foreign names) names)
+next-move bs (tag-path d foreign names) quote = sees (tagged-path foreign names) bs (attribute d other-key)
+next-move bs (tag-path d foreign names) value = to bs (tag-path d true names)
+next-move bs (map-tag d k) (word w) = to bs (map-tag d (key-of w))
+next-move bs (map-tag d k) (sign c) = choose (is-char "(" c) (to bs (bracket-at d k)) (to bs (map-tag d other-key))
+next-move bs (map-tag d k) quote = to bs (attribute d other-key)
+next-move bs (map-tag d k) value = to bs (map-tag d other-key)
+next-move bs (map-path d foreign names) (word w) = to bs (map-path d foreign (w ∷ names))
+next-move bs (map-path d foreign names) (sign c) =
+    choose (is-char ")" c) (sees (tagged-path foreign names) bs (map-tag d other-key)) (to bs (map-path d (foreign-at foreign names) names))
+next-move bs (map-path d foreign names) quote = to bs (map-path d foreign names)
+next-move bs (map-path d foreign names) value = to bs (map-path d true names)
 
 -- ---- reading
 abbrev pub read-tokens : List Body → At → List Token → List Event
 read-tokens bs q [] = []
-read-tokens bs q (t ∷ ts) = move bs q t .seen ++ read-tokens (move bs q t .bodies) (move bs q t .next) ts
+read-tokens bs q (t ∷ ts) = next-move bs q t .seen ++ read-tokens (next-move bs q t .bodies) (next-move bs q t .next) ts
 
 -- what is seen in a text that stands in a module
 abbrev pub see : List Symbol → List Event

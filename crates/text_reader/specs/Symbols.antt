@@ -16,6 +16,10 @@ abbrev pub chars : Bytes → List Symbol
 chars [] = []
 chars (c ∷ cs) = char c ∷ chars cs
 
+pub chars-append : (x y : Bytes) (s : List Symbol) → chars (x ++ y) ++ s ≡ chars x ++ (chars y ++ s)
+chars-append [] y s = refl
+chars-append (c ∷ x) y s = ap {B = List Symbol} (λ (l : List Symbol). char c ∷ l) (chars-append x y s)
+
 -- what an extern path stands for is an option's value too
 abbrev pub piece-symbols : Piece → List Symbol
 piece-symbols (raw x) = chars x

@@ -1,5 +1,6 @@
 -- Tokens of Rust: words, signs, quotes, and options' values. Blanks and comments fall away; in a string, `\` takes the next character with it. Assumes nothing.
 use Prim.Native.Nat.{ℕ}
+use Prim.Native.Char.{Char, code as code-of}
 use mathlib.Core.Bool.{Bool, _||_}
 use mathlib.Core.List.{List, [], _∷_, _++_}
 use lib.Dec.{eqb}
@@ -7,6 +8,10 @@ use Rattle.base.specs.Choose.{choose}
 use Rattle.ident.specs.Name.{name-part}
 use Rattle.descriptor.specs.Descriptor.{Bytes}
 use Rattle.text_reader.specs.Symbols.{Symbol, char, option-value}
+
+-- is it this character?
+abbrev pub is-char : Char → ℕ → Bool
+is-char x c = eqb c (code-of x)
 
 -- inside a string too, what stands there is words and signs
 pub data Token : Type 0 where
@@ -27,8 +32,8 @@ pub record Taken : Type 0 where
   pub tokens : List Token
   pub next : Lexing
 
-abbrev taken : List Token → Lexing → Taken
-taken ts l = record { tokens = ts; next = l }
+abbrev gives : List Token → Lexing → Taken
+gives ts l = record { tokens = ts; next = l }
 
 -- with a token in front
 abbrev behind : Token → Taken → Taken
@@ -36,43 +41,43 @@ behind t x = record { tokens = t ∷ x .tokens; next = x .next }
 
 -- a blank or the end of a line
 abbrev pub is-blank : ℕ → Bool
-is-blank c = eqb c 32 || eqb c 10
+is-blank c = is-char " " c || is-char "\n" c
 
 -- `#` belongs to a word that has begun, as in `r#type`
 abbrev pub goes-on : ℕ → Bool
-goes-on c = name-part c || eqb c 35
+goes-on c = name-part c || is-char "#" c
 
 abbrev pub in-code : ℕ → Taken
 in-code c =
-    choose (name-part c) (taken [] (code-word (c ∷ [])))
-    (choose (is-blank c) (taken [] code)
-    (choose (eqb c 34) (taken (quote ∷ []) string)
-    (choose (eqb c 47) (taken [] slash) (taken (sign c ∷ []) code))))
+    choose (name-part c) (gives [] (code-word (c ∷ [])))
+    (choose (is-blank c) (gives [] code)
+    (choose (is-char "\"" c) (gives (quote ∷ []) string)
+    (choose (is-char "/" c) (gives [] slash) (gives (sign c ∷ []) code))))
 
 abbrev pub in-string : ℕ → Taken
 in-string c =
-    choose (name-part c) (taken [] (string-word (c ∷ [])))
-    (choose (is-blank c) (taken [] string)
-    (choose (eqb c 34) (taken (quote ∷ []) code)
-    (choose (eqb c 92) (taken [] escape) (taken (sign c ∷ []) string))))
+    choose (name-part c) (gives [] (string-word (c ∷ [])))
+    (choose (is-blank c) (gives [] string)
+    (choose (is-char "\"" c) (gives (quote ∷ []) code)
+    (choose (is-char "\\" c) (gives [] escape) (gives (sign c ∷ []) string))))
 
 abbrev pub take-char : Lexing → ℕ → Taken
 take-char code c = in-code c
-take-char (code-word w) c = choose (goes-on c) (taken [] (code-word (w ++ (c ∷ [])))) (behind (word w) (in-code c))
+take-char (code-word w) c = choose (goes-on c) (gives [] (code-word (w ++ (c ∷ [])))) (behind (word w) (in-code c))
 take-char string c = in-string c
-take-char (string-word w) c = choose (goes-on c) (taken [] (string-word (w ++ (c ∷ [])))) (behind (word w) (in-string c))
-take-char escape c = taken [] string
-take-char slash c = choose (eqb c 47) (taken [] comment) (behind (sign 47) (in-code c))
-take-char comment c = choose (eqb c 10) (taken [] code) (taken [] comment)
+take-char (string-word w) c = choose (goes-on c) (gives [] (string-word (w ++ (c ∷ [])))) (behind (word w) (in-string c))
+take-char escape c = gives [] string
+take-char slash c = choose (is-char "/" c) (gives [] comment) (behind (sign (code-of "/")) (in-code c))
+take-char comment c = choose (is-char "\n" c) (gives [] code) (gives [] comment)
 
 abbrev pub take-value : Lexing → Taken
-take-value code = taken (value ∷ []) code
-take-value (code-word w) = taken (word w ∷ value ∷ []) code
-take-value string = taken (value ∷ []) string
-take-value (string-word w) = taken (word w ∷ value ∷ []) string
-take-value escape = taken (value ∷ []) string
-take-value slash = taken (sign 47 ∷ value ∷ []) code
-take-value comment = taken [] comment
+take-value code = gives (value ∷ []) code
+take-value (code-word w) = gives (word w ∷ value ∷ []) code
+take-value string = gives (value ∷ []) string
+take-value (string-word w) = gives (word w ∷ value ∷ []) string
+take-value escape = gives (value ∷ []) string
+take-value slash = gives (sign (code-of "/") ∷ value ∷ []) code
+take-value comment = gives [] comment
 
 abbrev pub take-symbol : Lexing → Symbol → Taken
 take-symbol l (char c) = take-char l c
@@ -85,7 +90,7 @@ left-over (code-word w) = word w ∷ []
 left-over string = []
 left-over (string-word w) = word w ∷ []
 left-over escape = []
-left-over slash = sign 47 ∷ []
+left-over slash = sign (code-of "/") ∷ []
 left-over comment = []
 
 abbrev pub tokens-from : Lexing → List Symbol → List Token
