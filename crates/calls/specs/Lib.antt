@@ -1,1 +1,2 @@
 pub mod TextCall
+pub mod NameCall
