@@ -1,0 +1,2 @@
+pub mod NameCheck
+pub mod Examples

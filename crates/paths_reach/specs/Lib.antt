@@ -1,0 +1,9 @@
+pub mod Reach
+pub mod Apart
+pub mod Dots
+pub mod Written
+pub mod Seen
+pub mod Nodes
+pub mod Homes
+pub mod Closed
+pub mod Hits
