@@ -102,6 +102,7 @@ pub record Owned (i : ℕ) (es : List Entry) (r : Row) : Type 0 where
   pub at : At entry es place
   pub owner : r .owner ≡ i + place
   pub name : entry .full ≡ r .full
+  pub own : List·Memᴰ (r .field) (entry .message .fields)
   pub field : List·Memᴰ (r .field) (fields-of-entries es)
 
 pub find-owner : (i : ℕ) (es : List Entry) (r : Row) → List·Memᴰ r (rows-from i es) → Owned i es r
@@ -117,12 +118,13 @@ find-owner i (e ∷ es) r m =
       at = first refl;
       owner = (let q : i ≡ r .owner = ap (λ (x : Row). x .owner) (p .2) in omega arith);
       name = ap (λ (x : Row). x .full) (p .2);
+      own = Memᴰ·cast (sym (ap (λ (x : Row). x .field) (p .2))) (p .1);
       field = Memᴰ·append-left (fields-of-entries es) (Memᴰ·cast (sym (ap (λ (x : Row). x .field) (p .2))) (p .1));
     })
     (λ w.
     let p = find-owner (suc i) es r w in
     let o = p .owner in
-    record { entry = p .entry; place = suc (p .place); at = next (p .at); owner = omega arith; name = p .name; field = Memᴰ·append-right (e .message .fields) (p .field) })
+    record { entry = p .entry; place = suc (p .place); at = next (p .at); owner = omega arith; name = p .name; own = p .own; field = Memᴰ·append-right (e .message .fields) (p .field) })
     (List·Memᴰ·append-cases (map (field-row i e) (e .message .fields)) m)
 
 module _ {es : List Entry} (s : Sound es) {r : Row} {k : ℕ} (p : At r (rows-of es) k) where

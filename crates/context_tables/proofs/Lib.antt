@@ -1,11 +1,1 @@
 pub mod CellLaws
-pub mod RowLaws
-pub mod TargetLaws
-pub mod SetTables
-pub mod NamedRows
-pub mod SettingLaws
-pub mod FitLaws
-pub mod SettingColumn
-pub mod EntryPlaces
-pub mod TableTheorems
-pub mod AfterLaws

@@ -1,11 +1,12 @@
 -- The numbers of the tables that the text's writers read, row by row. Assumes nothing.
-use Prim.Native.Nat.{ℕ, _/_, _%_}
+use Prim.Native.Nat.{ℕ, suc, _/_, _%_}
 use mathlib.Core.Bool.{Bool, false, not}
 use mathlib.Core.List.{List}
-use lib.Dec.{eqb}
+use mathlib.Core.Option.{Option, some, none}
+use lib.Dec.{eqb, ltb}
 use lib.ListN.{getD}
 use Rattle.base.specs.Choose.{choose}
-use Rattle.descriptor.specs.Decode.{decode-message}
+use Rattle.descriptor.specs.Decode.{decode-field, decode-message}
 use Rattle.index.specs.Tree.{row-at, row-bytes}
 use Rattle.index.specs.declared.Row.{Row}
 use Rattle.message_graph.specs.Limit.{messages}
@@ -17,6 +18,7 @@ use Rattle.derives.specs.declared.Derive.the-variants.{Copy, Eq}
 use Rattle.derives.specs.Rules.{rule}
 use Rattle.derives.specs.Can.{can-message-derive}
 use Rattle.field_columns.specs.Columns.{start-at}
+use Rattle.code_generator.specs.Oneofs.{oneof-of}
 
 unfoldable pub bit : Bool → ℕ
 bit b = choose b 1 0
@@ -41,7 +43,7 @@ message-number rows first copy eq i column =
 unfoldable pub message-cell : List ℕ → List ℕ → List Bool → List Bool → ℕ → ℕ
 message-cell rows first copy eq at = message-number rows first copy eq (at / 4) (at % 4)
 
--- ---- fields: boxed by a loop, Copy, Eq, where the map entry starts and ends
+-- ---- fields: boxed by a loop, Copy, Eq; where the field's part starts and ends, and where its map entry does; its oneof
 
 unfoldable pub field-can : Derive → List ℕ → List ℕ → List ℕ → List Bool → List Bool → List Bool → ℕ → Bool
 field-can d target kind label boxed settings can k =
@@ -58,17 +60,34 @@ unfoldable pub entry-row : List ℕ → List ℕ → List ℕ → List ℕ → L
 entry-row rows target kind label entries k =
     choose (names-entry target kind label entries k) (row-at rows (message-at target k)) (record { start = 0; end = 0; file = 0; up = 0; after = 0 })
 
-module _ (rows target kind label : List ℕ) (boxed settings copy eq entries : List Bool) where
-  unfoldable pub field-number : ℕ → ℕ → ℕ
-  field-number k column =
+-- one more than the index of a oneof, or 0 for none; 0 where a table has no room for the number
+unfoldable pub oneof-cell : Option ℕ → ℕ
+oneof-cell none = 0
+oneof-cell (some i) = choose (ltb i 65535) (suc i) 0
+
+-- that of field k, by the table of fields
+unfoldable pub oneof-at : List ℕ → List ℕ → ℕ → ℕ
+oneof-at set table k = oneof-cell (oneof-of (decode-field (row-bytes set (row-at table k))))
+
+module _ (set rows table target kind label : List ℕ) where
+  -- the columns from 3 on
+  unfoldable pub place-number : List Bool → ℕ → ℕ → ℕ
+  place-number entries k column =
+      choose (eqb column 3) (row-at table k .start)
+      (choose (eqb column 4) (row-at table k .end)
+      (choose (eqb column 5) (entry-row rows target kind label entries k .start)
+      (choose (eqb column 6) (entry-row rows target kind label entries k .end)
+      (oneof-at set table k))))
+
+  unfoldable pub field-number : List Bool → List Bool → List Bool → List Bool → List Bool → ℕ → ℕ → ℕ
+  field-number boxed settings copy eq entries k column =
       choose (eqb column 0) (bit (getD boxed k false))
       (choose (eqb column 1) (bit (field-can Copy target kind label boxed settings copy k))
       (choose (eqb column 2) (bit (field-can Eq target kind label boxed settings eq k))
-      (choose (eqb column 3) (entry-row rows target kind label entries k .start)
-      (entry-row rows target kind label entries k .end))))
+      (place-number entries k column)))
 
-  unfoldable pub field-cell : ℕ → ℕ
-  field-cell at = field-number (at / 5) (at % 5)
+  unfoldable pub field-cell : List Bool → List Bool → List Bool → List Bool → List Bool → ℕ → ℕ
+  field-cell boxed settings copy eq entries at = field-number boxed settings copy eq entries (at / 8) (at % 8)
 
 -- ---- both, from the columns over the fields
 
@@ -83,6 +102,6 @@ unfoldable pub message-table : ℕ → List ℕ → List ℕ → ℕ → Fields 
 message-table size rows table n f settings = tab size (message-cell rows (tab messages (start-at table n)) (can Copy f settings) (can Eq f settings))
 
 -- size numbers; m is how far the table of boxes goes
-unfoldable pub field-table : ℕ → ℕ → List ℕ → Fields → List Bool → List Bool → List ℕ
-field-table size m rows f settings entries =
-    tab size (field-cell rows (f .target) (f .kind) (f .label) (tab m (boxed-by-loop f)) settings (can Copy f settings) (can Eq f settings) entries)
+unfoldable pub field-table : ℕ → ℕ → List ℕ → List ℕ → List ℕ → Fields → List Bool → List Bool → List ℕ
+field-table size m set rows table f settings entries =
+    tab size (field-cell set rows table (f .target) (f .kind) (f .label) (tab m (boxed-by-loop f)) settings (can Copy f settings) (can Eq f settings) entries)

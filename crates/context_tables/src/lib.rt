@@ -1,4 +1,4 @@
-// The two tables that the text's writers read: four numbers for each message of a set, and five for each field.
+// The two tables that the text's writers read: four numbers for each message of a set, and eight for each field.
 ghost use mathlib.Core.Path.{_≡_};
 ghost use mathlib.Core.Bool.{false};
 ghost use Prim.Native.Nat.{_/_, _%_, _<_};
@@ -7,8 +7,11 @@ ghost use Rattle.derives.specs.Rules.{rule};
 ghost use Rattle.message_graph.specs.Fields.{message-at};
 ghost use Rattle.message_graph.specs.Boxes.{boxed-by-loop};
 ghost use Rattle.message_graph.specs.Tab.{tab};
-ghost use Rattle.context_tables.specs.Cells.{bit, is-set-at, entry-at, message-number, message-cell, field-can, names-entry, entry-row, field-number, field-cell, columns, message-table, field-table};
+ghost use Rattle.descriptor.specs.Views.{number-of};
+ghost use Rattle.code_generator.specs.Oneofs.{oneof-of};
+ghost use Rattle.context_tables.specs.Cells.{bit, is-set-at, entry-at, message-number, message-cell, field-can, names-entry, entry-row, oneof-cell, oneof-at, place-number, field-number, field-cell, columns, message-table, field-table};
 use derives::Derive;
+use descriptor::Number;
 use index::Row;
 use message_graph::Index;
 use message_graph::LABEL_REPEATED;
@@ -182,9 +185,70 @@ fn entry_row(
     }
 }
 
+// The number for a oneof with this index: one more than that, and 0 for none.
+fn oneof_cell(index: Number) -> u16
+    ensures { λ r. ⌜ r ≡ oneof-cell (number-of index) ⌝ }
+{
+    if index.given {
+        if index.value < 65535 {
+            let i = index.value as u16;
+            return i + 1;
+        }
+        return 0;
+    }
+    0
+}
+
+// The number for the oneof of field `k`; proto3_optional takes it out of its oneof.
+fn oneof_at(set: &[u8], fields: &[u16], k: usize) -> u16
+    ensures { λ r. ⌜ r ≡ oneof-at (now (set .entry)) (now (fields .entry)) k ⌝ }
+{
+    let row = index::row_of(fields, k);
+    let from = wide(row.start);
+    let to = wide(row.end);
+    let view = descriptor::field_view(set, from, to);
+    if view.optional {
+        return 0;
+    }
+    oneof_cell(view.oneof)
+}
+
+// The number in a column from 3 on of the row of field `k`.
+fn place_number(
+    set: &[u8],
+    rows: &[u16],
+    fields: &[u16],
+    target: &[Index],
+    kind: &[u8],
+    label: &[u8],
+    entries: &[bool],
+    k: usize,
+    column: usize,
+) -> u16
+    ensures { λ r. ⌜ r ≡ place-number (now (set .entry)) (now (rows .entry)) (now (fields .entry)) (now (target .entry)) (now (kind .entry)) (now (label .entry)) (now (entries .entry)) k column ⌝ }
+{
+    let row = index::row_of(fields, k);
+    if column == 3 {
+        return row.start;
+    }
+    if column == 4 {
+        return row.end;
+    }
+    let entry = entry_row(rows, target, kind, label, entries, k);
+    if column == 5 {
+        return entry.start;
+    }
+    if column == 6 {
+        return entry.end;
+    }
+    oneof_at(set, fields, k)
+}
+
 // The number in a column of the row of field `k`.
 fn field_number(
+    set: &[u8],
     rows: &[u16],
+    fields: &[u16],
     target: &[Index],
     kind: &[u8],
     label: &[u8],
@@ -196,7 +260,7 @@ fn field_number(
     k: usize,
     column: usize,
 ) -> u16
-    ensures { λ r. ⌜ r ≡ field-number (now (rows .entry)) (now (target .entry)) (now (kind .entry)) (now (label .entry)) (now (boxed .entry)) (now (settings .entry)) (now (copy .entry)) (now (eq .entry)) (now (entries .entry)) k column ⌝ }
+    ensures { λ r. ⌜ r ≡ field-number (now (set .entry)) (now (rows .entry)) (now (fields .entry)) (now (target .entry)) (now (kind .entry)) (now (label .entry)) (now (boxed .entry)) (now (settings .entry)) (now (copy .entry)) (now (eq .entry)) (now (entries .entry)) k column ⌝ }
 {
     if column == 0 {
         let looped = flag_at(boxed, k);
@@ -210,18 +274,16 @@ fn field_number(
         let can = field_can(Derive::Eq, target, kind, label, boxed, settings, eq, k);
         return bit(can);
     }
-    let row = entry_row(rows, target, kind, label, entries, k);
-    if column == 3 {
-        return row.start;
-    }
-    row.end
+    place_number(set, rows, fields, target, kind, label, entries, k, column)
 }
 
-// The rows of the fields: `boxed` has those that are boxed by a loop, `settings` those with a boxed setting, `copy` and `eq` what each
+// The rows of the fields: `rows` and `fields` have the messages' and fields' places, `boxed` has those that are boxed by a loop, `settings` those with a boxed setting, `copy` and `eq` what each
 // message can derive, `entries` which messages are map entries.
 pub fn fill_fields(
     t: &mut [u16],
+    set: &[u8],
     rows: &[u16],
+    fields: &[u16],
     target: &[Index],
     kind: &[u8],
     label: &[u8],
@@ -231,14 +293,16 @@ pub fn fill_fields(
     eq: &[bool],
     entries: &[bool],
 )
-    ensures { λ _. ⌜ now (t .exit) ≡ tab (length (now (t .entry))) (field-cell (now (rows .entry)) (now (target .entry)) (now (kind .entry)) (now (label .entry)) (now (boxed .entry)) (now (settings .entry)) (now (copy .entry)) (now (eq .entry)) (now (entries .entry))) ⌝ }
+    ensures { λ _. ⌜ now (t .exit) ≡ tab (length (now (t .entry))) (field-cell (now (set .entry)) (now (rows .entry)) (now (fields .entry)) (now (target .entry)) (now (kind .entry)) (now (label .entry)) (now (boxed .entry)) (now (settings .entry)) (now (copy .entry)) (now (eq .entry)) (now (entries .entry))) ⌝ }
 {
     let mut i = 0;
     while i < t.len() {
-        let k = i / 5;
-        let column = i % 5;
+        let k = i / 8;
+        let column = i % 8;
         t[i] = field_number(
+            set,
             rows,
+            fields,
             target,
             kind,
             label,
@@ -260,6 +324,7 @@ pub fn fill_rows(
     messages: &mut [u16],
     t: &mut [u16],
     boxed: &mut [bool],
+    set: &[u8],
     rows: &[u16],
     fields: &[u16],
     n: usize,
@@ -271,7 +336,7 @@ pub fn fill_rows(
     entries: &[bool],
 )
     ensures { λ _. ⌜ now (messages .exit) ≡ message-table (length (now (messages .entry))) (now (rows .entry)) (now (fields .entry)) n (columns (now (owner .entry)) (now (target .entry)) (now (kind .entry)) (now (label .entry))) (now (settings .entry)) ⌝ }
-    ensures { λ _. ⌜ now (t .exit) ≡ field-table (length (now (t .entry))) (length (now (boxed .entry))) (now (rows .entry)) (columns (now (owner .entry)) (now (target .entry)) (now (kind .entry)) (now (label .entry))) (now (settings .entry)) (now (entries .entry)) ⌝ }
+    ensures { λ _. ⌜ now (t .exit) ≡ field-table (length (now (t .entry))) (length (now (boxed .entry))) (now (set .entry)) (now (rows .entry)) (now (fields .entry)) (columns (now (owner .entry)) (now (target .entry)) (now (kind .entry)) (now (label .entry))) (now (settings .entry)) (now (entries .entry)) ⌝ }
     ensures { λ _. ⌜ now (boxed .exit) ≡ tab (length (now (boxed .entry))) (boxed-by-loop (columns (now (owner .entry)) (now (target .entry)) (now (kind .entry)) (now (label .entry)))) ⌝ }
 {
     let mut first = [0u16; MESSAGES];
@@ -282,7 +347,9 @@ pub fn fill_rows(
     fill_messages(messages, rows, &first, &copy, &eq);
     fill_fields(
         t,
+        set,
         rows,
+        fields,
         target,
         kind,
         label,

@@ -124,13 +124,13 @@ map-same f g same [] = refl
 map-same {B} f g same (a ∷ xs) = ap (λ (b : B). b ∷ map f xs) (same a) ∙ ap (λ (l : List B). g a ∷ l) (map-same f g same xs)
 
 module _ (set : List ℕ) (small : length set ≤ 32768) where
-  abbrev placed : Place → MessageDescriptor
+  abbrev pub placed : Place → MessageDescriptor
   placed p = decode-message (bytes-at set p)
 
   abbrev of-file : Bytes → Forest Bytes
   of-file p = nest 16 (parts 4 (entries p))
 
-  files-forests : map (λ (f : FileDescriptor). f .messages) (decode-set set) ≡ map (map-forest placed) (file-forests 4 16 set)
+  pub files-forests : map (λ (f : FileDescriptor). f .messages) (decode-set set) ≡ map (map-forest placed) (file-forests 4 16 set)
   unfolding decode-set decode-file
   files-forests =
       map-map (λ (f : FileDescriptor). f .messages) decode-file (parts 1 (entries set))

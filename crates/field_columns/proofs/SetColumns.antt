@@ -140,6 +140,10 @@ module _ (set messages-table : List ℕ) (count : ℕ) (table : MessageTable set
       ap (first-rows fields) n-is
       ∙ stands-first fields rs (subst (λ (u : List ℕ). Stands u 0 rs) (sym (holds .table)) (fill-stands rs t 0 (omega arith) (omega arith)))
 
+  -- the fields of the decoded set, in order
+  pub rows-decoded : map (λ (r : Row). decode-field (row-bytes set r)) (first-rows fields n) ≡ fields-in (decode-set set)
+  rows-decoded = ap (map (λ (r : Row). decode-field (row-bytes set r))) rows-are ∙ rs-decoded
+
   -- for each field the number of its message
   pub owners-are : length ms ≤ messages → tab n (owner-at fields) ≡ owners fields-of 0 ms
   owners-are few =

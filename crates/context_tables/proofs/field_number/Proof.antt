@@ -34,16 +34,12 @@ returns-3 : tie.Need-returns-3
 unfolding field-number
 returns-3 c = rw (c .bit3 .ensures, c .before .field-can2 .ensures) (search choices depth 9)
 
-entry-row-requires : tie.Need-entry-row-requires
-entry-row-requires c κs = search needs
+place-number-requires : tie.Need-place-number-requires
+place-number-requires c κs = search needs
 
 returns-4 : tie.Need-returns-4
 unfolding field-number
-returns-4 c = rw (c .before .entry-row .ensures) (search choices depth 9)
-
-returns-5 : tie.Need-returns-5
-unfolding field-number
-returns-5 c = rw (c .before .entry-row .ensures) (search choices depth 9)
+returns-4 c = rw (c .place-number .ensures) (search choices depth 9)
 
 pub field-number-spec : {M : Type 1} → statement M
 field-number-spec =
@@ -58,6 +54,5 @@ field-number-spec =
     field-can-requires-2
     bit-requires-3
     returns-3
-    entry-row-requires
-    returns-4
-    returns-5)
+    place-number-requires
+    returns-4)

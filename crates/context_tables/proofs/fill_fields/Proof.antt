@@ -10,10 +10,10 @@ use Rattle.context_tables.proofs.fill_fields.Statement.{statement}
 use Rattle.context_tables.proofs.fill_fields.Tie as tie
 
 abbrev Inv-loop : tie.InvT-loop
-Inv-loop t₀ rows target kind label boxed settings copy eq entries i₀ t i = Filled (field-cell rows target kind label boxed settings copy eq entries) t₀ t i
+Inv-loop t₀ set rows fields target kind label boxed settings copy eq entries i₀ t i = Filled (field-cell set rows fields target kind label boxed settings copy eq entries) t₀ t i
 
 abbrev μ-loop : tie.MeasureT-loop
-μ-loop t₀ rows target kind label boxed settings copy eq entries i₀ t i = length t₀ - i
+μ-loop t₀ set rows fields target kind label boxed settings copy eq entries i₀ t i = length t₀ - i
 
 loop-holds : tie.Need-loop-holds Inv-loop μ-loop
 loop-holds c = filled-none
@@ -34,7 +34,7 @@ loop-less : tie.Need-loop-less Inv-loop μ-loop
 loop-less c = search needs
 
 loop-again : tie.Need-loop-again Inv-loop μ-loop
-loop-again c = filled-more (c .before .before .loop .inv) (omega (arith, c .before .before .loop .inv .size)) (c .field-number .result) (field-read _ _ _ _ _ _ _ _ _ _ _ (c .field-number .ensures))
+loop-again c = filled-more (c .before .before .loop .inv) (omega (arith, c .before .before .loop .inv .size)) (c .field-number .result) (field-read _ _ _ _ _ _ _ _ _ _ _ _ _ (c .field-number .ensures))
 
 same-length : tie.Need-same-length Inv-loop μ-loop
 same-length c = c .before .loop .inv .size

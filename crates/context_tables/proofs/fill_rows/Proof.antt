@@ -44,7 +44,7 @@ same-length-3 : tie.Need-same-length-3
 same-length-3 c = search needs
 
 returns : tie.Need-returns
-returns c = (messages-filled _ _ _ _ (c .before .before .before .before .before .before .before .before .before .before .before .before .before .before .before .before .before .before .can-derive .ensures .1 .0) (c .before .before .before .before .before .before .before .before .before .before .before .before .before .before .before .before .before .before .can-derive .ensures .1 .1) _ _ _ _ _ _ refl (c .before .before .before .before .before .before .before .before .before .before .before .before .before .before .before .before .before .before .before .before .before .fill-starts .ensures) _ (c .before .before .before .before .before .before .before .before .before .fill-messages .ensures), (fields-filled _ _ _ _ (c .before .before .before .before .before .before .before .before .before .before .before .before .before .before .before .before .before .before .can-derive .ensures .1 .0) (c .before .before .before .before .before .before .before .before .before .before .before .before .before .before .before .before .before .before .can-derive .ensures .1 .1) _ _ _ _ _ (c .before .before .before .before .before .before .before .before .before .before .before .before .before .before .before .before .before .before .can-derive .ensures .0) _ (c .before .before .fill-fields .ensures), c .before .before .before .before .before .before .before .before .before .before .before .before .before .before .before .before .before .before .can-derive .ensures .0))
+returns c = (messages-filled _ _ _ _ (c .before .before .before .before .before .before .before .before .before .before .before .before .before .before .before .before .before .before .can-derive .ensures .1 .0) (c .before .before .before .before .before .before .before .before .before .before .before .before .before .before .before .before .before .before .can-derive .ensures .1 .1) _ _ _ _ _ _ refl (c .before .before .before .before .before .before .before .before .before .before .before .before .before .before .before .before .before .before .before .before .before .fill-starts .ensures) _ (c .before .before .before .before .before .before .before .before .before .fill-messages .ensures), (fields-filled _ _ _ _ (c .before .before .before .before .before .before .before .before .before .before .before .before .before .before .before .before .before .before .can-derive .ensures .1 .0) (c .before .before .before .before .before .before .before .before .before .before .before .before .before .before .before .before .before .before .can-derive .ensures .1 .1) _ _ _ _ _ _ _ (c .before .before .before .before .before .before .before .before .before .before .before .before .before .before .before .before .before .before .can-derive .ensures .0) _ (c .before .before .fill-fields .ensures), c .before .before .before .before .before .before .before .before .before .before .before .before .before .before .before .before .before .before .can-derive .ensures .0))
 
 pub fill-rows-spec : {M : Type 1} → statement M
 fill-rows-spec =

@@ -18,10 +18,10 @@ use Rattle.message_graph.specs.Tab.{tab, length-tab, tab-at}
 use Rattle.boxed_settings.specs.Flags.{set-flags}
 use Rattle.field_columns.proofs.EntryLaws.{set-fields-are}
 use Rattle.context_laws.specs.Tables.{Row, rows-of, is-set, settings-of}
 use Rattle.context_tables.specs.Cells.{bit, is-set-at}
-use Rattle.context_tables.proofs.RowLaws.{bit-flag}
-use Rattle.context_tables.proofs.SetTables.{rows-fields}
-use Rattle.context_tables.proofs.SettingLaws.{Fit, set-flags-are}
+use Rattle.table_laws.specs.RowLaws.{bit-flag}
+use Rattle.table_laws.specs.SetTables.{rows-fields}
+use Rattle.table_laws.specs.SettingLaws.{Fit, set-flags-are}
 
 -- a text that there is room for, read back
 laid : (t p : List ℕ) (i : ℕ) → length p ≤ length t → i < length p → getD (over t 0 p) i 0 ≡ getD p i 0

@@ -1,23 +1,26 @@
 -- The number behind the messages nested in a message. Assumes nothing.
-use mathlib.Core.Path.{_≡_, ap, _∙_}
-use mathlib.Core.List.{List, [], _∷_, _++_}
+use mathlib.Core.Path.{_≡_, refl, sym, ap, _∙_, subst}
+use mathlib.Core.List.{List, [], _∷_, _++_, map}
 use Prim.Native.Nat.{ℕ, suc, _+_, _<_}
 use native.Mathlib.Omega.{arith}
 use lib.ListN.{length, length-append, getD, List·getD-append}
 use lib.Seq.{getD-append-add}
-use Rattle.descriptor.specs.Descriptor.{Forest, done, node}
+use Rattle.descriptor.specs.Descriptor.{Forest, done, node, FileDescriptor}
+use Rattle.descriptor.specs.Decode.{decode-set}
 use Rattle.index.specs.Tree.{Place, size, rows, rows-of, file-forests, row-at}
 use Rattle.index.specs.declared.Row.{Row}
 use Rattle.index.proofs.TreeLaws.{rows-length}
 use Rattle.index.proofs.TableLaws.{no-row, Stands}
+use Rattle.index.proofs.DecodedLaws.{map-forest}
 use Rattle.index.proofs.SetLaws.{MessageTable}
+use Rattle.field_columns.proofs.NameLaws.{placed, files-forests}
 
 -- numbered from i on, after has for each message the number behind those nested in it
-abbrev pub Afters : (ℕ → ℕ) → ℕ → Forest Place → Type 0
+abbrev pub Afters : {A : Type 0} → (ℕ → ℕ) → ℕ → Forest A → Type 0
 Afters after i done = Unit {0}
 Afters after i (node p nested following) = (after i ≡ i + 1 + size nested) × (Afters after (i + 1) nested × Afters after (i + 1 + size nested) following)
 
-abbrev pub FileAfters : (ℕ → ℕ) → ℕ → List (Forest Place) → Type 0
+abbrev pub FileAfters : {A : Type 0} → (ℕ → ℕ) → ℕ → List (Forest A) → Type 0
 FileAfters after i [] = Unit {0}
 FileAfters after i (F ∷ Fs) = Afters after i F × FileAfters after (i + size F) Fs
 
@@ -56,5 +59,27 @@ module _ (t : List ℕ) where
       let later = rows-of (file + 1) (i + size F) Fs in
       (afters-are F file 0 i (stands-left i here later h), files-are Fs (file + 1) (i + size F) (stands-right i (size F) here later (rows-length F file 0 i) h))
 
-pub set-afters : (set messages : List ℕ) (count : ℕ) → MessageTable set messages count → FileAfters (λ j. row-at messages j .after) 0 (file-forests 4 16 set)
-set-afters set messages count table = files-are messages (file-forests 4 16 set) 0 0 (table .there)
+-- ---- the same of what is decoded
+
+module _ {A B : Type 0} (g : A → B) where
+  pub size-map : (F : Forest A) → size (map-forest g F) ≡ size F
+  unfolding size map-forest
+  size-map done = refl
+  size-map (node a nested following) = let n = size-map nested in let f = size-map following in omega arith
+
+  afters-map : (after : ℕ → ℕ) (i : ℕ) (F : Forest A) → Afters after i F → Afters after i (map-forest g F)
+  unfolding map-forest
+  afters-map after i done h = tt
+  afters-map after i (node a nested following) h =
+      let n = size-map nested in
+      (rw n (h .0), (afters-map after (i + 1) nested (h .1 .0), rw n (afters-map after (i + 1 + size nested) following (h .1 .1))))
+
+  files-map : (after : ℕ → ℕ) (i : ℕ) (Fs : List (Forest A)) → FileAfters after i Fs → FileAfters after i (map (map-forest g) Fs)
+  files-map after i [] h = tt
+  files-map after i (F ∷ Fs) h = (afters-map after i F (h .0), rw (size-map F) (files-map after (i + size F) Fs (h .1)))
+
+pub set-afters : (set messages : List ℕ) (count : ℕ) → MessageTable set messages count
+    → FileAfters (λ j. row-at messages j .after) 0 (map (λ (f : FileDescriptor). f .messages) (decode-set set))
+set-afters set messages count table =
+    subst (FileAfters (λ j. row-at messages j .after) 0) (sym (files-forests set (table .small)))
+    (files-map (placed set (table .small)) (λ j. row-at messages j .after) 0 (file-forests 4 16 set) (files-are messages (file-forests 4 16 set) 0 0 (table .there)))

@@ -41,33 +41,11 @@ use Rattle.context_laws.specs.Derived.{message-copy-by-number, message-eq-by-nu
 use Rattle.text_tables.specs.Rows.{message-row, field-row}
 use Rattle.text_tables.specs.declared.MessageRow.{MessageRow}
 use Rattle.text_tables.specs.declared.FieldRow.{FieldRow}
+use Rattle.table_says.specs.Says.{MessageSays, FieldSays}
 use Rattle.context_tables.specs.Cells.{message-cell, field-can, field-cell}
-use Rattle.context_tables.proofs.RowLaws.{message-row-is, field-row-is}
-use Rattle.context_tables.proofs.TargetLaws.{Agree, boxed-same, message-same, field-answer-same}
-use Rattle.context_tables.proofs.SetTables.{sound, owner-is, kind-is, label-is, first-is}
-
--- a message's row says what it can derive and where its fields begin
-pub record MessageSays (rs : List Setting) (ds : List FileDescriptor) (e : Entry) (i : ℕ) (row : MessageRow) : Type 0 where
-  pub copy : row .copy ≡ can-message-derive-copy rs ds (e .full)
-  pub eq : row .eq ≡ can-message-derive-eq ds (e .full)
-  pub first : row .first ≡ first-row (set-entries ds) i
-
--- a field's row says what it can derive; with the setting at a path, it says whether it has a Box there
-pub record FieldSays (rs : List Setting) (ds : List FileDescriptor) (r : Row) (row : FieldRow) : Type 0 where
-  pub copy : row .copy ≡ can-field-derive-copy rs ds (r .full) (r .field)
-  pub eq : row .eq ≡ can-field-derive-eq ds (r .full) (r .field)
-  pub looped : (at : Bytes) → should-box rs ds (r .full) at (r .field) ≡ choose (row .looped) true (choose (is-repeated (r .field)) false (has rs 4 (at · text (r .field .name))))
-
--- as the writers ask: not where the field is repeated, else by the loop, else by the setting
-repeated-first : (repeated looped nested set : Bool) → choose repeated false nested ≡ choose looped true (choose repeated false set) → choose repeated false nested ≡ choose repeated false (choose looped true set)
-unfolding choose
-repeated-first true looped nested set e = refl
-repeated-first false looped nested set e = e
-
-pub boxed-by-row : {rs : List Setting} {ds : List FileDescriptor} {r : Row} {row : FieldRow} → FieldSays rs ds r row → (at : Bytes)
-    → should-box rs ds (r .full) at (r .field) ≡ choose (is-repeated (r .field)) false (choose (row .looped) true (has rs 4 (at · text (r .field .name))))
-unfolding should-box
-boxed-by-row {rs} {ds} {r} {row} says at = repeated-first (is-repeated (r .field)) (row .looped) _ (has rs 4 (at · text (r .field .name))) (says .looped at)
+use Rattle.table_laws.specs.RowLaws.{message-row-is, field-row-is}
+use Rattle.table_laws.specs.TargetLaws.{Agree, boxed-same, message-same, field-answer-same}
+use Rattle.table_laws.specs.SetTables.{sound, owner-is, kind-is, label-is, first-is}
 
 -- ---- the answers over the columns
 
@@ -175,10 +153,10 @@ module _ (set rows : List ℕ) (count : ℕ) (table : MessageTable set rows coun
           ∙ boxed-same (T .owner) (T .kind) (T .label) target (T .target) agree k
 
       -- the field with number k
-      pub field-says : {r : Row} {k : ℕ} → At r (rows-of es) k → (size m : ℕ) → k * 5 + 4 < size → k < m → k < 65536 → (entries : List Bool)
-          → FieldSays rs ds r (field-row (tab size (field-cell rows target (columns .kind) (columns .label) (tab m (boxed-by-loop columns)) settings (can Copy) (can Eq) entries)) k)
+      pub field-says : {r : Row} {k : ℕ} → At r (rows-of es) k → (size m : ℕ) → k * 8 + 7 < size → k < m → k < 65536 → (entries : List Bool)
+          → FieldSays rs ds r (field-row (tab size (field-cell set rows fields-table target (columns .kind) (columns .label) (tab m (boxed-by-loop columns)) settings (can Copy) (can Eq) entries)) k)
       field-says {r} {k} p size m there boxed small entries =
-          let is = field-row-is rows target (columns .kind) (columns .label) (tab m (boxed-by-loop columns)) settings (can Copy) (can Eq) entries size k there small in
+          let is = field-row-is set rows fields-table target (columns .kind) (columns .label) (tab m (boxed-by-loop columns)) settings (can Copy) (can Eq) entries size k there small in
           record {
             copy = ap (λ (x : FieldRow). x .copy) is ∙ field-can-is Copy m k boxed ∙ field-copy-by-number rs ds s p;
             eq = ap (λ (x : FieldRow). x .eq) is ∙ field-can-is Eq m k boxed ∙ field-eq-by-number rs ds s p;

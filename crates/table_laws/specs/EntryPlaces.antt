@@ -29,16 +29,11 @@ use Rattle.context_laws.specs.Tables.{Row, rows-of, number-of, type-name-of}
 use Rattle.context_laws.specs.Numbers.{number-at}
 use Rattle.text_tables.specs.Rows.{field-row}
 use Rattle.text_tables.specs.declared.FieldRow.{FieldRow}
+use Rattle.table_says.specs.Says.{PlaceSays}
 use Rattle.context_tables.specs.Cells.{entry-at, names-entry, entry-row, field-cell}
-use Rattle.context_tables.proofs.RowLaws.{field-row-is}
-use Rattle.context_tables.proofs.SetTables.{sound}
-use Rattle.context_tables.proofs.NamedRows.{columns, kind-at, label-at, target-at}
-
--- of a field whose type is the message m: where it is repeated and m is a map entry, m lies at the row's place, which ends behind 0; else the place is 0, 0
-pub record PlaceSays (set : List ℕ) (repeated : Bool) (m : MessageDescriptor) (row : FieldRow) : Type 0 where
-  pub there : choose repeated (m .map-entry) false ≡ true → decode-message (part set (row .start) (row .end - row .start)) ≡ m
-  pub ends : choose repeated (m .map-entry) false ≡ true → row .end ≡ 0 → ⊥
-  pub nowhere : choose repeated (m .map-entry) false ≡ false → (row .start ≡ 0) × (row .end ≡ 0)
+use Rattle.table_laws.specs.RowLaws.{field-row-is}
+use Rattle.table_laws.specs.SetTables.{sound}
+use Rattle.table_laws.specs.NamedRows.{columns, kind-at, label-at, target-at}
 
 no-bytes : decode-message [] .map-entry ≡ false
 unfolding decode-message entries entries-of records scan parts joined last-from choose
@@ -50,7 +45,7 @@ behind set start end m is map-entry none =
     let empty : end - start ≡ 0 = omega arith in
     both-ways map-entry (ap (λ (x : MessageDescriptor). x .map-entry) (sym is) ∙ ap (λ (n : ℕ). decode-message (part set start n) .map-entry) empty ∙ no-bytes)
 
-chosen : (t b : Bool) → choose t b false ≡ true → b ≡ true
+pub chosen : (t b : Bool) → choose t b false ≡ true → b ≡ true
 unfolding choose
 chosen true b h = h
 chosen false b h = both-ways h refl
@@ -92,12 +87,12 @@ module _ (set rows : List ℕ) (count : ℕ) (table : MessageTable set rows coun
       no-names is = rw (kind-is, is)
 
       -- a field of another type names none
-      pub no-place : is-message (r .field) ≡ false → (boxed settings copy eq : List Bool) (size : ℕ) → k * 5 + 4 < size → k < 65536
-          → let row = field-row (tab size (field-cell rows target kind label boxed settings copy eq entry-flags)) k in (row .start ≡ 0) × (row .end ≡ 0)
+      pub no-place : is-message (r .field) ≡ false → (boxed settings copy eq : List Bool) (size : ℕ) → k * 8 + 7 < size → k < 65536
+          → let row = field-row (tab size (field-cell set rows fields-table target kind label boxed settings copy eq entry-flags)) k in (row .entry ≡ 0) × (row .entryend ≡ 0)
       unfolding entry-row choose
       no-place is boxed settings copy eq size there small =
-          let row-is = field-row-is rows target kind label boxed settings copy eq entry-flags size k there small in
-          (ap (λ (x : FieldRow). x .start) row-is ∙ rw (no-names is), ap (λ (x : FieldRow). x .end) row-is ∙ rw (no-names is))
+          let row-is = field-row-is set rows fields-table target kind label boxed settings copy eq entry-flags size k there small in
+          (ap (λ (x : FieldRow). x .entry) row-is ∙ rw (no-names is), ap (λ (x : FieldRow). x .entryend) row-is ∙ rw (no-names is))
 
       module _ (is : is-message (r .field) ≡ true) {e : Entry} {j : ℕ} (q : At e es j) (typed : e .full ≡ type-name-of r) where
         number : message-at target k ≡ j
@@ -119,24 +114,24 @@ module _ (set rows : List ℕ) (count : ℕ) (table : MessageTable set rows coun
         unfolding names-entry choose
         named = rw (kind-is, is, label-is, flagged)
 
-        module _ (boxed settings copy eq : List Bool) (size : ℕ) (there : k * 5 + 4 < size) (small : k < 65536) where
+        module _ (boxed settings copy eq : List Bool) (size : ℕ) (there : k * 8 + 7 < size) (small : k < 65536) where
           abbrev row : FieldRow
-          row = field-row (tab size (field-cell rows target kind label boxed settings copy eq entry-flags)) k
+          row = field-row (tab size (field-cell set rows fields-table target kind label boxed settings copy eq entry-flags)) k
 
           pub place-says : PlaceSays set (is-repeated (r .field)) (e .message) row
           unfolding entry-row choose
           place-says =
-              let row-is = field-row-is rows target kind label boxed settings copy eq entry-flags size k there small in
-              let start-is = ap (λ (x : FieldRow). x .start) row-is in
-              let end-is = ap (λ (x : FieldRow). x .end) row-is in
+              let row-is = field-row-is set rows fields-table target kind label boxed settings copy eq entry-flags size k there small in
+              let start-is = ap (λ (x : FieldRow). x .entry) row-is in
+              let end-is = ap (λ (x : FieldRow). x .entryend) row-is in
               let here : choose (is-repeated (r .field)) (e .message .map-entry) false ≡ true → entry-row rows target kind label entry-flags k ≡ row-at rows j = λ h. rw (named, h, number) in
-              let lies : choose (is-repeated (r .field)) (e .message .map-entry) false ≡ true → decode-message (part set (row .start) (row .end - row .start)) ≡ e .message =
-              (λ h. ap (λ (x : ℕ). decode-message (part set x (row .end - x))) start-is
+              let lies : choose (is-repeated (r .field)) (e .message .map-entry) false ≡ true → decode-message (part set (row .entry) (row .entryend - row .entry)) ≡ e .message =
+              (λ h. ap (λ (x : ℕ). decode-message (part set x (row .entryend - x))) start-is
               ∙ ap (λ (x : ℕ). decode-message (part set (entry-row rows target kind label entry-flags k .start) (x - entry-row rows target kind label entry-flags k .start))) end-is
               ∙ ap (λ (x : index-row.Row). decode-message (row-bytes set x)) (here h)
               ∙ row-message q) in
               record {
                 there = lies;
-                ends = λ h. behind set (row .start) (row .end) (e .message) (lies h) (chosen (is-repeated (r .field)) (e .message .map-entry) h);
+                ends = λ h. behind set (row .entry) (row .entryend) (e .message) (lies h) (chosen (is-repeated (r .field)) (e .message .map-entry) h);
                 nowhere = λ h. (start-is ∙ rw (named, h), end-is ∙ rw (named, h));
               }

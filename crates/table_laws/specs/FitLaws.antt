@@ -16,7 +16,7 @@ use Rattle.descriptor.specs.Decode.{decode-set}
 use Rattle.descriptor.specs.Limits.{max-set, max-messages, max-fields, max-name, max-full-name, messages-in, fields-in, length-of, enums-in, long-name, long-package, long-in-message, long-in-enum, package-length, full-length, enum-lengths, full-lengths, file-lengths, passes-8, passes-9, passes-1, limit-of-files, limit-passed}
 use Rattle.name_rules.specs.Accessors.{text}
 use Rattle.name_rules.specs.FullNames.{_·_, package-scope, Entry, entries, set-entries}
-use Rattle.context_tables.proofs.SettingLaws.{NamesFit, Fit}
+use Rattle.table_laws.specs.SettingLaws.{NamesFit, Fit}
 
 module _ {A : Type 0} (p : A → Bool) where
   any-left : (xs ys : List A) → any p (xs ++ ys) ≡ false → any p xs ≡ false

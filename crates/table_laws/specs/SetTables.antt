@@ -7,26 +7,29 @@ use Prim.Native.Nat.{ℕ, zero, suc, _+_, _*_, _≤_, _<_}
 use native.Mathlib.Numerals.{add-one}
 use native.Mathlib.Omega.{arith}
 use lib.Dec.{ltb}
-use lib.ListN.{length, length-append, getD, take}
+use lib.ListN.{length, length-append, length-map, getD, List·getD-map, take}
 use borrow.Author.Tests.{lt-ltb}
 use Rattle.base.specs.Tests.{and-both}
 use Rattle.base.specs.Lists.{all, all-of}
 use Rattle.descriptor.specs.Descriptor.{FieldDescriptor, MessageDescriptor}
-use Rattle.descriptor.specs.Decode.{decode-set}
+use Rattle.descriptor.specs.Decode.{decode-field, decode-set}
 use Rattle.descriptor.specs.Limits.{messages-in, fields-in, max-messages}
 use Rattle.name_rules.specs.Accessors.{label}
 use Rattle.name_rules.specs.FullNames.{Entry, set-entries, fields-of-entries}
 use Rattle.name_rules.specs.Answer.{names}
 use Rattle.name_rules.specs.declared.Names.the-variants.{Good}
 use Rattle.index.specs.Owners.{owners}
-use Rattle.index.specs.Tree.{Holds, all-members}
+use Rattle.index.specs.Tree.{Holds, all-members, row-at, row-bytes}
+use Rattle.index.specs.declared.Row as index-row
+use Rattle.index.proofs.TableLaws.{no-row}
 use Rattle.index.proofs.SetLaws.{MessageTable, fields-of}
-use Rattle.message_graph.specs.Tab.{tab, tab-at}
-use Rattle.field_columns.specs.Columns.{owner-at, column-of, column-at, start-at, fields-before}
+use Rattle.message_graph.specs.Tab.{tab, length-tab, tab-at}
+use Rattle.field_columns.specs.Columns.{owner-at, column-of, column-at, first-rows, start-at, fields-before}
 use Rattle.field_columns.specs.declared.Column.{Column}
 use Rattle.field_columns.specs.declared.Column.the-variants.{Kind, Label}
-use Rattle.field_columns.proofs.SetColumns.{owners-are, column-is, starts-are}
+use Rattle.field_columns.proofs.SetColumns.{rows-decoded, owners-are, column-is, starts-are}
 use Rattle.field_columns.proofs.EntryLaws.{set-messages, set-fields-are}
+use Rattle.context_laws.specs.At.{At, at-within, at-getD, at-map}
 use Rattle.context_laws.specs.Tables.{Row, rows-from, rows-of, tables-of, Sound}
 use Rattle.context_laws.specs.Rows.{column-entry, owners-entry, first-row}
 use Rattle.context_laws.specs.SoundSets.{sound-set}
@@ -111,3 +114,19 @@ module _ (set rows : List ℕ) (count : ℕ) (table : MessageTable set rows coun
       ∙ tab-at k (fields-before (messages-in (decode-set set))) 0 i h
       ∙ ap (λ (ms : List MessageDescriptor). fields-before ms i) (sym (set-messages (decode-set set)))
       ∙ first-row-before es i
+
+  -- field k lies where its row says
+  pub field-there : {r : Row} {k : ℕ} → At r (rows-of es) k → decode-field (row-bytes set (row-at fields k)) ≡ r .field
+  field-there {r} {k} p =
+      let decode : index-row.Row → FieldDescriptor = λ x. decode-field (row-bytes set x) in
+      let whole : map decode (first-rows fields n) ≡ map (λ (x : Row). x .field) (rows-of es) =
+      rows-decoded set rows count table t fields n holds room ∙ sym (set-fields-are (decode-set set)) ∙ sym (rows-fields 0 es) in
+      let within = at-within p in
+      let left = length-map (first-rows fields n) decode in
+      let right = length-map (rows-of es) (λ (x : Row). x .field) in
+      let size = length-tab n (row-at fields) in
+      let same = ap length whole in
+      ap decode (sym (tab-at n (row-at fields) no-row k (omega arith)))
+      ∙ sym (List·getD-map decode (first-rows fields n) k no-row)
+      ∙ ap (λ (l : List FieldDescriptor). getD l k (decode no-row)) whole
+      ∙ at-getD (at-map (λ (x : Row). x .field) p) (decode no-row)

@@ -12,7 +12,7 @@ use Rattle.message_graph.specs.Tab.{tab, tab-at}
 use Rattle.index.specs.Tree.{row-at}
 use Rattle.derives.specs.declared.Derive.the-variants.{Copy, Eq}
 use Rattle.text_tables.specs.Rows.{message-row, field-row}
-use Rattle.context_tables.specs.Cells.{bit, message-number, message-cell, field-can, entry-row, field-number, field-cell}
+use Rattle.context_tables.specs.Cells.{bit, message-number, message-cell, field-can, entry-row, oneof-at, place-number, field-number, field-cell}
 
 -- a flag is read as it was put
 pub bit-flag : (b : Bool) → not (eqb (bit b) 0) ≡ b
@@ -35,15 +35,15 @@ module _ (rows first : List ℕ) (copy eq : List Bool) (n i : ℕ) (room : i * 4
   message-row-is =
       rw (lt-ltb i 65536 small, message-cell-is (i * 4) 0 (omega arith) (omega arith), message-cell-is (i * 4 + 1) 1 refl (omega arith), message-cell-is (i * 4 + 2) 2 refl (omega arith), message-cell-is (i * 4 + 3) 3 refl (omega arith), bit-flag (getD copy i false), bit-flag (getD eq i false))
 
-module _ (rows target kind label : List ℕ) (boxed settings copy eq entries : List Bool) (n k : ℕ) (room : k * 5 + 4 < n) (small : k < 65536) where
+module _ (set rows table target kind label : List ℕ) (boxed settings copy eq entries : List Bool) (n k : ℕ) (room : k * 8 + 7 < n) (small : k < 65536) where
   abbrev cells : ℕ → ℕ
-  cells = field-cell rows target kind label boxed settings copy eq entries
+  cells = field-cell set rows table target kind label boxed settings copy eq entries
 
-  field-cell-is : (at c : ℕ) → at ≡ k * 5 + c → c < 5 → getD (tab n cells) at 0 ≡ field-number rows target kind label boxed settings copy eq entries k c
+  field-cell-is : (at c : ℕ) → at ≡ k * 8 + c → c < 8 → getD (tab n cells) at 0 ≡ field-number set rows table target kind label boxed settings copy eq entries k c
   unfolding field-cell
   field-cell-is at c e h =
-      let row : at / 5 ≡ k = omega arith in
-      let column : at % 5 ≡ c = omega arith in
+      let row : at / 8 ≡ k = omega arith in
+      let column : at % 8 ≡ c = omega arith in
       tab-at n cells 0 at (omega arith) ∙ rw (row, column)
 
   -- the row of field k
@@ -52,9 +52,12 @@ module _ (rows target kind label : List ℕ) (boxed settings copy eq entries : L
         looped = getD boxed k false;
         copy = field-can Copy target kind label boxed settings copy k;
         eq = field-can Eq target kind label boxed settings eq k;
-        start = entry-row rows target kind label entries k .start;
-        end = entry-row rows target kind label entries k .end;
+        start = row-at table k .start;
+        end = row-at table k .end;
+        entry = entry-row rows target kind label entries k .start;
+        entryend = entry-row rows target kind label entries k .end;
+        oneof = oneof-at set table k;
       }
-  unfolding field-row field-number choose
+  unfolding field-row field-number place-number choose
   field-row-is =
-      rw (lt-ltb k 65536 small, field-cell-is (k * 5) 0 (omega arith) (omega arith), field-cell-is (k * 5 + 1) 1 refl (omega arith), field-cell-is (k * 5 + 2) 2 refl (omega arith), field-cell-is (k * 5 + 3) 3 refl (omega arith), field-cell-is (k * 5 + 4) 4 refl (omega arith), bit-flag (getD boxed k false), bit-flag (field-can Copy target kind label boxed settings copy k), bit-flag (field-can Eq target kind label boxed settings eq k))
+      rw (lt-ltb k 65536 small, field-cell-is (k * 8) 0 (omega arith) (omega arith), field-cell-is (k * 8 + 1) 1 refl (omega arith), field-cell-is (k * 8 + 2) 2 refl (omega arith), field-cell-is (k * 8 + 3) 3 refl (omega arith), field-cell-is (k * 8 + 4) 4 refl (omega arith), field-cell-is (k * 8 + 5) 5 refl (omega arith), field-cell-is (k * 8 + 6) 6 refl (omega arith), field-cell-is (k * 8 + 7) 7 refl (omega arith), bit-flag (getD boxed k false), bit-flag (field-can Copy target kind label boxed settings copy k), bit-flag (field-can Eq target kind label boxed settings eq k))

@@ -1,0 +1,14 @@
+pub mod RowLaws
+pub mod TargetLaws
+pub mod SetTables
+pub mod NamedRows
+pub mod SettingLaws
+pub mod FitLaws
+pub mod SettingColumn
+pub mod EntryPlaces
+pub mod OneofLaws
+pub mod TableTheorems
+pub mod AfterLaws
+pub mod Counts
+pub mod Parents
+pub mod NodeLaws

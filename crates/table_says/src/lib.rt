@@ -1,0 +1,1 @@
+// What the two tables that the text's writers read say of a set.
