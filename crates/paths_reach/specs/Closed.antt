@@ -110,7 +110,7 @@ module _ (rs : List Setting) (ns : List Named) where
       (λ n i. w n (Memᴰ·append-left (message-nameds rs h following) i)))
       (closed-messages h c following (λ n i. w n (Memᴰ·append-right here i)))
 
-every-at : {A : Type 0} (P : A → Type 0) (xs : List A) {x : A} → Every P xs → List·Memᴰ x xs → P x
+pub every-at : {A : Type 0} (P : A → Type 0) (xs : List A) {x : A} → Every P xs → List·Memᴰ x xs → P x
 every-at P [] p m = absurd (List·Memᴰ·not-nil m)
 every-at P (y ∷ xs) p m = ⊎-elim (λ e. subst P (sym e) (p .0)) (λ n. every-at P xs (p .1) n) (List·Memᴰ·cases-cons m)
 

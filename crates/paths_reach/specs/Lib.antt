@@ -7,3 +7,8 @@ pub mod Nodes
 pub mod Homes
 pub mod Closed
 pub mod Hits
+pub mod There
+pub mod Targets
+pub mod Types
+pub mod Entries
+pub mod PathsReach
