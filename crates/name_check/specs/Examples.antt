@@ -10,8 +10,8 @@ use Rattle.base.specs.Choose.{choose}
 use Rattle.base.specs.Lists.{any, all, all-of}
 use Rattle.heck.specs.Case.{between, class, lowered, raised, parts, words, to-snake-case, to-upper-camel-case}
 use Rattle.ident.specs.Ident.{among as among-words, raw-words, kept-words, addition, with-addition, sanitize-identifier, to-snake, to-upper-camel}
-use Rattle.descriptor.specs.Descriptor.{Forest, done, node, FieldDescriptor, EnumDescriptor, MessageDescriptor, FileDescriptor}
-use Rattle.options.specs.Settings.{Setting, value-of}
+use Rattle.descriptor.specs.Descriptor.{Forest, done, node, FieldDescriptor, MessageDescriptor, FileDescriptor}
+use Rattle.options.specs.Settings.{value-of}
 use Rattle.path.specs.Forms.{before-dots, filled, prefixes, among}
 use Rattle.path.specs.PathMap.{first-with, find-best}
 use Rattle.extern_paths.specs.Split.{begins, split-behind, split}

@@ -1,5 +1,5 @@
 -- The name check of a set. Document 01's sentences stand quoted beside the definitions. Assumes nothing.
-use mathlib.Core.Bool.{Bool, true, false, _||_, _&&_, not}
+use mathlib.Core.Bool.{Bool, true, _||_, _&&_, not}
 use mathlib.Core.List.{List, [], _∷_, _++_, map}
 use Rattle.base.specs.Bytes.{same}
 use Rattle.base.specs.Choose.{choose}

@@ -1,16 +1,12 @@
 -- The modules that lead to a home are there; homes with one place in Rust are one; a path that leads to a home reaches what stands there.
 -- Assumes nothing.
-use Prim.Native.Nat.{ℕ, _≤_}
-use mathlib.Core.Path.{_≡_, refl, ap, sym, _∙_, subst}
-use mathlib.Core.Bool.{Bool, true, false, _&&_, _||_, not}
-use mathlib.Core.Option.{some}
+use Prim.Native.Nat.{ℕ}
+use mathlib.Core.Path.{_≡_, refl, ap, sym, subst}
+use mathlib.Core.Bool.{_||_}
 use mathlib.Core.Logic.{⊎-elim}
-use mathlib.Core.List.{List, [], _∷_, _++_, map, reverse, reverseAux, List·Memᴰ, List·Memᴰ·head, List·Memᴰ·tail, List·Memᴰ·cases-cons, List·Memᴰ·not-nil, List·Memᴰ·append-cases, Memᴰ·of-map, Memᴰ·map, Memᴰ·cast, Memᴰ·append-left, Memᴰ·append-right}
+use mathlib.Core.List.{List, [], _∷_, _++_, map, reverse, reverseAux, List·Memᴰ, List·Memᴰ·head, List·Memᴰ·tail, List·Memᴰ·cases-cons, List·Memᴰ·not-nil, List·Memᴰ·append-cases, Memᴰ·of-map, Memᴰ·map, Memᴰ·append-left, Memᴰ·append-right}
 use native.Mathlib.Omega.{arith}
-use lib.ListN.{length, drop, length-map}
 use Rattle.base.specs.Choose.{choose, choose-case}
-use Rattle.base.specs.Bytes.{same, same-refl, same-sound}
-use Rattle.base.specs.Tests.{both-ways, and-left, and-right, and-both}
 use Rattle.base.specs.Lists.{all-of, Every, every-append}
 use Rattle.ident.specs.Ident.{to-snake}
 use Rattle.descriptor.specs.Descriptor.{Bytes, Forest, done, node, EnumDescriptor, MessageDescriptor, FileDescriptor}
@@ -18,17 +14,13 @@ use Rattle.options.specs.Settings.{Setting}
 use Rattle.extern_paths.specs.ExternPaths.{taken}
 use Rattle.name_rules.specs.Accessors.{text}
 use Rattle.name_rules.specs.FullNames.{package-scope}
-use Rattle.code_generator.specs.Piece.{Ref}
 use Rattle.code_generator.specs.Resolve.{local-path}
 use Rattle.code_generator.specs.Oneofs.{OneofField, oneof-fields}
 use Rattle.code_generator.specs.Generate.{has-module}
-use Rattle.name_check.specs.NameCheck.{PackageModule, modules-in, file-modules, package-modules, each-once}
-use Rattle.sights.specs.Events.{WrittenPath}
-use Rattle.sights.specs.Sights.{Item, Use}
-use Rattle.paths_reach.specs.Reach.{those, same-names, stands-at, is-that-module, is-that-declaration, Through, stay, go-in, outside, inside, ReachesOne}
-use Rattle.paths_reach.specs.Apart.{Apart, apart-same, apart-map, those-one}
+use Rattle.name_check.specs.NameCheck.{PackageModule, modules-in, file-modules, package-modules}
+use Rattle.paths_reach.specs.Apart.{Apart, apart-same}
 use Rattle.paths_reach.specs.Dots.{DotFree, scope-of, names-of-scope, path-dot-free}
-use Rattle.paths_reach.specs.Written.{Named, item-of, is-module-of, mark-of, What, a-module, a-declaration, module-named, type-named, oneof-named, enum-nameds, module-nameds, node-nameds, message-nameds, package-names, file-nameds}
+use Rattle.paths_reach.specs.Written.{Named, a-module, module-named, type-named, oneof-named, enum-nameds, node-nameds, message-nameds, package-names, file-nameds}
 use Rattle.paths_reach.specs.Homes.{Within, mem-all-of, of-all-of, package-named, once-mem, mem-once, whole, Same, same-sym}
 
 pub data Closed (ns : List Named) : List Bytes → Type 0 where

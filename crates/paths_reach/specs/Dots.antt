@@ -1,17 +1,16 @@
 -- Full names, and the names between their dots. Assumes nothing.
 use Prim.Native.Nat.{ℕ}
 use mathlib.Core.Path.{_≡_, refl, ap, sym, _∙_}
-use mathlib.Core.Bool.{Bool, true, false, _&&_, _||_, and-true}
+use mathlib.Core.Bool.{Bool, true, false, _||_, and-true}
 use mathlib.Core.Option.{Option, some, none}
 use mathlib.Core.List.{List, [], _∷_, _++_, reverse, reverseAux, reverse-cons, reverse-reverse, append-assoc, append-nil}
-use native.Mathlib.Omega.{arith}
 use lib.Dec.{eqb}
 use lib.ListN.{drop}
 use borrow.Author.Tests.{eqb-true}
 use Rattle.base.specs.Bytes.{b}
 use Rattle.base.specs.Choose.{choose}
 use Rattle.base.specs.Lists.{Every}
-use Rattle.base.specs.Tests.{bool-cases, both-ways, and-left, and-right}
+use Rattle.base.specs.Tests.{both-ways, and-left, and-right}
 use Rattle.heck.specs.Case.{between, is-digit}
 use Rattle.ident.specs.Name.{name-start, name-part, every, is-name}
 use Rattle.descriptor.specs.Descriptor.{Bytes}

@@ -1,7 +1,7 @@
 -- Which fields name a map entry, in a set without refusal 6: repeated message fields of the message that it is nested in. Assumes nothing.
-use Prim.Native.Nat.{ℕ, zero, suc, _+_, _≤_, _<_}
+use Prim.Native.Nat.{ℕ, suc, _+_, _≤_}
 use mathlib.Core.Path.{_≡_, refl, ap, sym, _∙_, subst}
-use mathlib.Core.Bool.{Bool, true, false, _&&_, _||_}
+use mathlib.Core.Bool.{Bool, true, false, _&&_}
 use mathlib.Core.Option.{Option, some, none}
 use mathlib.Core.Logic.{_⊎_, inl, inr, ⊎-elim}
 use mathlib.Core.List.{List, [], _∷_, _++_, map, append-assoc, List·Memᴰ, List·Memᴰ·head, List·Memᴰ·tail, List·Memᴰ·cases-cons, List·Memᴰ·not-nil, List·Memᴰ·append-cases, Memᴰ·append-left, Memᴰ·append-right}
@@ -11,12 +11,12 @@ use lib.ListN.{length, length-append}
 use borrow.Author.Tests.{ltb-true, ltb-false, eqb-true}
 use Rattle.base.specs.Choose.{choose}
 use Rattle.base.specs.Bytes.{same, same-refl}
-use Rattle.base.specs.Tests.{bool-cases, both-ways, and-left, and-right, and-both}
-use Rattle.base.specs.Lists.{count, all, all-of, Every, all-every, none-fails}
+use Rattle.base.specs.Tests.{bool-cases, both-ways, and-left, and-right}
+use Rattle.base.specs.Lists.{count, all, all-of, all-every, none-fails}
 use Rattle.descriptor.specs.Descriptor.{Bytes, Forest, done, node, FieldDescriptor, MessageDescriptor, FileDescriptor}
 use Rattle.name_rules.specs.Accessors.{text, is-repeated, is-message}
 use Rattle.name_rules.specs.Rules.{is-text, file-good}
-use Rattle.name_rules.specs.FullNames.{_·_, package-scope, Entry, entries, set-entries, fields-of-entries, set-fields}
+use Rattle.name_rules.specs.FullNames.{package-scope, entries, set-entries, fields-of-entries, set-fields}
 use Rattle.name_rules.specs.MapEntries.{names-it, maps-it, entry-named, entries-named, map-entries-named}
 use Rattle.name_rules.specs.Answer.{file-named, first-six, first-seven, names, refusal-number}
 use Rattle.name_rules.specs.declared.Names.the-variants.{Good, Six, Seven}

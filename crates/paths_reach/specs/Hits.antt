@@ -2,7 +2,7 @@
 use Prim.Native.Nat.{ℕ, _≤_, _+_}
 use mathlib.Core.Path.{_≡_, refl, ap, sym, _∙_, subst}
 use mathlib.Core.Bool.{Bool, true, false, _&&_, not}
-use mathlib.Core.Option.{Option, some}
+use mathlib.Core.Option.{some}
 use mathlib.Core.List.{List, [], _∷_, _++_, map, reverse, reverseAux, reverseAux-append, reverseAux-eq, reverse-reverse, List·Memᴰ, Memᴰ·map}
 use native.Mathlib.Omega.{arith}
 use lib.ListN.{length, drop, length-map, length-reverse, length-reverseAux}
@@ -14,17 +14,17 @@ use Rattle.base.specs.Lists.{Every}
 use Rattle.ident.specs.Ident.{to-snake, to-upper-camel}
 use Rattle.descriptor.specs.Descriptor.{Bytes, FileDescriptor}
 use Rattle.options.specs.Settings.{Setting}
-use Rattle.code_generator.specs.Piece.{Ref, type, Way, spelt}
-use Rattle.code_generator.specs.Resolve.{local-path, ident-path, ident-type, skip-common, way}
+use Rattle.code_generator.specs.Piece.{Ref, spelt}
+use Rattle.code_generator.specs.Resolve.{skip-common, way}
 use Rattle.name_check.specs.NameCheck.{name-check}
 use Rattle.sights.specs.Events.{WrittenPath, written-path}
 use Rattle.sights.specs.Sights.{Item, Use}
-use Rattle.paths_reach.specs.Reach.{world, those, same-names, stands-at, is-that-module, is-that-declaration, Through, stay, go-in, ReachesOne}
+use Rattle.paths_reach.specs.Reach.{world, those, same-names, stands-at, Through, stay, go-in, ReachesOne}
 use Rattle.paths_reach.specs.Apart.{Apart, apart-map, those-one}
 use Rattle.paths_reach.specs.Dots.{DotFree, scope-of, path-of-scope, ident-path-is, ident-type-is}
-use Rattle.paths_reach.specs.Written.{Named, item-of, is-module-of, mark-of, a-module, a-declaration, module-named, type-named}
+use Rattle.paths_reach.specs.Written.{Named, item-of, mark-of, a-declaration, module-named}
 use Rattle.paths_reach.specs.Homes.{whole, world-is, names-apart, Same}
-use Rattle.paths_reach.specs.Closed.{Closed, root, into, one-home, home-closed}
+use Rattle.paths_reach.specs.Closed.{Closed, into, one-home, home-closed}
 
 -- ---- from the module h a path leads, on the names of the set: out to a module, and in by these names
 pub record Leads (h : List Bytes) (p : WrittenPath) (to : List Bytes) : Type 0 where

@@ -1,32 +1,25 @@
 -- Modules by their names in the set and by those in Rust: under a name check that says yes, no two have one place. Assumes nothing.
-use Prim.Native.Nat.{ℕ, _≤_}
-use mathlib.Core.Path.{_≡_, refl, ap, ap₂, sym, _∙_, subst}
-use mathlib.Core.Bool.{Bool, true, false, _&&_, _||_, not}
+use mathlib.Core.Path.{_≡_, refl, ap, sym, _∙_, subst}
+use mathlib.Core.Bool.{Bool, true, false, not}
 use mathlib.Core.Logic.{_⊎_, inl, inr, ⊎-elim}
-use mathlib.Core.List.{List, [], _∷_, _++_, map, reverse, reverseAux, List·Memᴰ, List·Memᴰ·head, List·Memᴰ·tail, List·Memᴰ·cases-cons, List·Memᴰ·not-nil, List·Memᴰ·append-cases, Memᴰ·of-map, Memᴰ·map, Memᴰ·cast, Memᴰ·append-left, Memᴰ·append-right}
-use native.Mathlib.Omega.{arith}
+use mathlib.Core.List.{List, [], _∷_, _++_, map, reverse, List·Memᴰ, List·Memᴰ·head, List·Memᴰ·tail, List·Memᴰ·cases-cons, List·Memᴰ·not-nil, List·Memᴰ·append-cases, Memᴰ·map, Memᴰ·cast, Memᴰ·append-left, Memᴰ·append-right}
 use borrow.Author.Tests.{not-true}
 use Rattle.base.specs.Choose.{choose, choose-case}
 use Rattle.base.specs.Bytes.{same, same-refl, same-sound}
-use Rattle.base.specs.Tests.{bool-cases, both-ways, and-left, and-right, and-both, or-cases, or-left, or-right}
-use Rattle.base.specs.Lists.{any, all-of, Every, every-append, every-of}
-use Rattle.ident.specs.Ident.{to-snake}
-use Rattle.descriptor.specs.Descriptor.{Bytes, Forest, done, node, EnumDescriptor, MessageDescriptor, FileDescriptor}
+use Rattle.base.specs.Tests.{both-ways, and-left, and-right, and-both, or-cases, or-left, or-right}
+use Rattle.base.specs.Lists.{any, all-of, Every, every-append}
+use Rattle.descriptor.specs.Descriptor.{Bytes, FileDescriptor}
 use Rattle.options.specs.Settings.{Setting}
-use Rattle.extern_paths.specs.ExternPaths.{taken}
-use Rattle.name_rules.specs.Accessors.{text}
 use Rattle.name_rules.specs.FullNames.{_·_, package-scope}
 use Rattle.code_generator.specs.Resolve.{local-path}
-use Rattle.code_generator.specs.Oneofs.{OneofField, oneof-fields}
-use Rattle.code_generator.specs.Generate.{has-module}
 use Rattle.name_check.specs.NameCheck.{Place, PackageModule, modules-in, file-modules, same-module, each-once, package-modules, module-place, file-places, places, same-place, places-differ, file-members-meet, name-check}
-use Rattle.sights.specs.Sights.{Item, items, set-sights}
+use Rattle.sights.specs.Sights.{items}
 use Rattle.text_sights.specs.Written.{written-sights}
 use Rattle.text_sights.specs.TextReads.{set-sights-are}
-use Rattle.paths_reach.specs.Reach.{package-item, world}
-use Rattle.paths_reach.specs.Apart.{Apart, apart-nil, apart-cons, apart-head, apart-tail, apart-same, apart-map}
-use Rattle.paths_reach.specs.Dots.{DotFree, scope-of, Dotted, empty, dot, dotted-more, scope-of-names, names-of-scope, path-dot-free}
-use Rattle.paths_reach.specs.Written.{Named, item-of, place-in, What, a-module, a-declaration, module-named, type-named, oneof-named, enum-nameds, module-nameds, node-nameds, message-nameds, package-names, file-nameds, map-append, map-map, places-of-file}
+use Rattle.paths_reach.specs.Reach.{world}
+use Rattle.paths_reach.specs.Apart.{Apart, apart-nil, apart-cons, apart-head, apart-tail}
+use Rattle.paths_reach.specs.Dots.{scope-of, Dotted, empty, dotted-more, scope-of-names}
+use Rattle.paths_reach.specs.Written.{Named, item-of, place-in, module-named, file-nameds, map-append, map-map, places-of-file}
 use Rattle.paths_reach.specs.Seen.{items-append}
 use Rattle.paths_reach.specs.Nodes.{items-of-file}
 

@@ -12,3 +12,4 @@ pub mod Targets
 pub mod Types
 pub mod Entries
 pub mod PathsReach
+pub mod Examples

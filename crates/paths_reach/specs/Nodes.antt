@@ -2,7 +2,7 @@
 use mathlib.Core.Path.{_≡_, refl, ap, ap₂, sym, _∙_, subst}
 use mathlib.Core.Bool.{Bool, true, false, _||_, not}
 use mathlib.Core.Option.{Option, some, none}
-use mathlib.Core.List.{List, [], _∷_, _++_, map, append-nil, List·Memᴰ, List·Memᴰ·head, List·Memᴰ·tail, Memᴰ·append-left, Memᴰ·append-right}
+use mathlib.Core.List.{List, [], _∷_, _++_, map, List·Memᴰ, List·Memᴰ·head, List·Memᴰ·tail, Memᴰ·append-left, Memᴰ·append-right}
 use Rattle.base.specs.Choose.{choose, choose-case}
 use Rattle.base.specs.Tests.{or-false-left, or-false-right}
 use Rattle.base.specs.Lists.{Every, every-append, every-of, every-to, all-of}
@@ -14,15 +14,15 @@ use Rattle.options.specs.Settings.{Setting}
 use Rattle.extern_paths.specs.ExternPaths.{taken}
 use Rattle.name_rules.specs.Accessors.{text}
 use Rattle.name_rules.specs.FullNames.{_·_, package-scope}
-use Rattle.code_generator.specs.Piece.{spelt, snake, camel}
+use Rattle.code_generator.specs.Piece.{spelt, snake}
 use Rattle.code_generator.specs.MapFields.{MapEntry, map-entry-of}
 use Rattle.code_generator.specs.Oneofs.{OneofField, plain-fields, oneof-fields}
 use Rattle.code_generator.specs.Generate.{has-module, is-proto3}
-use Rattle.sights.specs.Sights.{Item, Use, Sight, an-item, a-path, a-box, Frame, in-module, in-declaration, module-at, place-of, file-place, items}
+use Rattle.sights.specs.Sights.{Item, Use, Sight, an-item, Frame, in-module, in-declaration, module-at, place-of, file-place, items}
 use Rattle.text_sights.specs.Written.{field-or-map-sights, oneof-field-sights, variant-sights, struct-item, oneof-item, enum-item, struct-sights, oneof-sights, enum-sights, message-sights, written-sights}
 use Rattle.paths_reach.specs.Dots.{scope-of, scope-of-names, dotted-package}
-use Rattle.paths_reach.specs.Written.{Named, item-of, module-named, type-named, oneof-named, enum-nameds, module-nameds, node-nameds, message-nameds, package-names, file-nameds, map-append, map-choose, choose-not, map-map}
-use Rattle.paths_reach.specs.Seen.{Fine, Only, only-fine, no-items, items-append, every-mem, FieldPath, FieldPaths, OneofPath, only-members, only-variants}
+use Rattle.paths_reach.specs.Written.{item-of, type-named, oneof-named, enum-nameds, module-nameds, node-nameds, message-nameds, package-names, file-nameds, map-append, map-choose, choose-not}
+use Rattle.paths_reach.specs.Seen.{Fine, only-fine, no-items, items-append, every-mem, FieldPath, FieldPaths, OneofPath, only-members, only-variants}
 
 -- a message: home has the names of the module around it, the innermost first
 pub record Node : Type 0 where

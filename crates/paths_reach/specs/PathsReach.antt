@@ -1,28 +1,27 @@
 -- Clause 2 of demand 3: in a set without refusals 6 and 7 for which the name check says yes, each written path outside the extern paths
 -- reaches exactly one declaration, the one that the descriptor names.
-use Prim.Native.Nat.{ℕ, zero, suc, _≤_}
+use Prim.Native.Nat.{ℕ, suc}
 use mathlib.Core.Path.{_≡_, refl, ap, sym, _∙_, subst}
 use mathlib.Core.Bool.{Bool, true, false, _&&_, _||_}
 use mathlib.Core.Option.{Option, some, none}
-use mathlib.Core.Logic.{_⊎_, inl, inr, ⊎-elim}
-use mathlib.Core.List.{List, [], _∷_, _++_, map, List·Memᴰ, List·Memᴰ·head, List·Memᴰ·tail, List·Memᴰ·cases-cons, List·Memᴰ·not-nil, Memᴰ·append-left}
+use mathlib.Core.Logic.{⊎-elim}
+use mathlib.Core.List.{List, [], _∷_, map, List·Memᴰ, List·Memᴰ·head, List·Memᴰ·tail, List·Memᴰ·cases-cons, List·Memᴰ·not-nil, Memᴰ·append-left}
 use native.Mathlib.Omega.{arith}
-use lib.Dec.{eqb}
 use lib.ListN.{length}
 use borrow.Author.Tests.{eqb-true}
 use Rattle.base.specs.Choose.{choose}
 use Rattle.base.specs.Bytes.{same, same-refl, same-sound}
-use Rattle.base.specs.Tests.{bool-cases, both-ways, and-left, and-right, and-both, or-cases}
-use Rattle.base.specs.Lists.{Every, all-of, every-of, is-empty}
+use Rattle.base.specs.Tests.{bool-cases, both-ways, and-left, and-both, or-cases}
+use Rattle.base.specs.Lists.{Every, every-of, is-empty}
 use Rattle.ident.specs.Ident.{to-snake}
 use Rattle.descriptor.specs.Descriptor.{Bytes, Forest, done, node, FieldDescriptor, MessageDescriptor, FileDescriptor}
 use Rattle.options.specs.Settings.{Setting}
 use Rattle.extern_paths.specs.ExternPaths.{taken}
 use Rattle.name_rules.specs.Accessors.{text, is-repeated, is-message}
-use Rattle.name_rules.specs.FullNames.{_·_, Entry, set-entries, set-fields}
+use Rattle.name_rules.specs.FullNames.{_·_, Entry, set-entries}
 use Rattle.name_rules.specs.Rules.{is-text}
 use Rattle.name_rules.specs.MapEntries.{names-it}
-use Rattle.name_rules.specs.WellFormed.{Good-field, Good-entry, Well-formed}
+use Rattle.name_rules.specs.WellFormed.{Good-field, Good-entry}
 use Rattle.name_rules.specs.Answer.{names}
 use Rattle.name_rules.specs.declared.Names.the-variants.{Good}
 use Rattle.code_generator.specs.Piece.{type, choice}
@@ -32,19 +31,19 @@ use Rattle.code_generator.specs.MapFields.{entry-of as entry-fields}
 use Rattle.code_generator.specs.Oneofs.{OneofField, is-plain, is-at, oneof-of, plain-fields, fields-at, meets, oneofs-from, oneof-fields}
 use Rattle.name_check.specs.NameCheck.{name-check}
 use Rattle.sights.specs.Events.{written-path}
-use Rattle.sights.specs.Sights.{Use, Sight, Frame, place-of, use-at, file-place, set-sights, uses}
+use Rattle.sights.specs.Sights.{Use, Sight, use-at, file-place, set-sights, uses}
 use Rattle.text_sights.specs.Written.{names-struct, names-enum, oneof-way, written-sights}
 use Rattle.text_sights.specs.TextReads.{set-sights-are}
 use Rattle.paths_reach.specs.Reach.{world, ReachesOne}
 use Rattle.paths_reach.specs.Dots.{DotFree, scope-of}
-use Rattle.paths_reach.specs.Written.{Named, type-named, oneof-named, enum-nameds, package-names, file-nameds}
+use Rattle.paths_reach.specs.Written.{type-named, oneof-named, enum-nameds, package-names, file-nameds}
 use Rattle.paths_reach.specs.Seen.{Fine, fine-uses, every-mem, FieldPath, FieldPaths, OneofPath}
-use Rattle.paths_reach.specs.Nodes.{Node, names-of, nodes, file-nodes, NodePaths, fine-file}
+use Rattle.paths_reach.specs.Nodes.{Node, names-of, file-nodes, NodePaths, fine-file}
 use Rattle.paths_reach.specs.Homes.{whole, mem-all-of}
 use Rattle.paths_reach.specs.Closed.{every-at, file-within}
-use Rattle.paths_reach.specs.Hits.{Leads, way-leads, way-last, Hits, reaches}
+use Rattle.paths_reach.specs.Hits.{way-leads, way-last, Hits, reaches}
 use Rattle.paths_reach.specs.There.{node-there, oneof-in-node}
-use Rattle.paths_reach.specs.Targets.{Fine-node, fine-node, entry-of, In-set, in-set}
+use Rattle.paths_reach.specs.Targets.{Fine-node, fine-node, in-set}
 use Rattle.paths_reach.specs.Types.{Target, well-formed, field-struct, field-enum}
 use Rattle.paths_reach.specs.Entries.{set-nodes, field-in-set, tops, tops-nodes, nested-nodes, names-full, nested-in, maps-entry}
 

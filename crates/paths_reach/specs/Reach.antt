@@ -1,8 +1,8 @@
 -- What a written path reaches, in the texts of all files of a set together. Document 01's sentences stand quoted beside the definitions.
-use Prim.Native.Nat.{ℕ, _≤_}
+use Prim.Native.Nat.{_≤_}
 use mathlib.Core.Path.{_≡_}
 use mathlib.Core.Bool.{Bool, true, false, _&&_, not}
-use mathlib.Core.Option.{Option, some, none}
+use mathlib.Core.Option.{some, none}
 use mathlib.Core.List.{List, [], _∷_, _++_, map, reverseAux}
 use lib.ListN.{length, drop}
 use Rattle.base.specs.Bytes.{same}
@@ -12,7 +12,6 @@ use Rattle.descriptor.specs.Descriptor.{Bytes, FileDescriptor}
 use Rattle.options.specs.Settings.{Setting}
 use Rattle.code_generator.specs.Piece.{Ref}
 use Rattle.name_check.specs.NameCheck.{PackageModule, package-modules}
-use Rattle.sights.specs.Events.{WrittenPath}
 use Rattle.sights.specs.Sights.{Item, Use, scope-place, set-sights, items}
 
 -- ---- what stands in modules: "A text stands in its package's module, or the root without one, and `pub mod` opens one inside."

@@ -1,25 +1,25 @@
 -- What is seen of a message, item by item and path by path. Assumes nothing.
-use mathlib.Core.Path.{_≡_, refl, ap, sym, _∙_}
-use mathlib.Core.Bool.{Bool, true, false, _||_, not}
+use mathlib.Core.Path.{_≡_, refl, ap, _∙_}
+use mathlib.Core.Bool.{Bool, true, false, _||_}
 use mathlib.Core.Option.{Option, some, none}
-use mathlib.Core.List.{List, [], _∷_, _++_, map, append-nil, List·Memᴰ, List·Memᴰ·head, List·Memᴰ·tail, List·Memᴰ·cases-cons, List·Memᴰ·not-nil}
+use mathlib.Core.List.{List, [], _∷_, _++_, List·Memᴰ, List·Memᴰ·head, List·Memᴰ·tail, List·Memᴰ·cases-cons, List·Memᴰ·not-nil}
 use mathlib.Core.Logic.{⊎-elim}
-use Rattle.base.specs.Choose.{choose, choose-case}
+use Rattle.base.specs.Choose.{choose-case}
 use Rattle.base.specs.Tests.{or-left, or-right}
-use Rattle.base.specs.Lists.{Every, every-append, every-of, every-to, all-of}
+use Rattle.base.specs.Lists.{Every, every-append, every-of, all-of}
 use Rattle.descriptor.specs.Descriptor.{Bytes, Forest, FieldDescriptor, MessageDescriptor, FileDescriptor}
 use Rattle.options.specs.Settings.{Setting}
 use Rattle.extern_paths.specs.ExternPaths.{taken}
 use Rattle.name_rules.specs.Accessors.{text, is-repeated}
 use Rattle.context.specs.Context.{should-box-message-field, should-box-oneof-field}
-use Rattle.code_generator.specs.Piece.{type, choice, snake, camel, spelt, opt, vec, box, table}
+use Rattle.code_generator.specs.Piece.{type, choice, snake, camel, spelt, opt, table}
 use Rattle.code_generator.specs.Resolve.{way}
 use Rattle.code_generator.specs.Fields.{optional}
 use Rattle.code_generator.specs.MapFields.{MapEntry, map-entry-of}
 use Rattle.code_generator.specs.Oneofs.{OneofField, plain-fields, oneof-fields}
 use Rattle.sights.specs.Events.{written-path}
-use Rattle.sights.specs.Sights.{Item, Use, Sight, an-item, a-path, a-box, Frame, in-declaration, in-field, in-tag, in-wrap, box-seen, place-of, use-at, items, uses}
-use Rattle.text_sights.specs.Written.{names-struct, names-enum, label-of, in-shape, in-box, box-sights, oneof-way, ident-sights, type-sights, tag-sights, field-sights, map-sights, variant-sights, oneof-field-sights, field-or-map-sights, struct-item, oneof-item, struct-sights, oneof-sights}
+use Rattle.sights.specs.Sights.{Item, Use, Sight, an-item, a-path, a-box, Frame, in-declaration, in-field, in-tag, in-wrap, place-of, use-at, items, uses}
+use Rattle.text_sights.specs.Written.{names-struct, names-enum, label-of, in-shape, in-box, box-sights, oneof-way, ident-sights, type-sights, tag-sights, field-sights, map-sights, variant-sights, oneof-field-sights, field-or-map-sights, struct-item, oneof-item}
 
 -- ---- what holds of the paths, and there are no items among them
 abbrev pub Fine : (Use → Type 0) → Sight → Type 0

@@ -1,31 +1,19 @@
 -- What a type name names, in a set without refusals 6 and 7: a declaration that is written unless an extern path takes it. Assumes nothing.
-use Prim.Native.Nat.{ℕ, zero, suc, _+_, _≤_, _<_}
 use mathlib.Core.Path.{_≡_, refl, ap, sym, _∙_, subst}
-use mathlib.Core.Bool.{Bool, true, false, _&&_, _||_, not}
-use mathlib.Core.Option.{Option, some}
-use mathlib.Core.Logic.{_⊎_, inl, inr, ⊎-elim}
-use mathlib.Core.List.{List, [], _∷_, _++_, map, reverse, reverseAux, List·Memᴰ, List·Memᴰ·head, List·Memᴰ·tail, List·Memᴰ·cases-cons, List·Memᴰ·not-nil, List·Memᴰ·append-cases, Memᴰ·of-map, Memᴰ·map, Memᴰ·cast, Memᴰ·append-left, Memᴰ·append-right}
-use native.Mathlib.Omega.{arith}
-use lib.Dec.{eqb, ltb}
-use lib.ListN.{length, getD}
-use borrow.Author.Tests.{ltb-false, eqb-true, eq-eqb}
-use Rattle.base.specs.Choose.{choose}
-use Rattle.base.specs.Tests.{both-ways, and-left, and-right, or-cases}
+use mathlib.Core.Bool.{true}
+use mathlib.Core.Option.{Option}
+use mathlib.Core.Logic.{⊎-elim}
+use mathlib.Core.List.{List, [], _∷_, _++_, map, reverseAux, List·Memᴰ, List·Memᴰ·head, List·Memᴰ·tail, List·Memᴰ·cases-cons, List·Memᴰ·not-nil, List·Memᴰ·append-cases, Memᴰ·of-map}
 use Rattle.base.specs.Lists.{Every}
-use Rattle.field_types.specs.Types.{FieldType, types, no-type, sort-of, group, message, enumerated}
-use Rattle.descriptor.specs.Descriptor.{Bytes, Forest, done, node, preorder, FieldDescriptor, EnumDescriptor, MessageDescriptor, FileDescriptor}
-use Rattle.options.specs.Settings.{Setting}
-use Rattle.extern_paths.specs.ExternPaths.{taken}
-use Rattle.name_rules.specs.Accessors.{text, type, is-message, is-group, is-enum}
-use Rattle.name_rules.specs.FullNames.{_·_, package-scope, Entry, entries, set-entries, Declaration, enum-declarations, entry-declarations, file-declarations, set-declarations, set-fields}
-use Rattle.name_rules.specs.WellFormed.{Name, Named as Has-name, Good-enum, Good-message, Good-entry, Well-formed}
+use Rattle.field_types.specs.Types.{message}
+use Rattle.descriptor.specs.Descriptor.{Bytes, Forest, done, node, preorder, MessageDescriptor, FileDescriptor}
+use Rattle.name_rules.specs.Accessors.{text}
+use Rattle.name_rules.specs.FullNames.{package-scope, Entry, entries, set-entries}
+use Rattle.name_rules.specs.WellFormed.{Named as Has-name, Good-message, Good-entry, Well-formed}
 use Rattle.code_generator.specs.Resolve.{local-path}
 use Rattle.paths_reach.specs.Dots.{DotFree, name-no-dot, scope-of, scope-of-names, dotted-package, path-dot-free}
-use Rattle.paths_reach.specs.Written.{Named, type-named, enum-nameds, message-nameds, package-names, file-nameds, map-append}
+use Rattle.paths_reach.specs.Written.{package-names, map-append}
 use Rattle.paths_reach.specs.Nodes.{Node, names-of, nodes, file-nodes}
-use Rattle.paths_reach.specs.Homes.{Within, whole}
-use Rattle.paths_reach.specs.Closed.{every-at, file-within}
-use Rattle.paths_reach.specs.There.{Childless, taken-inside, all-of-node, node-there, enum-there, struct-in-node, enum-in-node}
 
 -- ---- lists
 pub every-left : {A : Type 0} (P : A → Type 0) (xs ys : List A) → Every P (xs ++ ys) → Every P xs

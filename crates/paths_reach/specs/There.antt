@@ -1,11 +1,10 @@
 -- A message that is no map entry and that no extern path takes is written, with its enums and oneofs. Assumes nothing.
-use Prim.Native.Nat.{ℕ, suc, _+_}
-use mathlib.Core.Path.{_≡_, refl, ap, sym, _∙_, subst}
+use mathlib.Core.Path.{_≡_, refl, ap, sym, subst}
 use mathlib.Core.Bool.{Bool, true, false, _||_, not}
-use mathlib.Core.Logic.{_⊎_, inl, inr, ⊎-elim}
-use mathlib.Core.List.{List, [], _∷_, _++_, map, List·Memᴰ, List·Memᴰ·head, List·Memᴰ·tail, List·Memᴰ·cases-cons, List·Memᴰ·not-nil, List·Memᴰ·append-cases, Memᴰ·map, Memᴰ·cast, Memᴰ·append-left, Memᴰ·append-right}
+use mathlib.Core.Logic.{⊎-elim}
+use mathlib.Core.List.{List, [], _∷_, _++_, map, List·Memᴰ, List·Memᴰ·head, List·Memᴰ·tail, List·Memᴰ·cases-cons, List·Memᴰ·not-nil, List·Memᴰ·append-cases, Memᴰ·map, Memᴰ·append-left, Memᴰ·append-right}
 use native.Mathlib.Omega.{arith}
-use lib.ListN.{length, length-append}
+use lib.ListN.{length-append}
 use Rattle.base.specs.Choose.{choose}
 use Rattle.base.specs.Tests.{both-ways, or-left, or-right}
 use Rattle.base.specs.Lists.{is-empty}
@@ -14,12 +13,11 @@ use Rattle.options.specs.Settings.{Setting}
 use Rattle.extern_paths.specs.ExternPaths.{taken}
 use Rattle.extern_paths.proofs.Taken.{taken-on}
 use Rattle.name_rules.specs.Accessors.{text}
-use Rattle.name_rules.specs.FullNames.{_·_}
 use Rattle.name_rules.specs.WellFormed.{Every-node}
 use Rattle.code_generator.specs.Oneofs.{OneofField, oneof-fields}
 use Rattle.code_generator.specs.Generate.{has-nested-types, has-module}
 use Rattle.paths_reach.specs.Dots.{scope-of}
-use Rattle.paths_reach.specs.Written.{Named, type-named, oneof-named, enum-nameds, module-nameds, node-nameds, message-nameds}
+use Rattle.paths_reach.specs.Written.{Named, type-named, oneof-named, enum-nameds, node-nameds, message-nameds}
 use Rattle.paths_reach.specs.Nodes.{Node, names-of, nodes}
 use Rattle.paths_reach.specs.Homes.{Within}
 

@@ -2,10 +2,9 @@
 use Prim.Native.Nat.{ℕ, zero, suc, _+_, _≤_, _<_}
 use mathlib.Core.Path.{_≡_, refl, ap, sym, _∙_, subst}
 use mathlib.Core.Bool.{Bool, true, false, _&&_, _||_, not}
-use mathlib.Core.Logic.{_⊎_, inl, inr, ⊎-elim}
+use mathlib.Core.Logic.{⊎-elim}
 use mathlib.Core.List.{List, [], _∷_, _++_, map, List·Memᴰ, List·Memᴰ·head, List·Memᴰ·tail, List·Memᴰ·cases-cons, List·Memᴰ·not-nil, List·Memᴰ·append-cases, Memᴰ·of-map, Memᴰ·append-left, Memᴰ·append-right}
 use native.Mathlib.Omega.{arith}
-use native.Mathlib.Numerals.{add-one}
 use lib.Dec.{eqb, ltb}
 use lib.ListN.{length, getD}
 use borrow.Author.Tests.{ltb-false, eqb-true, eq-eqb}
@@ -18,20 +17,20 @@ use Rattle.options.specs.Settings.{Setting}
 use Rattle.extern_paths.specs.ExternPaths.{taken}
 use Rattle.name_rules.specs.Accessors.{text, type, is-message, is-group, is-enum}
 use Rattle.name_rules.specs.FullNames.{_·_, package-scope, Entry, entries, set-entries, Declaration, enum-declarations, entry-declarations, file-declarations, set-declarations, fresh, type-declared, file-fields, set-fields, first-undeclared}
-use Rattle.name_rules.specs.WellFormed.{Good-enum, Good-message, Good-entry, Well-formed}
+use Rattle.name_rules.specs.WellFormed.{Good-enum, Well-formed}
 use Rattle.name_rules.specs.Answer.{first-six, first-seven, names, refusal-number}
 use Rattle.name_rules.specs.declared.Names.the-variants.{Good, Six, Seven}
 use Rattle.name_rules.proofs.WellFormedLaws.{every-file}
 use Rattle.type_names.proofs.FreshLaws.{fulls}
-use Rattle.type_names.proofs.SevenTheorems.{full-names, Once, EnumDeclared, message-named, enum-named}
+use Rattle.type_names.proofs.SevenTheorems.{full-names, message-named, enum-named}
 use Rattle.text_sights.specs.Written.{names-struct, names-enum}
 use Rattle.paths_reach.specs.Dots.{DotFree, scope-of, scope-of-names, dotted-package}
-use Rattle.paths_reach.specs.Written.{Named, type-named, enum-nameds, message-nameds, package-names, file-nameds}
+use Rattle.paths_reach.specs.Written.{type-named, enum-nameds, message-nameds, package-names, file-nameds}
 use Rattle.paths_reach.specs.Nodes.{Node, names-of, file-nodes}
 use Rattle.paths_reach.specs.Homes.{whole}
 use Rattle.paths_reach.specs.Closed.{every-at, file-within}
 use Rattle.paths_reach.specs.There.{taken-inside, not-taken, node-there, enum-there, struct-in-node, enum-in-node}
-use Rattle.paths_reach.specs.Targets.{name-free, package-free, Fine-node, fine-node, entry-of, file-entries-are, In-set, in-set}
+use Rattle.paths_reach.specs.Targets.{name-free, package-free, Fine-node, fine-node, entry-of, file-entries-are, in-set}
 
 -- ---- by number
 pub entry-at : (es : List Entry) (i : ℕ) (name : Bytes) → i < length (full-names es) → getD (full-names es) i [] ≡ name → (e : Entry) × List·Memᴰ e es × (e .full ≡ name)

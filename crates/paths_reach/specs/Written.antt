@@ -1,27 +1,22 @@
 -- What stands in the modules of a set, said of its descriptors: it has the places of the name check, and is what is seen in the texts.
 -- Assumes nothing.
-use Prim.Native.Nat.{ℕ}
-use mathlib.Core.Path.{_≡_, refl, ap, sym, _∙_}
+use mathlib.Core.Path.{_≡_, refl, ap, _∙_}
 use mathlib.Core.Bool.{Bool, true, false, _||_, not}
 use mathlib.Core.Option.{Option, some, none}
-use mathlib.Core.List.{List, [], _∷_, _++_, map, append-nil, append-assoc, reverse}
+use mathlib.Core.List.{List, [], _∷_, _++_, map, reverse}
 use Rattle.base.specs.Choose.{choose}
-use Rattle.base.specs.Lists.{Every, every-append, all-of}
 use Rattle.ident.specs.Ident.{to-snake, to-upper-camel}
-use Rattle.syntax.specs.Syntax.{syntax-of}
-use Rattle.descriptor.specs.Descriptor.{Bytes, Forest, done, node, FieldDescriptor, EnumDescriptor, MessageDescriptor, FileDescriptor}
+use Rattle.descriptor.specs.Descriptor.{Bytes, Forest, done, node, EnumDescriptor, MessageDescriptor, FileDescriptor}
 use Rattle.options.specs.Settings.{Setting}
 use Rattle.extern_paths.specs.ExternPaths.{taken}
 use Rattle.name_rules.specs.Accessors.{text}
-use Rattle.name_rules.specs.FullNames.{_·_, package-scope}
+use Rattle.name_rules.specs.FullNames.{package-scope}
 use Rattle.code_generator.specs.Piece.{Ref, type, choice, spelt}
 use Rattle.code_generator.specs.Resolve.{local-path}
-use Rattle.code_generator.specs.MapFields.{MapEntry, map-entry-of}
-use Rattle.code_generator.specs.Oneofs.{OneofField, plain-fields, oneof-fields, type-name}
-use Rattle.code_generator.specs.Generate.{has-module, is-proto3}
+use Rattle.code_generator.specs.Oneofs.{OneofField, oneof-fields, type-name}
+use Rattle.code_generator.specs.Generate.{has-module}
 use Rattle.name_check.specs.NameCheck.{Place, oneof-places, enum-places, message-places, file-places}
-use Rattle.sights.specs.Sights.{Item, Use, Sight, an-item, a-path, a-box, Frame, in-module, in-declaration, place-of, file-place, items, uses}
-use Rattle.text_sights.specs.Written.{in-shape, in-box, box-sights, ident-sights, type-sights, tag-sights, field-sights, map-sights, variant-sights, oneof-field-sights, field-or-map-sights, struct-sights, oneof-sights, enum-sights, message-sights, written-sights}
+use Rattle.sights.specs.Sights.{Item}
 use Rattle.paths_reach.specs.Dots.{scope-of, scope-of-names, dotted-package}
 
 -- a module, with its name in the set; a declaration

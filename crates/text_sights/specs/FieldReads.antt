@@ -1,28 +1,27 @@
 -- What is seen in the text of a field, a map, a variant and a oneof's field. Assumes nothing.
 use Prim.Native.Nat.{ℕ}
-use mathlib.Core.Path.{_≡_, refl, sym, ap, _∙_}
+use mathlib.Core.Path.{_≡_, refl}
 use mathlib.Core.Bool.{Bool, true, false, _||_}
 use mathlib.Core.Option.{Option, some, none}
 use mathlib.Core.List.{List, [], _∷_, _++_}
 use lib.Dec.{eqb}
 use borrow.Author.Tests.{eqb-true}
 use Rattle.base.specs.Choose.{choose}
-use Rattle.base.specs.Bytes.{b}
-use Rattle.field_types.specs.Types.{sort-of, rust-word, tag-word, text as string, bytes, group, message, enumerated}
+use Rattle.field_types.specs.Types.{sort-of, text as string, bytes, group, message}
 use Rattle.descriptor.specs.Descriptor.{Bytes, FieldDescriptor, FileDescriptor}
 use Rattle.options.specs.Settings.{Setting}
 use Rattle.extern_paths.specs.ExternPaths.{taken}
 use Rattle.name_rules.specs.Accessors.{text, type as type-of, is-repeated}
 use Rattle.context.specs.Context.{bytes-type, map-type, should-box-message-field, should-box-oneof-field}
-use Rattle.code_generator.specs.Piece.{Text, nothing, piece, _⟫_, when, either, _▹_, _◃_, raw, label, path, Ref, Way, Owned, Spelling, snake, camel, spelt, type, choice, opt, vec, box, table, comma, tag-open, tag-close, wrap-open, wrap-close, lit, push-indent}
+use Rattle.code_generator.specs.Piece.{nothing, piece, _⟫_, when, either, _◃_, label, path, Ref, Way, Owned, Spelling, snake, camel, spelt, type, choice, opt, vec, box, table, comma, tag-open, tag-close, wrap-open, wrap-close, lit}
 use Rattle.code_generator.specs.Resolve.{way, prost, resolve-ident, resolve-bytes, resolve-type, tag-ident, field-type-tag, map-value-type-tag}
-use Rattle.code_generator.specs.Attributes.{line, attributes, append-deprecated, append-field-attributes}
+use Rattle.code_generator.specs.Attributes.{attributes, append-deprecated, append-field-attributes}
 use Rattle.code_generator.specs.Fields.{optional, label-tag, bytes-annotation, default-text, default-given, default-tag, field-tag, shape-open, shape-close, box-open, box-close, field-line, append-field}
 use Rattle.code_generator.specs.MapFields.{MapEntry, map-tag, map-open, map-line, append-map-field}
 use Rattle.code_generator.specs.Oneofs.{OneofField, type-name, more-tags, tags, oneof-tag, oneof-line, append-oneof-field, variant-tag, variant-line, append-variant}
 use Rattle.sights.specs.Events.{written-path}
-use Rattle.sights.specs.Sights.{Label, Sight, a-path, Frame, in-field, in-tag, in-wrap, use-at}
-use Rattle.text_sights.specs.Reading.{Quiet, quiet, quiet-then, Reads, silent, _then_, _then-quiet_, _then-closed_, when-true, either-true, reads-when, reads-either, reads-both, seen-as, mark-before, mark-behind, quiet-mark}
+use Rattle.sights.specs.Sights.{Sight, a-path, Frame, in-field, in-tag, in-wrap, use-at}
+use Rattle.text_sights.specs.Reading.{Quiet, quiet, quiet-then, Reads, silent, _then_, _then-quiet_, _then-closed_, when-true, either-true, reads-either, reads-both, seen-as, mark-before, mark-behind, quiet-mark}
 use Rattle.text_sights.specs.Written.{names-struct, names-enum, label-of, in-shape, in-box, box-sights, oneof-way, ident-sights, type-sights, tag-sights, field-sights, map-sights, variant-sights, oneof-field-sights}
 
 -- ---- quiet texts

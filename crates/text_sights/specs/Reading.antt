@@ -6,7 +6,7 @@ use Rattle.base.specs.Choose.{choose}
 use Rattle.base.specs.Tests.{and-left, and-right, both-ways}
 use Rattle.descriptor.specs.Descriptor.{Bytes}
 use Rattle.code_generator.specs.Piece.{Piece, raw, opaque, extern, name, mod-open, decl-open, label, path, mark, Mark, comma, close, block-open, tag-open, tag-close, wrap-close, wrap-open, Text, nothing, piece, _⟫_, when, either, _▹_, _◃_, pieces}
-use Rattle.sights.specs.Events.{Event, event, events, events-append, mark-event}
+use Rattle.sights.specs.Events.{Event, events, events-append, mark-event}
 use Rattle.sights.specs.Sights.{Sight, Frame, in-block, in-tag, in-wrap, closed, box-seen, read}
 
 -- ---- texts in which nothing is seen

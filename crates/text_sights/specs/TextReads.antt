@@ -1,10 +1,9 @@
 -- What is seen in the text of a file is what is written for its descriptors. Assumes nothing.
 use Prim.Native.Nat.{ℕ, suc}
 use mathlib.Core.Path.{_≡_, refl, sym, ap, _∙_}
-use mathlib.Core.Bool.{Bool, true, false, _||_, not}
+use mathlib.Core.Bool.{Bool, _||_, not}
 use mathlib.Core.Option.{Option, some, none}
 use mathlib.Core.List.{List, [], _∷_, _++_, append-assoc, append-nil}
-use Rattle.base.specs.Choose.{choose}
 use Rattle.base.specs.Lists.{all-of}
 use Rattle.syntax.specs.Syntax.{syntax-of}
 use Rattle.descriptor.specs.Descriptor.{Bytes, Forest, done, node, FieldDescriptor, ValueDescriptor, EnumDescriptor, MessageDescriptor, FileDescriptor}
@@ -13,16 +12,16 @@ use Rattle.extern_paths.specs.ExternPaths.{taken}
 use Rattle.name_rules.specs.Accessors.{text}
 use Rattle.name_rules.specs.FullNames.{_·_, package-scope}
 use Rattle.context.specs.Context.{type-attributes, message-attributes, enum-attributes}
-use Rattle.code_generator.specs.Piece.{Text, nothing, piece, _⟫_, when, _◃_, mod-open, decl-open, Ref, type, choice, Spelling, snake, camel, spelt, close, block-open, lit, pieces}
-use Rattle.code_generator.specs.Attributes.{line, block, end, append-type-attributes, append-message-attributes, append-enum-attributes, append-field-attributes, append-prost-path-attribute, append-skip-debug, derive}
+use Rattle.code_generator.specs.Piece.{Text, nothing, piece, _◃_, decl-open, Ref, type, choice, Spelling, snake, camel, spelt, close, block-open, pieces}
+use Rattle.code_generator.specs.Attributes.{end, append-type-attributes, append-message-attributes, append-enum-attributes, append-field-attributes, append-prost-path-attribute, append-skip-debug, derive}
 use Rattle.code_generator.specs.MapFields.{MapEntry, map-entry-of}
 use Rattle.code_generator.specs.Oneofs.{OneofField, plain-fields, oneof-fields, type-name, append-oneof-fields, append-variants, append-oneof, append-oneofs}
 use Rattle.code_generator.specs.Enums.{build-enum-value-mappings, enum-variant, variant-lines, enum-variants, as-str-arm, as-str-arms, from-str-arm, from-str-arms, enum-derive, as-str-name, from-str-name, enum-impl, enum-declaration, append-enum, append-enums}
 use Rattle.code_generator.specs.Generate.{has-module, push-mod, field-or-map, append-fields, append-struct, append-messages, is-proto3, generate}
 use Rattle.sights.specs.Events.{events}
-use Rattle.sights.specs.Sights.{Item, Sight, an-item, Frame, in-module, in-declaration, in-block, module-at, declaration-at, read, file-place, file-sights, set-sights}
+use Rattle.sights.specs.Sights.{Sight, an-item, Frame, in-module, in-declaration, in-block, module-at, declaration-at, read, file-place, file-sights, set-sights}
 use Rattle.text_sights.specs.Reading.{Quiet, quiet, quiet-then, Reads, silent, _then_, _then-quiet_, _then-closed_, reads-when, quiet-mark, seen-as}
-use Rattle.text_sights.specs.Written.{field-sights, map-sights, field-or-map-sights, oneof-field-sights, variant-sights, struct-item, oneof-item, enum-item, struct-sights, oneof-sights, enum-sights, message-sights, written-sights}
+use Rattle.text_sights.specs.Written.{field-or-map-sights, oneof-field-sights, variant-sights, struct-item, oneof-item, struct-sights, oneof-sights, enum-sights, message-sights, written-sights}
 use Rattle.text_sights.specs.FieldReads.{quiet-prost, quiet-attributes, reads-field, reads-map, reads-variant, reads-oneof-field}
 
 module _ (rs : List Setting) where

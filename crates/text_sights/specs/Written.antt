@@ -1,6 +1,5 @@
 -- What is seen in the text of a file, said of its descriptors. fs: what is open around it; base: where the text stands. Assumes nothing.
-use Prim.Native.Nat.{ℕ}
-use mathlib.Core.Bool.{Bool, true, false, _||_, not}
+use mathlib.Core.Bool.{Bool, _||_, not}
 use mathlib.Core.Option.{Option, some, none}
 use mathlib.Core.List.{List, [], _∷_, _++_}
 use lib.Dec.{eqb}
@@ -14,7 +13,7 @@ use Rattle.extern_paths.specs.ExternPaths.{taken}
 use Rattle.name_rules.specs.Accessors.{text, type as type-of, is-repeated}
 use Rattle.name_rules.specs.FullNames.{_·_, package-scope}
 use Rattle.context.specs.Context.{should-box-message-field, should-box-oneof-field}
-use Rattle.code_generator.specs.Piece.{Spelling, snake, camel, spelt, type, choice, Ref, Owned, Way, opt, vec, box, table}
+use Rattle.code_generator.specs.Piece.{Spelling, snake, camel, spelt, type, choice, Way, opt, vec, box, table}
 use Rattle.code_generator.specs.Resolve.{way}
 use Rattle.code_generator.specs.Fields.{optional}
 use Rattle.code_generator.specs.MapFields.{MapEntry, map-entry-of}
