@@ -2,7 +2,7 @@
 -- their own message".
 use mathlib.Core.Bool.{Bool, _&&_, _||_, not}
 use mathlib.Core.Option.{Option, some, none}
-use mathlib.Core.List.{List, [], _∷_, _++_, map}
+use mathlib.Core.List.{List, [], _++_, map}
 use lib.Dec.{eqb}
 use Rattle.base.specs.Choose.{choose}
 use Rattle.base.specs.Lists.{all, all-of}

@@ -8,12 +8,11 @@ use mathlib.Core.List.{List, [], _∷_, _++_, map, append-nil, List·Memᴰ, Lis
 use lib.Dec.{eqb}
 use borrow.Author.Tests.{not-true}
 use Rattle.base.specs.Choose.{choose, choose-case}
-use Rattle.base.specs.Bytes.{same}
 use Rattle.base.specs.Tests.{both-ways, and-left, and-right, or-false-left, or-false-right}
 use Rattle.base.specs.Lists.{all, all-of, is-empty}
 use Rattle.syntax.specs.Syntax.{syntax-of}
 use Rattle.descriptor.specs.Descriptor.{Bytes, Forest, done, node, FieldDescriptor, EnumDescriptor, MessageDescriptor, FileDescriptor}
-use Rattle.options.specs.Settings.{Setting, found-at}
+use Rattle.options.specs.Settings.{Setting}
 use Rattle.path.specs.Forms.{sub-path-iter}
 use Rattle.path.specs.PathMap.{first-with, find-best}
 use Rattle.extern_paths.specs.ExternPaths.{taken}
@@ -21,20 +20,20 @@ use Rattle.name_rules.specs.Accessors.{text, is-repeated, is-message, is-group}
 use Rattle.name_rules.specs.FullNames.{_·_, package-scope}
 use Rattle.name_rules.specs.Answer.{names}
 use Rattle.name_rules.specs.declared.Names.the-variants.{Good}
-use Rattle.context.specs.MessageGraph.{is-link, is-nested}
+use Rattle.context.specs.MessageGraph.{is-nested}
 use Rattle.context.specs.Context.{has, should-box}
 use Rattle.code_generator.specs.Piece.{Owned, snake, camel, spelt, box}
 use Rattle.code_generator.specs.Fields.{optional}
 use Rattle.code_generator.specs.MapFields.{MapEntry, map-entry-of}
 use Rattle.code_generator.specs.Oneofs.{OneofField, plain-fields, oneof-fields}
 use Rattle.code_generator.specs.Generate.{has-nested-types, has-module, is-proto3}
-use Rattle.sights.specs.Sights.{Item, Label, BoxUse, Sight, an-item, a-path, a-box, Frame, in-module, in-declaration, in-field, in-tag, in-wrap, field-of, box-seen, module-at, file-place, set-sights, boxes}
+use Rattle.sights.specs.Sights.{Item, Label, BoxUse, Sight, an-item, a-path, a-box, Frame, in-module, in-declaration, in-field, field-of, box-seen, module-at, file-place, set-sights, boxes}
 use Rattle.text_sights.specs.Written.{names-struct, names-enum, label-of, in-shape, in-box, box-sights, ident-sights, type-sights, tag-sights, field-sights, map-sights, variant-sights, oneof-field-sights, field-or-map-sights, struct-item, oneof-item, struct-sights, oneof-sights, enum-sights, message-sights, written-sights}
 use Rattle.text_sights.specs.TextReads.{set-sights-are}
 use Rattle.paths_reach.specs.Reach.{those}
 use Rattle.paths_reach.specs.Dots.{scope-of, scope-of-names, dotted-package}
 use Rattle.paths_reach.specs.Written.{package-names, map-append}
-use Rattle.paths_reach.specs.Nodes.{Node, names-of, nodes, file-nodes}
+use Rattle.paths_reach.specs.Nodes.{Node, names-of, nodes}
 use Rattle.paths_reach.specs.PathsReach.{plain-mem, at-mem, oneof-at}
 use Rattle.walks_end.specs.Walks.{group-free}
 use Rattle.walks_end.specs.BoxedFields.{no-boxed-setting, owned, written-in, written-fields, leads-back, label-mark, boxed-field}

@@ -1,15 +1,15 @@
 -- What the fields of a set have that is group-free and without refusals 6 and 7. Assumes nothing.
 use Prim.Native.Nat.{ℕ}
-use mathlib.Core.Path.{_≡_, refl, ap, sym, _∙_, subst}
-use mathlib.Core.Bool.{Bool, true, false, _&&_, not}
+use mathlib.Core.Path.{_≡_, ap, sym, _∙_, subst}
+use mathlib.Core.Bool.{true, false, _&&_, not}
 use mathlib.Core.Option.{some}
 use mathlib.Core.Logic.{⊎-elim}
-use mathlib.Core.List.{List, [], _∷_, _++_, map, List·Memᴰ, List·Memᴰ·head, List·Memᴰ·tail, List·Memᴰ·cases-cons, List·Memᴰ·not-nil, Memᴰ·map, Memᴰ·append-left, Memᴰ·append-right}
+use mathlib.Core.List.{List, [], _∷_, map, List·Memᴰ, List·Memᴰ·head, List·Memᴰ·tail, List·Memᴰ·cases-cons, List·Memᴰ·not-nil, Memᴰ·map, Memᴰ·append-left, Memᴰ·append-right}
 use lib.ListN.{length}
 use borrow.Author.Tests.{not-true}
 use Rattle.base.specs.Choose.{choose, choose-case}
-use Rattle.base.specs.Tests.{both-ways, and-left}
-use Rattle.base.specs.Lists.{all, all-every}
+use Rattle.base.specs.Tests.{and-left}
+use Rattle.base.specs.Lists.{all-every}
 use Rattle.descriptor.specs.Descriptor.{Bytes, FieldDescriptor, FileDescriptor}
 use Rattle.name_rules.specs.Accessors.{text, is-repeated, is-message, is-group}
 use Rattle.name_rules.specs.FullNames.{package-scope, Entry, entries, set-entries, set-fields}

@@ -3,4 +3,8 @@ pub mod BoxedFields
 pub mod Facts
 pub mod Origins
 pub mod WalksEnd
+pub mod Owners
+pub mod Unmarked
+pub mod LeadsBack
 pub mod BoxesStand
+pub mod Examples

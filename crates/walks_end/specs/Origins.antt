@@ -3,10 +3,9 @@
 use mathlib.Core.Path.{_≡_, refl, sym, subst}
 use mathlib.Core.Bool.{Bool, true, false, _&&_, _||_, not}
 use mathlib.Core.Option.{Option, some, none}
-use mathlib.Core.Logic.{⊎-elim}
 use mathlib.Core.List.{List, [], _∷_, _++_, List·Memᴰ, List·Memᴰ·head, List·Memᴰ·tail, Memᴰ·append-left, Memᴰ·append-right}
 use Rattle.base.specs.Choose.{choose, choose-case}
-use Rattle.base.specs.Tests.{both-ways, and-both, or-cases}
+use Rattle.base.specs.Tests.{both-ways, and-both}
 use Rattle.base.specs.Lists.{Every, every-append, every-of, all-of}
 use Rattle.syntax.specs.Syntax.{syntax-of}
 use Rattle.descriptor.specs.Descriptor.{Bytes, Forest, done, node, FieldDescriptor, EnumDescriptor, MessageDescriptor, FileDescriptor}
@@ -16,12 +15,12 @@ use Rattle.name_rules.specs.Accessors.{text, is-repeated, is-message, is-group}
 use Rattle.name_rules.specs.FullNames.{_·_, package-scope, set-entries}
 use Rattle.name_rules.specs.Answer.{names}
 use Rattle.name_rules.specs.declared.Names.the-variants.{Good}
-use Rattle.context.specs.MessageGraph.{Link, is-link, links, is-nested}
+use Rattle.context.specs.MessageGraph.{is-link, links, is-nested}
 use Rattle.context.specs.Context.{has, should-box}
 use Rattle.code_generator.specs.Piece.{Ref, type, choice, snake, camel, spelt, opt, vec, box, table}
 use Rattle.code_generator.specs.Fields.{optional}
 use Rattle.code_generator.specs.MapFields.{MapEntry, map-entry-of}
-use Rattle.code_generator.specs.Oneofs.{OneofField, plain-fields, fields-at, oneof-fields}
+use Rattle.code_generator.specs.Oneofs.{OneofField, plain-fields, oneof-fields}
 use Rattle.code_generator.specs.Generate.{has-module, is-proto3}
 use Rattle.sights.specs.Sights.{Item, Use, Sight, an-item, Frame, in-module, in-declaration, in-field, in-tag, in-wrap, owner-of, wraps-of, module-at, file-place, set-sights, uses}
 use Rattle.text_sights.specs.Written.{names-struct, names-enum, label-of, in-shape, in-box, box-sights, ident-sights, type-sights, tag-sights, field-sights, map-sights, variant-sights, oneof-field-sights, field-or-map-sights, struct-item, oneof-item, struct-sights, oneof-sights, enum-sights, message-sights, written-sights}
@@ -33,7 +32,7 @@ use Rattle.paths_reach.specs.Nodes.{Node, names-of, nodes, file-nodes}
 use Rattle.paths_reach.specs.Types.{struct-type}
 use Rattle.paths_reach.specs.PathsReach.{plain-mem, at-mem, oneof-at}
 use Rattle.walks_end.specs.Walks.{group-free, only-options}
-use Rattle.walks_end.specs.Facts.{link-of, Fine-field, Fine-message, fine-message}
+use Rattle.walks_end.specs.Facts.{Fine-field, Fine-message, fine-message}
 
 -- the message that something is for
 abbrev pub message-of : Ref → Bytes

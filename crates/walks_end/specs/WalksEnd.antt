@@ -1,8 +1,8 @@
 -- Clause 3 of demand 3: in a group-free set without refusals 6 and 7 for which the name check says yes, no walk comes back to where it starts,
 -- boxed settings or not.
 use Prim.Native.Nat.{ℕ}
-use mathlib.Core.Path.{_≡_, refl, ap, sym, _∙_, subst}
-use mathlib.Core.Bool.{Bool, true, false}
+use mathlib.Core.Path.{_≡_, ap, sym, _∙_, subst}
+use mathlib.Core.Bool.{true, false}
 use mathlib.Core.Option.{Option, some, none}
 use mathlib.Core.Logic.{⊎-elim}
 use mathlib.Core.List.{List, [], _∷_, List·Memᴰ, List·Memᴰ·cases-cons, List·Memᴰ·not-nil}
@@ -18,10 +18,10 @@ use Rattle.context_laws.specs.Links.{Led, led-complete}
 use Rattle.message_graph.specs.Walks.Walk.{stay, go}
 use Rattle.code_generator.specs.Piece.{Ref, type, choice}
 use Rattle.name_check.specs.NameCheck.{name-check}
-use Rattle.sights.specs.Sights.{Item, Use, set-sights, uses}
-use Rattle.paths_reach.specs.Reach.{world, those, is-that-declaration, inside, ReachesOne}
+use Rattle.sights.specs.Sights.{Item, set-sights, uses}
+use Rattle.paths_reach.specs.Reach.{world}
 use Rattle.paths_reach.specs.PathsReach.{paths-reach}
-use Rattle.walks_end.specs.Walks.{group-free, only-options, Step, Walk, last, more}
+use Rattle.walks_end.specs.Walks.{group-free, Step, Walk, last, more}
 use Rattle.walks_end.specs.Origins.{message-of, owner-mark, Origin, in-a-tag, held, of-oneof, of-link, origins}
 
 -- the message whose struct or oneof enum a declaration is
