@@ -111,10 +111,10 @@ names-sound (x ∷ xs) [] h = both-ways h refl
 names-sound (x ∷ xs) (y ∷ ys) h =
     let p = same-sound x y (and-left (same x y) (same-names xs ys) h) in let q = names-sound xs ys (and-right (same x y) (same-names xs ys) h) in cc
 
-abbrev SameItem : Item → Item → Type 0
+abbrev pub SameItem : Item → Item → Type 0
 SameItem a c = (a .place ≡ c .place) × (a .name ≡ c .name)
 
-item-sym : (a c : Item) → SameItem a c → SameItem c a
+pub item-sym : (a c : Item) → SameItem a c → SameItem c a
 item-sym a c (p, q) = (sym p, sym q)
 
 -- an item that passes a further test is the only one at its place
@@ -146,6 +146,10 @@ module _ (rs : List Setting) (set : List FileDescriptor) (says-yes : name-check 
   seen-apart : Apart SameItem seen
   seen-apart =
       apart-map Same SameItem item-of ns (λ a c m n (p, q). (one-home ns (names-apart rs set says-yes) (home-closed rs set a m) (home-closed rs set c n) p, q)) (names-apart rs set says-yes)
+
+  -- no two items stand at one place with one name
+  pub items-apart : Apart SameItem (world rs set)
+  items-apart = rw (world-is rs set) seen-apart
 
   closed-turn : (steps turn : List Bytes) → Closed ns (reverseAux steps turn) → Closed ns turn
   closed-turn [] turn c = c

@@ -11,7 +11,7 @@ use lib.ListN.{length}
 use borrow.Author.Tests.{eqb-true}
 use Rattle.base.specs.Choose.{choose}
 use Rattle.base.specs.Bytes.{same, same-refl, same-sound}
-use Rattle.base.specs.Tests.{bool-cases, both-ways, and-left, and-both, or-cases}
+use Rattle.base.specs.Tests.{bool-cases, both-ways, and-left, and-right, and-both, or-cases}
 use Rattle.base.specs.Lists.{Every, every-of, is-empty}
 use Rattle.ident.specs.Ident.{to-snake}
 use Rattle.descriptor.specs.Descriptor.{Bytes, Forest, done, node, FieldDescriptor, MessageDescriptor, FileDescriptor}
@@ -48,7 +48,7 @@ use Rattle.paths_reach.specs.Types.{Target, well-formed, field-struct, f
 use Rattle.paths_reach.specs.Entries.{set-nodes, field-in-set, tops, tops-nodes, nested-nodes, names-full, nested-in, maps-entry}
 
 -- ---- fields of a message
-plain-mem : (f : FieldDescriptor) (fs : List FieldDescriptor) → List·Memᴰ f (plain-fields fs) → List·Memᴰ f fs
+pub plain-mem : (f : FieldDescriptor) (fs : List FieldDescriptor) → List·Memᴰ f (plain-fields fs) → List·Memᴰ f fs
 unfolding plain-fields choose
 plain-mem f [] i = i
 plain-mem f (g ∷ fs) i = go (is-plain (oneof-of g)) i (plain-mem f fs)
@@ -57,7 +57,7 @@ plain-mem f (g ∷ fs) i = go (is-plain (oneof-of g)) i (plain-mem f fs)
     go true i rest = ⊎-elim (λ e. List·Memᴰ·head e) (λ j. List·Memᴰ·tail (rest j)) (List·Memᴰ·cases-cons i)
     go false i rest = List·Memᴰ·tail (rest i)
 
-at-mem : (k : ℕ) (f : FieldDescriptor) (fs : List FieldDescriptor) → List·Memᴰ f (fields-at k fs) → List·Memᴰ f fs × (is-at k (oneof-of f) ≡ true)
+pub at-mem : (k : ℕ) (f : FieldDescriptor) (fs : List FieldDescriptor) → List·Memᴰ f (fields-at k fs) → List·Memᴰ f fs × (is-at k (oneof-of f) ≡ true)
 unfolding fields-at choose
 at-mem k f [] i = absurd (List·Memᴰ·not-nil i)
 at-mem k f (g ∷ fs) i = go (is-at k (oneof-of g)) refl i (at-mem k f fs)
@@ -69,7 +69,7 @@ at-mem k f (g ∷ fs) i = go (is-at k (oneof-of g)) refl i (at-mem k f fs)
     go false e i rest = let r = rest i in (List·Memᴰ·tail (r .0), r .1)
 
 -- the fields of a oneof are those of one index
-oneof-at : (m : MessageDescriptor) (nested : Forest MessageDescriptor) (k : ℕ) (ns : List (Option Bytes)) (x : OneofField) → List·Memᴰ x (oneofs-from m nested k ns)
+pub oneof-at : (m : MessageDescriptor) (nested : Forest MessageDescriptor) (k : ℕ) (ns : List (Option Bytes)) (x : OneofField) → List·Memᴰ x (oneofs-from m nested k ns)
     → (j : ℕ) × (x .fields ≡ fields-at j (m .fields))
 unfolding oneofs-from choose
 oneof-at m nested k [] x i = absurd (List·Memᴰ·not-nil i)
@@ -82,7 +82,7 @@ oneof-at m nested k (n ∷ ns) x i = go (is-empty (fields-at k (m .fields))) i (
     go false i rest = ⊎-elim (λ e. (k, ap (λ (z : OneofField). z .fields) e)) rest (List·Memᴰ·cases-cons i)
 
 -- a field of a oneof has its index
-in-oneof : (f : FieldDescriptor) (k : ℕ) → is-at k (oneof-of f) ≡ true → f .oneof-index ≡ some k
+pub in-oneof : (f : FieldDescriptor) (k : ℕ) → is-at k (oneof-of f) ≡ true → f .oneof-index ≡ some k
 unfolding choose
 in-oneof f k h = go (f .proto3-optional) (f .oneof-index) h
   where
@@ -92,7 +92,7 @@ in-oneof f k h = go (f .proto3-optional) (f .oneof-index) h
     go false (some j) q = ap some (sym (eqb-true k j q))
 
 -- a field with the label optional isn't repeated
-not-repeated : (f : FieldDescriptor) → f .label ≡ some 1 → is-repeated f ≡ false
+pub not-repeated : (f : FieldDescriptor) → f .label ≡ some 1 → is-repeated f ≡ false
 not-repeated f e = rw e refl
 
 -- ---- map entries
@@ -118,22 +118,23 @@ entry-found k (node m nested following) x good n i e q h =
         (λ j. rest j r) (List·Memᴰ·cases-cons i)
 
 -- the map entry that a field names
-pub record Entry-at (k : List Bytes) (ms : Forest MessageDescriptor) (e : MapEntry) : Type 0 where
+pub record Entry-at (k : List Bytes) (ms : Forest MessageDescriptor) (x : Option Bytes) (e : MapEntry) : Type 0 where
   pub at : Node
   pub there : List·Memᴰ at (tops k ms)
   pub is-entry : at .message .map-entry ≡ true
+  pub named : scope-of (names-of at) ≡ text x
   pub holds : entry-fields (at .message .fields) ≡ some e
 
-entry-at : (k : List Bytes) (ms : Forest MessageDescriptor) (x : Option Bytes) (e : MapEntry) → map-entry-of (scope-of k) ms x ≡ some e → Entry-at k ms e
+pub entry-at : (k : List Bytes) (ms : Forest MessageDescriptor) (x : Option Bytes) (e : MapEntry) → map-entry-of (scope-of k) ms x ≡ some e → Entry-at k ms x e
 unfolding tops map-entry-of choose
 entry-at k done x e h = absurd (let z : _≡_ {A = ℕ} 0 1 = cc in omega arith)
 entry-at k (node m nested following) x e h = go (m .map-entry && same (scope-of k · text (m .name)) (text x)) refl h (λ r. entry-at k following x e r)
   where
     go : (t : Bool) → (m .map-entry && same (scope-of k · text (m .name)) (text x)) ≡ t → choose t (entry-fields (m .fields)) (map-entry-of (scope-of k) following x) ≡ some e
-        → (map-entry-of (scope-of k) following x ≡ some e → Entry-at k following e) → Entry-at k (node m nested following) e
+        → (map-entry-of (scope-of k) following x ≡ some e → Entry-at k following x e) → Entry-at k (node m nested following) x e
     go true s r rest =
-        record { at = record { home = k; message = m; nested = nested }; there = unfold tops in List·Memᴰ·head refl; is-entry = and-left (m .map-entry) (same (scope-of k · text (m .name)) (text x)) s; holds = r }
-    go false s r rest = let d = rest r in record { at = d .at; there = unfold tops in List·Memᴰ·tail (d .there); is-entry = d .is-entry; holds = d .holds }
+        record { at = record { home = k; message = m; nested = nested }; there = unfold tops in List·Memᴰ·head refl; is-entry = and-left (m .map-entry) (same (scope-of k · text (m .name)) (text x)) s; named = same-sound (scope-of k · text (m .name)) (text x) (and-right (m .map-entry) (same (scope-of k · text (m .name)) (text x)) s); holds = r }
+    go false s r rest = let d = rest r in record { at = d .at; there = unfold tops in List·Memᴰ·tail (d .there); is-entry = d .is-entry; named = d .named; holds = d .holds }
 
 abbrev Reached : List Setting → List FileDescriptor → Use → Type 0
 Reached rs set u = ReachesOne (world rs set) u
