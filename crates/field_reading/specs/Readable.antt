@@ -19,7 +19,7 @@ use Rattle.ident.proofs.Written.{snake-identifier, camel-identifier, variant-id
 use Rattle.field_types.specs.Types.{FieldType, types, no-type, sort-of, tag-word, rust-word, group, message, enumerated}
 use Rattle.descriptor.specs.Descriptor.{Bytes, FieldDescriptor}
 use Rattle.extern_paths.specs.Split.{split}
-use Rattle.extern_paths.proofs.SplitLaws.{split-is}
+use Rattle.split.proofs.SplitLaws.{split-is}
 use Rattle.name_rules.specs.Accessors.{text, type}
 use Rattle.code_generator.specs.Piece.{oneof-type, variant, spelt}
 use Rattle.code_generator.specs.Resolve.{front, last-name, ident-path, ident-type, local-path, skip-common, way}
