@@ -16,7 +16,7 @@ use Rattle.boxed_settings.specs.Flags.{set-flags}
 use Rattle.targets.specs.Targets.{target-at}
 use Rattle.context_tables.specs.Cells.{is-set-at, entry-at, columns, message-table, field-table}
 
--- limit 4, and what limits 2 to 5 leave room for
+-- limit 4
 abbrev pub most-fields : ℕ
 most-fields = 2048
 

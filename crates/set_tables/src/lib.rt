@@ -39,7 +39,7 @@ fn fill_settings(set: &[u8], o: &[u8], settings: &mut [bool])
     context_tables::fill_settings(&bytes, settings);
 }
 
-// Both tables, by the first `n` places of the columns, of which `rows` and `fields` tell the others.
+// Both tables, given the columns of targets and settings: `n` fields have their places in `fields`, and the columns go by the first 2,048.
 fn fill_rows(
     messages: &mut [u16],
     t: &mut [u16],
