@@ -14,6 +14,7 @@ ghost use Rattle.options.specs.Settings.{settings};
 ghost use Rattle.context.specs.Context.{has};
 ghost use Rattle.joined.specs.Joined.{_⊙_};
 ghost use Rattle.text_tables.specs.Rows.{message-row};
+ghost use Rattle.code_generator.specs.Attributes.{deprecated};
 ghost use Rattle.members.specs.Members.{name-in, field-at, boxed-at, numbers-with, in-oneofs, all-copy, all-eq, cut-camel, conflict};
 use descriptor::FieldView;
 use joined::MAX_PATH;
@@ -41,6 +42,16 @@ pub fn setting(o: &[u8], kind: u16, full: &[u8], name: &[u8]) -> bool
     let n = joined::path_in(&mut path, full, name);
     let row = path::find_first(o, kind, &path[0..n]);
     row.found
+}
+
+// Is the field marked as deprecated?
+pub fn is_deprecated(s: &[u8], f: FieldView) -> bool
+    ensures { λ r. ⌜ r ≡ deprecated (field-of (now (s .entry)) f) ⌝ }
+{
+    if f.options {
+        return f.deprecated;
+    }
+    false
 }
 
 // should_box: `at` is the message's full name, or the oneof's.
