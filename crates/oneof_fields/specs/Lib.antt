@@ -1,1 +1,2 @@
 pub mod OneofFields
+pub mod Named

@@ -1,1 +1,2 @@
 pub mod StructFields
+pub mod Entries

@@ -1,0 +1,2 @@
+pub mod TagLaws
+pub mod RangeLaws

@@ -1,0 +1,119 @@
+use borrow.Author.Needs.{needs}
+use Rattle.oneof_fields.specs.OneofFields.{oneof-field-part, oneof-field-texts, next-index}
+use Rattle.oneof_fields.proofs.RangeLaws.{part-in-range}
+use Rattle.options.specs.Settings.{settings}
+use Rattle.walks.specs.Walked.{Going, going-start, going-kept, going-end, going-fault, going-skip, going-found}
+use Rattle.wire.proofs.RecordsLaws.{places}
+use Rattle.writer.specs.Wrote.{named}
+use native.Mathlib.Omega.{arith}
+use native.Mathlib.Numerals.{add-one}
+use lib.ListN.{length}
+use Prim.Native.Nat.{_-_, _≤_, _^_, _<_}
+use Rattle.oneof_fields.proofs.append_oneof_fields.Statement.{statement}
+use Rattle.oneof_fields.proofs.append_oneof_fields.Tie as tie
+use Rattle.oneof_fields.proofs.append_oneof_fields.Reads as reads
+use Rattle.oneof_fields.proofs.append_oneof_fields.Lts as lts
+use Rattle.members.proofs.fields_of.Reads as fields-of-reads
+use Rattle.oneof_fields.proofs.put_oneof.Reads as put-oneof-reads
+use Rattle.parts.proofs.embedded.Reads as embedded-reads
+use Rattle.wire.proofs.read_step.Reads as read-step-reads
+
+abbrev Inv-loop : tie.InvT-loop
+Inv-loop t₀ at o set messages fields d full deeper i p first last a₀ x₀ place₀ t a x place = (x ≤ place) × (place ≤ length p) × Going (oneof-field-part (settings o) set messages fields d full deeper i p) (next-index (settings o) set messages fields) 0 8 p t₀ at t place a x
+
+abbrev μ-loop : tie.MeasureT-loop
+μ-loop t₀ at o set messages fields d full deeper i p first last a₀ x₀ place₀ t a x place = length p - place
+
+-- src/lib.rt:188:9
+fields-of-requires : tie.Need-fields-of-requires Inv-loop μ-loop
+fields-of-requires c κs = search needs
+
+-- src/lib.rt:194:5
+loop-holds : tie.Need-loop-holds Inv-loop μ-loop
+loop-holds c = (omega arith, omega arith, going-start _ _ _ _ _ _ _ (search needs))
+
+-- src/lib.rt:195:15
+read-step-requires : tie.Need-read-step-requires Inv-loop μ-loop
+read-step-requires c κs = search needs
+
+-- src/lib.rt:196:26
+enum-told : tie.Need-enum-told Inv-loop μ-loop
+enum-told c = search needs
+
+-- src/lib.rt:196:26
+same-length : tie.Need-same-length Inv-loop μ-loop
+same-length c = going-kept _ _ _ _ _ _ _ (c .before .before .before .loop .inv .2)
+
+-- src/lib.rt:196:26
+returns : tie.Need-returns Inv-loop μ-loop
+unfolding oneof-field-texts
+returns c = going-end _ _ _ _ _ _ _ (c .before .before .before .loop .inv .2) _ (c .before .before .read-step .ensures) (c .enum-told .given .1)
+
+-- src/lib.rt:197:31
+enum-told-2 : tie.Need-enum-told-2 Inv-loop μ-loop
+enum-told-2 c = search needs
+
+-- src/lib.rt:197:31
+same-length-2 : tie.Need-same-length-2 Inv-loop μ-loop
+same-length-2 c = going-kept _ _ _ _ _ _ _ (c .before .before .before .loop .inv .2)
+
+-- src/lib.rt:197:31
+returns-2 : tie.Need-returns-2 Inv-loop μ-loop
+unfolding oneof-field-texts
+returns-2 c = going-fault _ _ _ _ _ _ _ (c .before .before .before .loop .inv .2) _ (c .before .before .read-step .ensures) _ (c .enum-told2 .given .1)
+
+-- src/lib.rt:198:25
+enum-known-f : tie.Need-enum-known-f Inv-loop μ-loop
+enum-known-f c = search needs
+
+-- src/lib.rt:201:25
+embedded-requires : tie.Need-embedded-requires Inv-loop μ-loop
+embedded-requires c κs = search needs
+
+-- src/lib.rt:202:25
+add-x : tie.Need-add-x Inv-loop μ-loop
+add-x c = let g = c .before .before .before .before .before .before .before .before .before .before .before .before .before .before .before .before .good .1 .1 .1 .1 .1 .1 .1 .1 .1 .1 .0 .1 in let h : c .before .before .before .before .before .before .before .loop .x < 2 ^ 63 = omega (arith, g) in search needs
+
+-- src/lib.rt:203:21
+put-oneof-requires : tie.Need-put-oneof-requires Inv-loop μ-loop
+put-oneof-requires c κs = search needs
+
+-- src/lib.rt:194:5
+loop-less : tie.Need-loop-less Inv-loop μ-loop
+loop-less c = search places
+
+-- src/lib.rt:194:5
+loop-again : tie.Need-loop-again Inv-loop μ-loop
+loop-again c = (search places, search places, going-found _ _ _ _ _ _ _ (c .before .before .before .before .before .before .before .before .before .before .before .loop .inv .2) _ (c .before .before .before .before .before .before .before .before .before .before .read-step .ensures) _ (c .before .before .before .before .before .before .before .before .f .given .1) (c .before .before .before .before .before .if1 .taken) (c .before .before .before .before .embedded .ensures) (named (part-in-range (c .before .before .before .before .before .before .before .before .before .before .before .before .before .before .before .before .before .before .before .before .args .messages .now) _ _ _ _ _ (c .before .before .before .before .before .before .before .before .before .before .before .before .fields-of .ensures .0) (c .before .before .before .before .before .before .before .before .before .before .before .before .fields-of .ensures .1) _ _ _ _ _ (c .before .before .before .before .before .before .before .before .before .before .before .loop .x) _) (c .before .before .put-oneof .ensures (c .before .before .before .before .before .before .before .before .before .before .before .before .before .before .before .before .before .before .before .before .args .messages .now))) _ (add-one (c .before .before .before .before .before .before .before .before .before .before .before .loop .x)))
+
+-- src/lib.rt:194:5
+loop-less-2 : tie.Need-loop-less-2 Inv-loop μ-loop
+loop-less-2 c = search places
+
+-- src/lib.rt:194:5
+loop-again-2 : tie.Need-loop-again-2 Inv-loop μ-loop
+loop-again-2 c = (search places, search places, going-skip _ _ _ _ _ _ _ (c .before .before .before .before .before .before .loop .inv .2) _ (c .before .before .before .before .before .read-step .ensures) _ (c .before .before .before .f .given .1) (c .if1 .left))
+
+pub append-oneof-fields-spec : {M : Type 1} → statement M
+append-oneof-fields-spec =
+    tie.close
+    (tie.spec
+    Inv-loop
+    μ-loop
+    fields-of-requires
+    loop-holds
+    read-step-requires
+    enum-told
+    same-length
+    returns
+    enum-told-2
+    same-length-2
+    returns-2
+    enum-known-f
+    embedded-requires
+    add-x
+    put-oneof-requires
+    loop-less
+    loop-again
+    loop-less-2
+    loop-again-2)
