@@ -8,7 +8,7 @@ ghost use Rattle.base.specs.Bytes.{same};
 ghost use Rattle.base.specs.Lists.{is-empty, any};
 ghost use Rattle.ident.specs.Ident.{to-upper-camel};
 ghost use Rattle.descriptor.specs.Descriptor.{Bytes};
-ghost use Rattle.descriptor.specs.Decode.{entries, parts};
+ghost use Rattle.descriptor.specs.Decode.{entries, parts, decode-message};
 ghost use Rattle.descriptor.specs.Views.{field-of};
 ghost use Rattle.options.specs.Settings.{settings};
 ghost use Rattle.context.specs.Context.{has};
@@ -24,6 +24,15 @@ use wire::Step;
 pub struct Range {
     pub first: usize,
     pub last: usize,
+}
+
+// Is the message whose part p is a map entry?
+pub fn is_entry(p: &[u8]) -> bool
+    ensures { λ r. ⌜ r ≡ decode-message (now (p .entry)) .map-entry ⌝ }
+{
+    let end = p.len();
+    let message = descriptor::message_view(p, 0, end);
+    message.entry
 }
 
 // Field k of a set.
