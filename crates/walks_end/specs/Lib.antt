@@ -7,4 +7,5 @@ pub mod Owners
 pub mod Unmarked
 pub mod LeadsBack
 pub mod BoxesStand
+pub mod WrittenFields
 pub mod Examples
