@@ -7,7 +7,6 @@ use mathlib.Core.Bool.{Bool, true, false, _||_}
 use mathlib.Core.Option.{Option, some, none}
 use mathlib.Core.Logic.{⊎-elim, _↔_}
 use mathlib.Core.List.{List, [], _∷_, _++_, map, List·Memᴰ, List·Memᴰ·head, List·Memᴰ·tail, List·Memᴰ·cases-cons, List·Memᴰ·not-nil, List·Memᴰ·append-cases, Memᴰ·map, Memᴰ·of-map, Memᴰ·append-left, Memᴰ·append-right}
-use lib.Dec.{eqb}
 use lib.ListN.{length}
 use borrow.Author.Tests.{eq-eqb}
 use Rattle.base.specs.Choose.{choose, choose-case}
