@@ -45,8 +45,8 @@ one-home ns a root root e = refl
 one-home ns a root (into c m) e = nil-cons e
 one-home ns a (into c m) root e = nil-cons (sym e)
 one-home ns a (into {x = x} {h = h} c m) (into {x = y} {h = k} d n) e =
-    let heq : h ≡ k = one-home ns a c d (cons-tail (to-snake x) (to-snake y) (map to-snake h) (map to-snake k) e) in
-    let xeq : x ≡ y = module-name (module-named h x) (module-named k y) x y refl refl (apart-same Same same-sym a m n (heq, cons-head (to-snake x) (to-snake y) (map to-snake h) (map to-snake k) e)) in
+    let same-home : h ≡ k = one-home ns a c d (cons-tail (to-snake x) (to-snake y) (map to-snake h) (map to-snake k) e) in
+    let same-segment : x ≡ y = module-name (module-named h x) (module-named k y) x y refl refl (apart-same Same same-sym a m n (same-home, cons-head (to-snake x) (to-snake y) (map to-snake h) (map to-snake k) e)) in
     cc
 
 -- ---- packages

@@ -82,16 +82,16 @@ module _ (h th : List Bytes) (n : Bytes) (here : Every DotFree h) (there : Every
     where
       go : (c : List Bytes) × (reverse h ≡ c ++ left) × (reverse th ≡ c ++ ahead) → Leads h (written-path (way (scope-of h) (scope-of (n ∷ th)))) th
       go (c, p, q) =
-          let hh : h ≡ reverseAux left (reverse c) = sym (reverse-reverse h) ∙ ap (λ (z : List Bytes). reverse z) p ∙ reverseAux-append c left [] in
-          let tt′ : th ≡ reverseAux ahead (reverse c) = sym (reverse-reverse th) ∙ ap (λ (z : List Bytes). reverse z) q ∙ reverseAux-append c ahead [] in
-          let size : length h ≡ length left + length (reverse c) = ap length hh ∙ length-reverseAux left (reverse c) in
+          let home-is : h ≡ reverseAux left (reverse c) = sym (reverse-reverse h) ∙ ap (λ (z : List Bytes). reverse z) p ∙ reverseAux-append c left [] in
+          let target-is : th ≡ reverseAux ahead (reverse c) = sym (reverse-reverse th) ∙ ap (λ (z : List Bytes). reverse z) q ∙ reverseAux-append c ahead [] in
+          let size : length h ≡ length left + length (reverse c) = ap length home-is ∙ length-reverseAux left (reverse c) in
           record {
             turn = reverse c;
             steps = ahead;
             out = rw way-supers (omega arith);
-            back = ap (λ (z : ℕ). drop z (map to-snake h)) way-supers ∙ ap (λ (z : List Bytes). drop (length left) (map to-snake z)) hh ∙ back-out (reverse c) left;
+            back = ap (λ (z : ℕ). drop z (map to-snake h)) way-supers ∙ ap (λ (z : List Bytes). drop (length left) (map to-snake z)) home-is ∙ back-out (reverse c) left;
             inwards = ap (map to-snake) way-modules;
-            meets = tt′;
+            meets = target-is;
           }
 
 -- ---- what is found at a place
