@@ -30,7 +30,7 @@ module _ (rs : List Setting) where
   pub taken-inside : (x : Bytes) (k : List Bytes) (y : Bytes) → taken rs (scope-of (x ∷ k)) ≡ true → taken rs (scope-of (y ∷ x ∷ k)) ≡ true
   taken-inside x k y = taken-on rs (scope-of (x ∷ k)) y (λ e. let n = length-append (scope-of k) (46 ∷ x) in absurd (omega arith))
 
-  taken-nodes : (x : Bytes) (k : List Bytes) (ms : Forest MessageDescriptor) → taken rs (scope-of (x ∷ k)) ≡ true → (n : Node) → List·Memᴰ n (nodes (x ∷ k) ms) → taken rs (scope-of (names-of n)) ≡ true
+  pub taken-nodes : (x : Bytes) (k : List Bytes) (ms : Forest MessageDescriptor) → taken rs (scope-of (x ∷ k)) ≡ true → (n : Node) → List·Memᴰ n (nodes (x ∷ k) ms) → taken rs (scope-of (names-of n)) ≡ true
   unfolding nodes
   taken-nodes x k done t n i = absurd (List·Memᴰ·not-nil i)
   taken-nodes x k (node m nested following) t n i =
@@ -40,7 +40,7 @@ module _ (rs : List Setting) where
       (List·Memᴰ·cases-cons i)
 
 -- a message around others is no map entry
-no-entry-around : (m : MessageDescriptor) (nested : Forest MessageDescriptor) → (m .map-entry ≡ true → nested ≡ done) → (h : List Bytes) (n : Node) → List·Memᴰ n (nodes h nested) → m .map-entry ≡ false
+pub no-entry-around : (m : MessageDescriptor) (nested : Forest MessageDescriptor) → (m .map-entry ≡ true → nested ≡ done) → (h : List Bytes) (n : Node) → List·Memᴰ n (nodes h nested) → m .map-entry ≡ false
 unfolding nodes
 no-entry-around m nested c h n i = go (m .map-entry) refl
   where

@@ -7,4 +7,6 @@ pub mod Owners
 pub mod Unmarked
 pub mod LeadsBack
 pub mod BoxesStand
+pub mod Labels
+pub mod WrittenFields
 pub mod Examples

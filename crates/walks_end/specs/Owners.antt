@@ -14,7 +14,7 @@ use Rattle.sights.specs.Events.{Event, open-module, open-declaration, open-bloc
 use Rattle.sights.specs.Sights.{Item, Use, Sight, Frame, in-module, in-declaration, in-block, in-field, in-tag, in-wrap, owner-of, closed, declaration-at, box-seen, read, file-place, file-sights, set-sights, items, uses}
 use Rattle.paths_reach.specs.Seen.{Fine, fine-uses, items-append, every-mem}
 
-pub same-item : (i j : Item) → some i ≡ some j → i ≡ j
+same-item : (i j : Item) → some i ≡ some j → i ≡ j
 same-item i j e = cc
 
 no-item : {X : Type 0} (i : Item) → _≡_ {A = Option Item} none (some i) → X
@@ -77,7 +77,7 @@ module _ (P : Item → Type 0) where
   owners base fs (meet-path r p ∷ es) h k = (open-owner fs h, owners base fs es h k)
 
 -- the items of each text are among those of all
-items-all : {A : Type 0} (g : A → List Sight) (xs : List A) (x : A) → List·Memᴰ x xs → (i : Item) → List·Memᴰ i (items (g x)) → List·Memᴰ i (items (all-of g xs))
+pub items-all : {A : Type 0} (g : A → List Sight) (xs : List A) (x : A) → List·Memᴰ x xs → (i : Item) → List·Memᴰ i (items (g x)) → List·Memᴰ i (items (all-of g xs))
 unfolding all-of
 items-all g [] x m i n = absurd (List·Memᴰ·not-nil m)
 items-all {A} g (y ∷ xs) x m i n =
