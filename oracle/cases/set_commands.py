@@ -118,6 +118,18 @@ def deep(count):
     return part(1, part(4, payload))
 
 
+def faults_at(level):
+    """A message at this nesting, in which each thing that it may hold has a fault, or none, at its innermost."""
+    for inside in (b"", number(1, 1), number(2, 1), number(3, 1), number(7, 1), b"\x08", part(1, b""), part(2, b""), part(3, b""), part(7, b"")):
+        for way in ((2,), (2, 8), (4,), (4, 2), (4, 2, 3), (7,), (8,)):
+            payload = inside
+            for at in reversed(way):
+                payload = part(at, payload)
+            for _ in range(level - 1):
+                payload = part(3, payload)
+            yield part(1, part(4, payload))
+
+
 def encodings():
     """The encoding's own cases: padded varints, the tenth byte, wire types, keys above 32 bits."""
     for pad in range(11):
@@ -161,6 +173,8 @@ def set_commands():
         yield whole(unreadable_nested(levels))
     for count in (1, 300):
         yield whole(deep(count))
+    for level in (1, 15, 16, 17):
+        yield from map(whole, faults_at(level))
     for length in (64, 65):
         yield from map(whole, names(length))
     for length in (255, 256):

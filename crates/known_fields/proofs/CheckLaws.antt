@@ -38,8 +38,8 @@ Below left (Inside k) = 1 ≤ left
 enter-below : (left sort : ℕ) → Below left (enter left sort)
 unfolding enter levels-for
 enter-below left sort =
-    choose-case (Below left) (ltb left (choose (eqb sort 2) 3 1)) (λ _. tt)
-    (λ e. let l : choose (eqb sort 2) 3 1 ≤ left = ltb-false _ _ e in let m : 1 ≤ choose (eqb sort 2) 3 1 = choose-case (λ (x : ℕ). 1 ≤ x) (eqb sort 2) (λ _. omega arith) (λ _. omega arith) in omega arith)
+    choose-case (Below left) (ltb left (choose (eqb sort 2) 4 1)) (λ _. tt)
+    (λ e. let l : choose (eqb sort 2) 4 1 ≤ left = ltb-false _ _ e in let m : 1 ≤ choose (eqb sort 2) 4 1 = choose-case (λ (x : ℕ). 1 ≤ x) (eqb sort 2) (λ _. omega arith) (λ _. omega arith) in omega arith)
 
 judge-below : (class left wiretype : ℕ) (met : Bool) → Below left (judge class left wiretype met)
 unfolding judge

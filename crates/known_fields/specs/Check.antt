@@ -15,10 +15,10 @@ use Rattle.known_fields.specs.declared.Verdict.the-variants.{Pass, Wrong
 use Rattle.known_fields.specs.declared.Checked.{Checked}
 use Rattle.known_fields.specs.declared.Checked.the-variants.{Fault, Fine}
 
--- Levels left below a message: 19 below the set, 18 below a file, 17 below a message at the top, 2 below one at nesting 16, whose fields and their
--- options are read. A message is entered where 3 are left, so nesting ends at 16; anything else where 1 is.
+-- Levels left below a message: 20 below the set, 19 below a file, 18 below a message at the top, 3 below one at nesting 16, of whose enums the
+-- values and their options are read. A message is entered where 4 are left, so nesting ends at 16; anything else where 1 is.
 unfoldable pub levels-for : ℕ → ℕ
-levels-for sort = choose (eqb sort message) 3 1
+levels-for sort = choose (eqb sort message) 4 1
 
 -- an embedded message too deep to be read is judged as a record alone
 unfoldable pub enter : ℕ → ℕ → Verdict
@@ -70,4 +70,4 @@ check zero sort s base = check-from (λ k p b. Fine) zero sort s base 0 none-met
 check (suc n) sort s base = check-from (check n) (suc n) sort s base 0 none-met
 
 unfoldable pub check-set : List ℕ → Checked
-check-set s = check 19 0 s 0
+check-set s = check 20 0 s 0

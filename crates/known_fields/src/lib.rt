@@ -41,7 +41,7 @@ fn levels_for(sort: u8) -> usize
     ensures { λ r. ⌜ r ≡ levels-for sort ⌝ }
 {
     if sort == 2 {
-        return 3;
+        return 4;
     }
     1
 }
@@ -157,5 +157,5 @@ fn check_message(s: &[u8], base: usize, sort: u8, left: usize) -> Checked
 pub fn check_set(s: &[u8]) -> Checked
     ensures { λ r. ⌜ r ≡ check-set (now (s .entry)) ⌝ }
 {
-    check_message(s, 0, 0, 19)
+    check_message(s, 0, 0, 20)
 }
