@@ -1,5 +1,4 @@
 -- The last records of a message lie in it. Assumes nothing.
-use mathlib.Core.Path.{_≡_}
 use mathlib.Core.List.{List, [], _∷_}
 use Prim.Native.Nat.{ℕ, zero, suc, _+_, _-_, _<_, _≤_, _^_}
 use native.Mathlib.Nat.{min-le-right}
@@ -41,13 +40,6 @@ absent-lie len (suc k) (suc n) = absent-lie len k n
 pub latest-lie : (s : List ℕ) → AllLie (length s) (latest-of s)
 unfolding latest-of
 latest-lie s = over-keeps (AllLie (length s)) note s (note-lie (length s)) 0 no-records (absent-lie (length s) 18)
-
--- what a text of a view asks
-pub text-asks : (s : List ℕ) (base n : ℕ) (x : Latest) → x ≡ latest-of s → base + length s < 2 ^ 64 → n < 18
-    → (n < 18) × (record-at x n .start ≤ record-at x n .next) × (base + record-at x n .next < 2 ^ 64)
-text-asks s base n x e room small =
-    let l : Lie (length s) (record-at x n) = rw e (latest-lie s n) in
-    (small, l .from, omega arith)
 
 -- a part of a set has room behind its start
 pub part-room : (s : List ℕ) (a e : ℕ) → a < 2 ^ 64 → length s < 2 ^ 64 → a + length (part s a (e - a)) < 2 ^ 64

@@ -22,7 +22,7 @@ use Rattle.descriptor.specs.Views.{given-at, record-at, length-in, value
 use Rattle.descriptor.specs.Views as view
 use Rattle.descriptor.specs.declared.Latest.{Latest}
 use Rattle.descriptor.proofs.LatestLaws.{Lie, latest-lie}
-use Rattle.descriptor.proofs.ViewLaws.{held, latest-held, merged-held, number-same, bytes-of}
+use Rattle.descriptor.proofs.ViewLaws.{picked, held, latest-held, merged-held, number-same, bytes-of}
 
 -- a part of a part
 drop-take : (x m : ℕ) (l : List ℕ) → drop x (take m l) ≡ take (m - x) (drop x l)
@@ -55,7 +55,7 @@ module _ (set : List ℕ) (base size : ℕ) where
   text-held n false f l = refl
 
   text-is : (n : ℕ) → n < 18 → text-of set (text-at base (latest-of s) n) ≡ text (last n (entries s))
-  unfolding text-at held
+  unfolding text-at picked
   text-is n small =
       text-held n (given-at (latest-of s) n) (record-at (latest-of s) n) (latest-lie s n)
       ∙ latest-held (λ (f : Record). bytes-in (value-of s f)) n small bytes-in s (λ f. refl)
@@ -66,7 +66,7 @@ number-held true v = refl
 number-held false v = refl
 
 number-is : (s : List ℕ) (n : ℕ) → n < 18 → number-of (number-at (latest-of s) n) ≡ int32 (last n (entries s))
-unfolding number-at held
+unfolding number-at picked
 number-is s n small =
     number-held (given-at (latest-of s) n) (value-in (record-at (latest-of s) n) % 2 ^ 32)
     ∙ latest-held (λ (f : Record). value-in f % 2 ^ 32) n small (λ (v : Value). number-in v % 2 ^ 32) s (λ f. ap (λ (k : ℕ). k % 2 ^ 32) (number-same s f))
@@ -82,7 +82,7 @@ truth-is none = refl
 truth-is (some v) = refl
 
 flag-held : (x : Latest) (n : ℕ) → flag-at x n ≡ truth (held value-in x n)
-unfolding flag-at held choose truth
+unfolding flag-at picked choose truth
 flag-held x n = by-given (given-at x n)
   where
     by-given : (b : Bool) → choose b (not (eqb (value-in (record-at x n)) 0)) false ≡ truth (choose b (some (value-in (record-at x n))) none)
@@ -126,7 +126,7 @@ given-there h none = refl
 given-there h (some a) = refl
 
 given-is : (s : List ℕ) (n : ℕ) → n < 18 → given-at (latest-of s) n ≡ any (parts n (entries s))
-unfolding held there choose
+unfolding picked there choose
 given-is s n small =
     by-given (given-at (latest-of s) n) (value-in (record-at (latest-of s) n))
     ∙ ap there (latest-held value-in n small number-in s (number-same s)) ∙ given-there number-in (last n (entries s)) ∙ any-last n (entries s) none

@@ -1,16 +1,15 @@
 // The descriptors of a set: views of its parts, by value. A part is bytes of the set from start to end; a view's texts are
 // places in the set.
 ghost use mathlib.Core.Path.{_≡_};
-ghost use Prim.Native.Nat.{ℕ, _+_, _-_, _<_, _≤_, _^_};
-ghost use lib.ListN.{length, take, drop};
+ghost use Prim.Native.Nat.{_+_, _-_, _<_, _≤_, _^_};
+ghost use lib.ListN.{length};
 ghost use Rattle.wire.specs.Records.{part};
-ghost use mathlib.Core.Bool.{true, false};
-ghost use Rattle.descriptor.specs.Latest.{note, latest, latest-of, no-records, merged};
-ghost use Rattle.descriptor.specs.Views.{given-at, record-at, length-in, value-in, text-at, number-at, flag-at, file-in, message-in, field-in, value-view-in, name-in};
+ghost use Rattle.descriptor.specs.Views.{length-in, value-in, file-in, message-in, field-in, value-view-in, name-in};
+ghost use Rattle.descriptor.specs.Passes.{text-in, number-in, flag-in, fold, flag-step, inside, no-text, no-number, texts-step, no-texts, value-step, no-value, no-field};
 use wire::Record;
 use wire::Step;
 
-// The last record of each field number below 18, where there is one.
+// The last record of each field number below 18, where there is one: what the views are defined by.
 pub struct Latest {
     pub given: [bool; 18],
     pub records: [Record; 18],
@@ -27,6 +26,12 @@ pub struct Text {
 pub struct Number {
     pub given: bool,
     pub value: u32,
+}
+
+// The strings with two field numbers.
+struct Texts {
+    pub first: Text,
+    pub second: Text,
 }
 
 pub struct FileView {
@@ -59,84 +64,6 @@ pub struct ValueView {
     pub deprecated: bool,
 }
 
-fn with_record(x: Latest, f: Record) -> Latest
-    ensures { λ r. ⌜ r ≡ note f x ⌝ }
-{
-    let mut y = x;
-    let number = f.number;
-    if number < 18 {
-        let i = number as usize;
-        y.given[i] = true;
-        y.records[i] = f;
-        return y;
-    }
-    y
-}
-
-// The records of `s` after those of `x`.
-fn latest_from(s: &[u8], x: Latest) -> Latest
-    ensures { λ r. ⌜ r ≡ latest (now (s .entry)) 0 x ⌝ }
-{
-    let mut at: usize = 0;
-    let mut y = x;
-    loop {
-        match wire::read_step(s, at) {
-            Step::End => return y,
-            Step::Fault(_) => return y,
-            Step::Found(f) => {
-                at = f.next;
-                y = with_record(y, f);
-            }
-        }
-    }
-}
-
-fn none_yet() -> Latest
-    ensures { λ r. ⌜ r ≡ no-records ⌝ }
-{
-    let absent = Record {
-        key: 0,
-        number: 0,
-        wiretype: 0,
-        value: 0,
-        start: 0,
-        next: 0,
-    };
-    let given = [false; 18];
-    let records = [absent; 18];
-    Latest { given, records }
-}
-
-// The records of the embedded messages with the number `outer`, joined.
-fn merged_in(s: &[u8], outer: u64) -> Latest
-    ensures { λ r. ⌜ r ≡ merged outer (now (s .entry)) 0 no-records ⌝ }
-{
-    let mut at: usize = 0;
-    let mut y = none_yet();
-    loop {
-        match wire::read_step(s, at) {
-            Step::End => return y,
-            Step::Fault(_) => return y,
-            Step::Found(f) => {
-                let start = f.start;
-                let next = f.next;
-                at = next;
-                if f.number == outer {
-                    if f.wiretype == 2 {
-                        y = latest_from(&s[start..next], y);
-                    }
-                }
-            }
-        }
-    }
-}
-
-fn latest_in(s: &[u8]) -> Latest
-    ensures { λ r. ⌜ r ≡ latest-of (now (s .entry)) ⌝ }
-{
-    latest_from(s, none_yet())
-}
-
 fn read_length(f: Record) -> usize
     requires { ⌜ f .start ≤ f .next ⌝ }
     ensures { λ r. ⌜ r ≡ length-in f ⌝ }
@@ -156,20 +83,9 @@ fn read_value(f: Record) -> u64
     0
 }
 
-fn read_text(base: usize, x: Latest, n: usize) -> Text
-    requires { ⌜ (n < 18) × (record-at x n .start ≤ record-at x n .next) × (base + record-at x n .next < 2 ^ 64) ⌝ }
-    ensures { λ r. ⌜ r ≡ text-at base x n ⌝ }
+fn no_text() -> Text
+    ensures { λ r. ⌜ r ≡ no-text ⌝ }
 {
-    if x.given[n] {
-        let f = x.records[n];
-        let start = base + f.start;
-        let len = read_length(f);
-        return Text {
-            given: true,
-            start,
-            len,
-        };
-    }
     Text {
         given: false,
         start: 0,
@@ -177,42 +93,77 @@ fn read_text(base: usize, x: Latest, n: usize) -> Text
     }
 }
 
-fn read_number(x: Latest, n: usize) -> Number
-    requires { ⌜ n < 18 ⌝ }
-    ensures { λ r. ⌜ r ≡ number-at x n ⌝ }
+fn no_number() -> Number
+    ensures { λ r. ⌜ r ≡ no-number ⌝ }
 {
-    if x.given[n] {
-        let f = x.records[n];
-        let value = read_value(f);
-        let low = value % 4294967296;
-        return Number {
-            given: true,
-            value: low as u32,
-        };
-    }
     Number {
         given: false,
         value: 0,
     }
 }
 
-fn read_flag(x: Latest, n: usize) -> bool
-    requires { ⌜ n < 18 ⌝ }
-    ensures { λ r. ⌜ r ≡ flag-at x n ⌝ }
+fn record_text(base: usize, f: Record) -> Text
+    requires { ⌜ (f .start ≤ f .next) × (base + f .next < 2 ^ 64) ⌝ }
+    ensures { λ r. ⌜ r ≡ text-in base f ⌝ }
 {
-    if x.given[n] {
-        let f = x.records[n];
-        let value = read_value(f);
-        return value != 0;
+    let start = base + f.start;
+    let len = read_length(f);
+    Text {
+        given: true,
+        start,
+        len,
     }
-    false
 }
 
-fn given(x: Latest, n: usize) -> bool
-    requires { ⌜ n < 18 ⌝ }
-    ensures { λ r. ⌜ r ≡ given-at x n ⌝ }
+fn record_number(f: Record) -> Number
+    ensures { λ r. ⌜ r ≡ number-in f ⌝ }
 {
-    x.given[n]
+    let value = read_value(f);
+    let low = value % 4294967296;
+    Number {
+        given: true,
+        value: low as u32,
+    }
+}
+
+fn record_flag(f: Record) -> bool
+    ensures { λ r. ⌜ r ≡ flag-in f ⌝ }
+{
+    let value = read_value(f);
+    value != 0
+}
+
+// The flag `n` of the message `s`; where it has none, what it was.
+fn flag_from(s: &[u8], n: u64, was: bool) -> bool
+    ensures { λ r. ⌜ r ≡ fold (flag-step n) (now (s .entry)) 0 was ⌝ }
+{
+    let mut at: usize = 0;
+    let mut flag = was;
+    loop {
+        match wire::read_step(s, at) {
+            Step::End => return flag,
+            Step::Fault(_) => return flag,
+            Step::Found(f) => {
+                at = f.next;
+                if f.number == n {
+                    flag = record_flag(f);
+                }
+            }
+        }
+    }
+}
+
+// The flag `n` after the embedded message that the record is.
+fn flag_inside(s: &[u8], f: Record, n: u64, was: bool) -> bool
+    requires { ⌜ (f .start ≤ f .next) × (f .next ≤ length (now s)) ⌝ }
+    ensures { λ r. ⌜ r ≡ inside n (now (s .entry)) f was ⌝ }
+{
+    if f.wiretype == 2 {
+        let start = f.start;
+        let next = f.next;
+        return flag_from(&s[start..next], n, was);
+    }
+    was
 }
 
 // The bytes of a part.
@@ -231,40 +182,86 @@ pub fn part_of(set: &[u8], start: usize, end: usize) -> &[u8]
     &set[start..end]
 }
 
-fn read_file(s: &[u8], base: usize) -> FileView
-    requires { ⌜ base + length (now s) < 2 ^ 64 ⌝ }
-    ensures { λ r. ⌜ r ≡ file-in base (now (s .entry)) ⌝ }
+// The strings with the field numbers `m` and `n`.
+fn read_texts(s: &[u8], base: usize, m: u64, n: u64) -> Texts
+    requires { ⌜ (base + length (now s) < 2 ^ 64) × (m < n) ⌝ }
+    ensures { λ r. ⌜ r ≡ fold (texts-step base m n) (now (s .entry)) 0 no-texts ⌝ }
 {
-    let x = latest_in(s);
-    let package = read_text(base, x, 2);
-    let syntax = read_text(base, x, 12);
-    FileView { package, syntax }
+    let mut at: usize = 0;
+    let mut first = no_text();
+    let mut second = no_text();
+    loop {
+        match wire::read_step(s, at) {
+            Step::End => return Texts { first, second },
+            Step::Fault(_) => return Texts { first, second },
+            Step::Found(f) => {
+                at = f.next;
+                let number = f.number;
+                if number == m {
+                    first = record_text(base, f);
+                } else if number == n {
+                    second = record_text(base, f);
+                }
+            }
+        }
+    }
 }
 
-fn read_message(s: &[u8], base: usize) -> MessageView
-    requires { ⌜ base + length (now s) < 2 ^ 64 ⌝ }
-    ensures { λ r. ⌜ r ≡ message-in base (now (s .entry)) ⌝ }
+fn no_value() -> ValueView
+    ensures { λ r. ⌜ r ≡ no-value ⌝ }
 {
-    let x = latest_in(s);
-    let options = merged_in(s, 7);
-    let name = read_text(base, x, 1);
-    let entry = read_flag(options, 7);
-    MessageView { name, entry }
-}
-
-fn read_value_view(s: &[u8], base: usize) -> ValueView
-    requires { ⌜ base + length (now s) < 2 ^ 64 ⌝ }
-    ensures { λ r. ⌜ r ≡ value-view-in base (now (s .entry)) ⌝ }
-{
-    let x = latest_in(s);
-    let options = merged_in(s, 3);
-    let name = read_text(base, x, 1);
-    let number = read_number(x, 2);
-    let deprecated = read_flag(options, 1);
+    let name = no_text();
+    let number = no_number();
     ValueView {
         name,
         number,
-        deprecated,
+        deprecated: false,
+    }
+}
+
+// A name, a number, and the flag `n` of the options, which have the field number `outer`.
+fn read_value_view(s: &[u8], base: usize, outer: u64, n: u64) -> ValueView
+    requires { ⌜ (base + length (now s) < 2 ^ 64) × (2 < outer) ⌝ }
+    ensures { λ r. ⌜ r ≡ fold (value-step base (now (s .entry)) outer n) (now (s .entry)) 0 no-value ⌝ }
+{
+    let mut at: usize = 0;
+    let mut v = no_value();
+    loop {
+        match wire::read_step(s, at) {
+            Step::End => return v,
+            Step::Fault(_) => return v,
+            Step::Found(f) => {
+                at = f.next;
+                let number = f.number;
+                if number == 1 {
+                    v.name = record_text(base, f);
+                } else if number == 2 {
+                    v.number = record_number(f);
+                } else if number == outer {
+                    v.deprecated = flag_inside(s, f, n, v.deprecated);
+                }
+            }
+        }
+    }
+}
+
+fn no_field() -> FieldView
+    ensures { λ r. ⌜ r ≡ no-field ⌝ }
+{
+    let text = no_text();
+    let number = no_number();
+    FieldView {
+        name: text,
+        number,
+        label: number,
+        kind: number,
+        typename: text,
+        default: text,
+        options: false,
+        packed: false,
+        deprecated: false,
+        oneof: number,
+        optional: false,
     }
 }
 
@@ -272,52 +269,57 @@ fn read_field(s: &[u8], base: usize) -> FieldView
     requires { ⌜ base + length (now s) < 2 ^ 64 ⌝ }
     ensures { λ r. ⌜ r ≡ field-in base (now (s .entry)) ⌝ }
 {
-    let x = latest_in(s);
-    let inside = merged_in(s, 8);
-    let name = read_text(base, x, 1);
-    let number = read_number(x, 3);
-    let label = read_number(x, 4);
-    let kind = read_number(x, 5);
-    let typename = read_text(base, x, 6);
-    let default = read_text(base, x, 7);
-    let options = given(x, 8);
-    let packed = read_flag(inside, 2);
-    let deprecated = read_flag(inside, 3);
-    let oneof = read_number(x, 9);
-    let optional = read_flag(x, 17);
-    FieldView {
-        name,
-        number,
-        label,
-        kind,
-        typename,
-        default,
-        options,
-        packed,
-        deprecated,
-        oneof,
-        optional,
+    let mut at: usize = 0;
+    let mut v = no_field();
+    loop {
+        match wire::read_step(s, at) {
+            Step::End => return v,
+            Step::Fault(_) => return v,
+            Step::Found(f) => {
+                at = f.next;
+                let number = f.number;
+                if number == 1 {
+                    v.name = record_text(base, f);
+                } else if number == 3 {
+                    v.number = record_number(f);
+                } else if number == 4 {
+                    v.label = record_number(f);
+                } else if number == 5 {
+                    v.kind = record_number(f);
+                } else if number == 6 {
+                    v.typename = record_text(base, f);
+                } else if number == 7 {
+                    v.default = record_text(base, f);
+                } else if number == 8 {
+                    v.options = true;
+                    v.packed = flag_inside(s, f, 2, v.packed);
+                    v.deprecated = flag_inside(s, f, 3, v.deprecated);
+                } else if number == 9 {
+                    v.oneof = record_number(f);
+                } else if number == 17 {
+                    v.optional = record_flag(f);
+                }
+            }
+        }
     }
-}
-
-fn read_name(s: &[u8], base: usize) -> Text
-    requires { ⌜ base + length (now s) < 2 ^ 64 ⌝ }
-    ensures { λ r. ⌜ r ≡ name-in base (now (s .entry)) ⌝ }
-{
-    let x = latest_in(s);
-    read_text(base, x, 1)
 }
 
 pub fn file_view(set: &[u8], start: usize, end: usize) -> FileView
     ensures { λ r. ⌜ r ≡ file-in start (part (now (set .entry)) start (end - start)) ⌝ }
 {
-    read_file(part_of(set, start, end), start)
+    let t = read_texts(part_of(set, start, end), start, 2, 12);
+    let package = t.first;
+    let syntax = t.second;
+    FileView { package, syntax }
 }
 
 pub fn message_view(set: &[u8], start: usize, end: usize) -> MessageView
     ensures { λ r. ⌜ r ≡ message-in start (part (now (set .entry)) start (end - start)) ⌝ }
 {
-    read_message(part_of(set, start, end), start)
+    let v = read_value_view(part_of(set, start, end), start, 7, 7);
+    let name = v.name;
+    let entry = v.deprecated;
+    MessageView { name, entry }
 }
 
 pub fn field_view(set: &[u8], start: usize, end: usize) -> FieldView
@@ -329,12 +331,12 @@ pub fn field_view(set: &[u8], start: usize, end: usize) -> FieldView
 pub fn value_view(set: &[u8], start: usize, end: usize) -> ValueView
     ensures { λ r. ⌜ r ≡ value-view-in start (part (now (set .entry)) start (end - start)) ⌝ }
 {
-    read_value_view(part_of(set, start, end), start)
+    read_value_view(part_of(set, start, end), start, 3, 1)
 }
 
-// The name of a oneof or an enum.
+// The name of a oneof or an enum. No record has field number 0.
 pub fn name_view(set: &[u8], start: usize, end: usize) -> Text
     ensures { λ r. ⌜ r ≡ name-in start (part (now (set .entry)) start (end - start)) ⌝ }
 {
-    read_name(part_of(set, start, end), start)
+    read_texts(part_of(set, start, end), start, 0, 1).second
 }

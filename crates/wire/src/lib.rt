@@ -71,10 +71,18 @@ fn read_groups(s: &[u8], at: usize, left: usize) -> Varint
     }
 }
 
-// The varint at `at`.
+// The varint at `at`. Most have one byte.
 pub fn read_varint(s: &[u8], at: usize) -> Varint
     ensures { λ r. ⌜ r ≡ varint (now (s .entry)) at ⌝ }
 {
+    if s.len() <= at {
+        return Varint::Fault;
+    }
+    let b = wide(s[at]);
+    if b < 128 {
+        let end = at + 1;
+        return Varint::Value(b, end);
+    }
     read_groups(s, at, 10)
 }
 

@@ -1,35 +1,100 @@
-use Rattle.descriptor.specs.Views.{value-view-in}
-use Rattle.descriptor.proofs.LatestLaws.{text-asks}
+use Rattle.wire.proofs.RecordsLaws.{passes, places, whole}
 use borrow.Author.Needs.{needs}
+use lib.ListN.{length}
+use Prim.Native.Nat.{_-_}
+use mathlib.Core.Path.{_≡_}
+use Rattle.descriptor.specs.Passes.{fold, value-step, no-value}
+use Rattle.descriptor.proofs.PassLaws.{goes-on, value-name, value-number, value-option, value-skips}
+use Rattle.wire.proofs.StepLaws.{lies}
+use native.Mathlib.Omega.{arith}
 use Rattle.descriptor.proofs.read_value_view.Statement.{statement}
 use Rattle.descriptor.proofs.read_value_view.Tie as tie
 
-latest-in-requires : tie.Need-latest-in-requires
-latest-in-requires c κs = search needs
+abbrev Inv-loop : tie.InvT-loop
+Inv-loop s base outer n at₀ v₀ at v = fold (value-step base s outer n) s at v ≡ fold (value-step base s outer n) s 0 no-value
 
-merged-in-requires : tie.Need-merged-in-requires
-merged-in-requires c κs = search needs
+abbrev μ-loop : tie.MeasureT-loop
+μ-loop s base outer n at₀ v₀ at v = length s - at
 
-read-text-requires : tie.Need-read-text-requires
-read-text-requires c κs = text-asks _ _ _ _ (c .before .latest-in .ensures) (c .before .before .before .pre) (search needs)
+no-value-requires : tie.Need-no-value-requires Inv-loop μ-loop
+no-value-requires c κs = search needs
 
-read-number-requires : tie.Need-read-number-requires
-read-number-requires c κs = search needs
+loop-holds : tie.Need-loop-holds Inv-loop μ-loop
+loop-holds c = rw (c .no-value .ensures)
 
-read-flag-requires : tie.Need-read-flag-requires
-read-flag-requires c κs = search needs
+read-step-requires : tie.Need-read-step-requires Inv-loop μ-loop
+read-step-requires c κs = search needs
 
-returns : tie.Need-returns
-unfolding value-view-in
-returns c = cc
+enum-told : tie.Need-enum-told Inv-loop μ-loop
+enum-told c = search needs
+
+returns : tie.Need-returns Inv-loop μ-loop
+returns c = whole (c .before .before .before .loop .inv) (search (passes, c .enum-told .given .1, c .before .before .read-step .ensures) depth 16)
+
+enum-told-2 : tie.Need-enum-told-2 Inv-loop μ-loop
+enum-told-2 c = search needs
+
+returns-2 : tie.Need-returns-2 Inv-loop μ-loop
+returns-2 c = whole (c .before .before .before .loop .inv) (search (passes, c .enum-told2 .given .1, c .before .before .read-step .ensures) depth 16)
+
+enum-known-f : tie.Need-enum-known-f Inv-loop μ-loop
+enum-known-f c = search needs
+
+record-text-requires : tie.Need-record-text-requires Inv-loop μ-loop
+record-text-requires c κs = let l = lies _ _ _ _ (c .before .before .before .before .read-step .ensures) (c .before .before .f .given .1) in (l .from, omega arith)
+
+loop-less : tie.Need-loop-less Inv-loop μ-loop
+loop-less c = search places
+
+loop-again : tie.Need-loop-again Inv-loop μ-loop
+loop-again c = goes-on _ _ _ _ _ _ _ _ (c .before .before .before .before .before .read-step .ensures) (c .before .before .before .f .given .1) (rw (c .record-text .ensures) (value-name _ _ _ _ (c .before .before .before .before .before .before .before .before .before .pre .1) _ _ (c .before .if1 .taken))) (c .before .before .before .before .before .before .loop .inv)
+
+record-number-requires : tie.Need-record-number-requires Inv-loop μ-loop
+record-number-requires c κs = search needs
+
+loop-less-2 : tie.Need-loop-less-2 Inv-loop μ-loop
+loop-less-2 c = search places
+
+loop-again-2 : tie.Need-loop-again-2 Inv-loop μ-loop
+loop-again-2 c = goes-on _ _ _ _ _ _ _ _ (c .before .before .before .before .before .before .read-step .ensures) (c .before .before .before .before .f .given .1) (rw (c .record-number .ensures) (value-number _ _ _ _ (c .before .before .before .before .before .before .before .before .before .before .pre .1) _ _ (c .before .if2 .taken))) (c .before .before .before .before .before .before .before .loop .inv)
+
+flag-inside-requires : tie.Need-flag-inside-requires Inv-loop μ-loop
+flag-inside-requires c κs = let l = lies _ _ _ _ (c .before .before .before .before .before .before .read-step .ensures) (c .before .before .before .before .f .given .1) in (l .from, l .to)
+
+loop-less-3 : tie.Need-loop-less-3 Inv-loop μ-loop
+loop-less-3 c = search places
+
+loop-again-3 : tie.Need-loop-again-3 Inv-loop μ-loop
+loop-again-3 c = goes-on _ _ _ _ _ _ _ _ (c .before .before .before .before .before .before .before .read-step .ensures) (c .before .before .before .before .before .f .given .1) (rw (c .flag-inside .ensures) (value-option _ _ _ _ (c .before .before .before .before .before .before .before .before .before .before .before .pre .1) _ _ (c .before .if3 .taken))) (c .before .before .before .before .before .before .before .before .loop .inv)
+
+loop-less-4 : tie.Need-loop-less-4 Inv-loop μ-loop
+loop-less-4 c = search places
+
+loop-again-4 : tie.Need-loop-again-4 Inv-loop μ-loop
+loop-again-4 c = goes-on _ _ _ _ _ _ _ _ (c .before .before .before .before .before .before .read-step .ensures) (c .before .before .before .before .f .given .1) (value-skips _ _ _ _ (c .before .before .before .before .before .before .before .before .before .before .pre .1) _ _ (c .before .before .if1 .left) (c .before .if2 .left) (c .if3 .left)) (c .before .before .before .before .before .before .before .loop .inv)
 
 pub read-value-view-spec : {M : Type 1} → statement M
 read-value-view-spec =
     tie.close
     (tie.spec
-    latest-in-requires
-    merged-in-requires
-    read-text-requires
-    read-number-requires
-    read-flag-requires
-    returns)
+    Inv-loop
+    μ-loop
+    no-value-requires
+    loop-holds
+    read-step-requires
+    enum-told
+    returns
+    enum-told-2
+    returns-2
+    enum-known-f
+    record-text-requires
+    loop-less
+    loop-again
+    record-number-requires
+    loop-less-2
+    loop-again-2
+    flag-inside-requires
+    loop-less-3
+    loop-again-3
+    loop-less-4
+    loop-again-4)
