@@ -1,3 +1,4 @@
 pub mod WalkLaws
 pub mod EnumLaws
 pub mod OverlapLaws
+pub mod SumLaws

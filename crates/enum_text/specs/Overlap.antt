@@ -7,6 +7,7 @@ use lib.Dec.{leb}
 use lib.ListN.{length}
 use Rattle.base.specs.Choose.{choose}
 use Rattle.base.specs.Lists.{all}
+use Rattle.checksums.specs.Sums.{sum-of}
 use Rattle.descriptor.specs.Descriptor.{Bytes, ValueDescriptor, EnumDescriptor}
 use Rattle.wire.specs.Records.{records}
 use Rattle.descriptor.specs.Decode.{entries-of, parts, decode-value}
@@ -36,6 +37,10 @@ module _ (rs : List Setting) (enum : Bytes) where
   -- where a value is kept and its name has room, what is asked of the name
   unfoldable pub asked : Bool → (Bytes → Bool) → ValueDescriptor → Bool
   asked kept p v = kept && (has-room v && p (variant-name v))
+
+  -- the checksum of a name, where the value is kept and the name has room
+  unfoldable pub value-sums : Bool → ValueDescriptor → List ℕ
+  value-sums kept v = choose (kept && has-room v) (sum-of (variant-name v) ∷ []) []
 
   -- the names of the values in s from a record on; the first value's mark is mark i
   abbrev pub names-from : List Bool → ℕ → Bytes → ℕ → List Bytes

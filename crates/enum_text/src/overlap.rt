@@ -4,9 +4,12 @@ use enum_values::is_marked;
 use enum_values::put_variant_name;
 use wire::Step;
 ghost use mathlib.Core.Path.{_≡_};
-ghost use Prim.Native.Nat.{_≤_};
+ghost use mathlib.Core.List.{List, _++_, map};
+ghost use Prim.Native.Nat.{ℕ, _≤_};
 ghost use lib.ListN.{length};
 ghost use Rattle.base.specs.Bytes.{same};
+ghost use Rattle.checksums.specs.Sums.{sum-of};
+ghost use Rattle.checksums.specs.SumLaws.{Stored};
 ghost use Rattle.writer.specs.Wrote.{Wrote};
 ghost use Rattle.options.specs.Settings.{settings};
 ghost use Rattle.path.specs.Forms.{among};
@@ -14,7 +17,7 @@ ghost use Rattle.descriptor.specs.Descriptor.{Bytes};
 ghost use Rattle.descriptor.specs.Decode.{decode-value, decode-enum};
 ghost use Rattle.code_generator.specs.Refusals.{overlap};
 ghost use Rattle.enum_values.specs.Kept.{marked-in};
-ghost use Rattle.enum_text.specs.Overlap.{variant-name, asked, names, names-from, enum-meets};
+ghost use Rattle.enum_text.specs.Overlap.{variant-name, asked, names, names-from, value-sums, enum-meets};
 
 // The variant's name of the value whose part p is.
 fn put_name(t: &mut [u8], o: &[u8], own: &[u8], p: &[u8]) -> usize
@@ -134,6 +137,61 @@ fn meets(s: &[u8], marks: &[bool], o: &[u8], own: &[u8]) -> bool
     }
 }
 
+// The checksum of the name of the value whose part p is, behind n that a table has: only where it is kept.
+fn put_sum_of(sums: &mut [u64], n: usize, p: &[u8], kept: bool, o: &[u8], own: &[u8]) -> usize
+    ensures { λ r. ⌜ ((l : List ℕ) → Stored (now (sums .entry)) n l → Stored (now (sums .exit)) r (l ++ value-sums (settings (now (o .entry))) (now (own .entry)) kept (decode-value (now (p .entry))))) ⌝ }
+{
+    if !kept {
+        return n;
+    }
+    let mut name = [0u8; 512];
+    let size = put_name(&mut name, o, own, p);
+    if size <= 512 {
+        let x = checksums::checksum(&name[0..size]);
+        return checksums::put_sum(sums, n, x);
+    }
+    n
+}
+
+// The checksums of the names of the values with a mark; and how many they are.
+fn put_sums(sums: &mut [u64], s: &[u8], marks: &[bool], o: &[u8], own: &[u8]) -> usize
+    ensures { λ r. ⌜ Stored (now (sums .exit)) r (map sum-of (names (settings (now (o .entry))) (now (own .entry)) (marked-in (now (marks .entry)) (now (s .entry))))) ⌝ }
+{
+    let mut n: usize = 0;
+    let mut place: usize = 0;
+    let mut i: usize = 0;
+    loop {
+        match wire::read_step(s, place) {
+            Step::End => return n,
+            Step::Fault(_) => return n,
+            Step::Found(f) => {
+                place = f.next;
+                if f.number == 2 {
+                    let kept = is_marked(marks, i);
+                    i = i + 1;
+                    n = put_sum_of(sums, n, parts::embedded(s, f), kept, o, own);
+                }
+            }
+        }
+    }
+}
+
+// Have two values with a mark the same name? Not where no checksum comes twice.
+fn overlaps(s: &[u8], marks: &[bool], o: &[u8], own: &[u8]) -> bool
+    ensures { λ r. ⌜ r ≡ overlap (names (settings (now (o .entry))) (now (own .entry)) (marked-in (now (marks .entry)) (now (s .entry)))) ⌝ }
+{
+    let mut sums = [0u64; 256];
+    let n = put_sums(&mut sums, s, marks, o, own);
+    if 256 < n {
+        return meets(s, marks, o, own);
+    }
+    let again = checksums::repeats(&sums[0..n]);
+    if again {
+        return meets(s, marks, o, own);
+    }
+    false
+}
+
 // Do variants overlap in the enum whose part s is?
 pub fn enum_overlaps(s: &[u8], o: &[u8], scope: &[u8]) -> bool
     ensures { λ r. ⌜ r ≡ enum-meets (settings (now (o .entry))) (now (scope .entry)) (decode-enum (now (s .entry))) ⌝ }
@@ -150,7 +208,7 @@ pub fn enum_overlaps(s: &[u8], o: &[u8], scope: &[u8]) -> bool
         }
         let x = build_enum_value_mappings(s);
         let marks = x.marks;
-        return meets(s, &marks, o, own);
+        return overlaps(s, &marks, o, own);
     }
     false
 }

@@ -2,12 +2,13 @@
 use Prim.Native.Nat.{ℕ, zero, suc, _-_}
 use mathlib.Core.Bool.{Bool, true, false, _||_, _&&_, not}
 use mathlib.Core.Option.{Option, none}
-use mathlib.Core.List.{List, [], _∷_, map}
+use mathlib.Core.List.{List, [], _∷_, _++_, map}
 use lib.Dec.{eqb}
 use lib.ListN.{length, take}
 use Rattle.base.specs.Bytes.{same}
 use Rattle.base.specs.Choose.{choose}
 use Rattle.base.specs.Lists.{all, any}
+use Rattle.checksums.specs.Sums.{sum-of}
 use Rattle.wire.specs.Records.{part}
 use Rattle.ident.specs.Ident.{to-upper-camel}
 use Rattle.descriptor.specs.Descriptor.{Bytes, FieldDescriptor}
@@ -71,3 +72,10 @@ meets-part name q = same (cut-camel (name-in q)) (cut-camel name)
 unfoldable pub conflict : Bool → Bytes → Bytes → Bool
 conflict deeper p name =
     (deeper && any (meets-part name) (parts 3 (entries p))) || any (meets-part name) (parts 4 (entries p))
+
+-- ---- the checksums of the camel names that a oneof's name can meet
+unfoldable pub part-sums : ℕ → Bytes → List ℕ
+part-sums number p = map (λ (q : Bytes). sum-of (cut-camel (name-in q))) (parts number (entries p))
+
+unfoldable pub camel-sums : Bool → Bytes → List ℕ
+camel-sums deeper p = choose deeper (part-sums 3 p) [] ++ part-sums 4 p

@@ -1,11 +1,14 @@
 // The fields of a message by their numbers in the table of fields: those of a oneof, and those of none.
 ghost use mathlib.Core.Path.{_≡_};
 ghost use mathlib.Core.Bool.{_&&_, _||_, not};
-ghost use Prim.Native.Nat.{_+_, _-_, _≤_};
+ghost use mathlib.Core.List.{List, _++_};
+ghost use Prim.Native.Nat.{ℕ, _+_, _-_, _≤_};
 ghost use lib.Dec.{eqb};
 ghost use lib.ListN.{length, take};
 ghost use Rattle.base.specs.Bytes.{same};
 ghost use Rattle.base.specs.Lists.{is-empty, any};
+ghost use Rattle.checksums.specs.Sums.{sum-of};
+ghost use Rattle.checksums.specs.SumLaws.{Stored};
 ghost use Rattle.ident.specs.Ident.{to-upper-camel};
 ghost use Rattle.descriptor.specs.Descriptor.{Bytes};
 ghost use Rattle.descriptor.specs.Decode.{entries, parts, decode-message};
@@ -13,12 +16,15 @@ ghost use Rattle.descriptor.specs.Views.{field-of};
 ghost use Rattle.options.specs.Settings.{settings};
 ghost use Rattle.context.specs.Context.{has};
 ghost use Rattle.joined.specs.Joined.{_⊙_};
-ghost use Rattle.text_tables.specs.Rows.{message-row};
+ghost use Rattle.text_tables.specs.Rows.{message-row, field-row};
 ghost use Rattle.code_generator.specs.Attributes.{deprecated};
-ghost use Rattle.members.specs.Members.{name-in, field-at, boxed-at, numbers-with, in-oneofs, all-copy, all-eq, cut-camel, conflict};
+ghost use Rattle.members.specs.Members.{name-in, field-at, boxed-at, numbers-with, in-oneofs, all-copy, all-eq, cut-camel, conflict, part-sums, camel-sums};
 use descriptor::FieldView;
 use joined::MAX_PATH;
 use wire::Step;
+
+// More than the messages and enums that a message can hold (limits 3 and 5).
+pub const NAMES: usize = 512;
 
 // The numbers of a message's fields: from `first` on, below `last`.
 pub struct Range {
@@ -86,8 +92,8 @@ pub fn has_members(t: &[u16], c: usize, first: usize, last: usize) -> bool
 {
     let mut k = first;
     while k < last {
-        let row = text_tables::field_row(t, k);
-        if row.oneof == c {
+        let which = text_tables::oneof_at(t, k);
+        if which == c {
             return true;
         }
         k += 1;
@@ -101,8 +107,8 @@ pub fn in_oneofs(t: &[u16], first: usize, last: usize) -> bool
 {
     let mut k = first;
     while k < last {
-        let row = text_tables::field_row(t, k);
-        if row.oneof != 0 {
+        let oneof = text_tables::oneof_at(t, k);
+        if oneof != 0 {
             return true;
         }
         k += 1;
@@ -110,12 +116,24 @@ pub fn in_oneofs(t: &[u16], first: usize, last: usize) -> bool
     false
 }
 
-// Is it a field of the oneof c that can't derive something?
-fn denies(oneof: usize, c: usize, can: bool) -> bool
-    ensures { λ r. ⌜ r ≡ (eqb oneof c && not can) ⌝ }
+// Is field k of the oneof c, and can't derive Copy?
+fn denies_copy(t: &[u16], c: usize, k: usize) -> bool
+    ensures { λ r. ⌜ r ≡ (eqb (field-row (now (t .entry)) k .oneof) c && not (field-row (now (t .entry)) k .copy)) ⌝ }
 {
-    if oneof == c {
-        return !can;
+    if text_tables::oneof_at(t, k) == c {
+        let row = text_tables::field_row(t, k);
+        return !row.copy;
+    }
+    false
+}
+
+// The same for Eq.
+fn denies_eq(t: &[u16], c: usize, k: usize) -> bool
+    ensures { λ r. ⌜ r ≡ (eqb (field-row (now (t .entry)) k .oneof) c && not (field-row (now (t .entry)) k .eq)) ⌝ }
+{
+    if text_tables::oneof_at(t, k) == c {
+        let row = text_tables::field_row(t, k);
+        return !row.eq;
     }
     false
 }
@@ -126,8 +144,7 @@ pub fn all_copy(t: &[u16], c: usize, first: usize, last: usize) -> bool
 {
     let mut k = first;
     while k < last {
-        let row = text_tables::field_row(t, k);
-        let denied = denies(row.oneof, c, row.copy);
+        let denied = denies_copy(t, c, k);
         if denied {
             return false;
         }
@@ -142,8 +159,7 @@ pub fn all_eq(t: &[u16], c: usize, first: usize, last: usize) -> bool
 {
     let mut k = first;
     while k < last {
-        let row = text_tables::field_row(t, k);
-        let denied = denies(row.oneof, c, row.eq);
+        let denied = denies_eq(t, c, k);
         if denied {
             return false;
         }
@@ -222,4 +238,60 @@ pub fn conflict(p: &[u8], deeper: bool, name: &[u8]) -> bool
     let mut camel = [0u8; MAX_PATH];
     let n = camel_in(&mut camel, name);
     conflicts(p, deeper, &camel[0..n])
+}
+
+// The checksum of a camel name.
+fn camel_sum(name: &[u8]) -> u64
+    ensures { λ r. ⌜ r ≡ sum-of (cut-camel (now (name .entry))) ⌝ }
+{
+    let mut camel = [0u8; MAX_PATH];
+    let n = camel_in(&mut camel, name);
+    checksums::checksum(&camel[0..n])
+}
+
+// Those of the declarations with the field number in a message, behind n checksums that a table has.
+fn put_sums(sums: &mut [u64], n: usize, p: &[u8], number: u64) -> usize
+    ensures { λ r. ⌜ ((l : List ℕ) → Stored (now (sums .entry)) n l → Stored (now (sums .exit)) r (l ++ part-sums number (now (p .entry)))) ⌝ }
+{
+    let mut m = n;
+    let mut at: usize = 0;
+    loop {
+        match wire::read_step(p, at) {
+            Step::End => return m,
+            Step::Fault(_) => return m,
+            Step::Found(f) => {
+                at = f.next;
+                if f.number == number {
+                    let q = parts::embedded(p, f);
+                    let x = camel_sum(joined::name_of(q));
+                    m = checksums::put_sum(sums, m, x);
+                }
+            }
+        }
+    }
+}
+
+// The checksums of all camel names that a oneof's name can meet in the message whose part p is; and how many they are.
+pub fn camel_sums(sums: &mut [u64], deeper: bool, p: &[u8]) -> usize
+    ensures { λ r. ⌜ Stored (now (sums .exit)) r (camel-sums deeper (now (p .entry))) ⌝ }
+{
+    if deeper {
+        let n = put_sums(sums, 0, p, 3);
+        return put_sums(sums, n, p, 4);
+    }
+    put_sums(sums, 0, p, 4)
+}
+
+// `conflict`, given those checksums: a name whose checksum is none of them meets no name.
+pub fn conflict_by(sums: &[u64], n: usize, p: &[u8], deeper: bool, name: &[u8]) -> bool
+    ensures { λ r. ⌜ (Stored (now (sums .entry)) n (camel-sums deeper (now (p .entry))) → r ≡ conflict deeper (now (p .entry)) (now (name .entry))) ⌝ }
+{
+    if sums.len() < n {
+        return conflict(p, deeper, name);
+    }
+    let some = checksums::holds(&sums[0..n], camel_sum(name));
+    if some {
+        return conflict(p, deeper, name);
+    }
+    false
 }

@@ -7,11 +7,13 @@ ghost use Rattle.writer.specs.Wrote.{Wrote};
 ghost use Rattle.writer.specs.Text.{pick};
 ghost use Rattle.writer.specs.Decimal.{decimal};
 ghost use Rattle.options.specs.Settings.{settings};
-ghost use Rattle.members.specs.Members.{name-in, field-at, numbers-with, conflict};
+ghost use Rattle.checksums.specs.SumLaws.{Stored};
+ghost use Rattle.members.specs.Members.{name-in, field-at, numbers-with, conflict, camel-sums};
 ghost use Rattle.code_generator.specs.Piece.{flat};
 ghost use Rattle.code_generator.specs.Oneofs.{tags, oneof-path, oneof-tag, oneof-line};
 ghost use Rattle.oneof_fields.specs.OneofFields.{oneof-field-text, oneof-field-texts};
 ghost use Rattle.oneof_fields.specs.Named.{oneof-with, oneof-named};
+use members::NAMES;
 use wire::Step;
 
 // The number of a field, behind `, ` where there are more before it.
@@ -38,10 +40,10 @@ fn tags(
     let mut more = false;
     let mut k = first;
     while k < last {
-        let row = text_tables::field_row(fields, k);
+        let which = text_tables::oneof_at(fields, k);
         let this = k;
         k = k + 1;
-        if row.oneof == c {
+        if which == c {
             let f = members::field_at(set, fields, this);
             let number = accessors::number(set, f);
             a = put_tag(t, a, more, number);
@@ -127,7 +129,7 @@ fn append_oneof_field(
     oneof_line(t, a, d, message, name, conflict)
 }
 
-// The field for the oneof c, whose part q is, of the message whose part p is: one left without fields is left out.
+// The field for the oneof c, whose part q is, of the message whose part p is, given the checksums of the names there: one left without fields is left out.
 fn put_oneof(
     t: &mut [u8],
     at: usize,
@@ -136,6 +138,8 @@ fn put_oneof(
     fields: &[u16],
     d: usize,
     full: &[u8],
+    sums: &[u64],
+    n: usize,
     deeper: bool,
     p: &[u8],
     q: &[u8],
@@ -143,13 +147,14 @@ fn put_oneof(
     first: usize,
     last: usize,
 ) -> usize
+    requires { ⌜ Stored (now sums) n (camel-sums deeper (now p)) ⌝ }
     ensures { λ r. ⌜ ((messages : List ℕ) → Wrote (now (t .entry)) at (pick (is-empty (numbers-with (now (fields .entry)) c (last - first) first)) [] (flat (oneof-field-text (settings (now (o .entry))) (now (set .entry)) messages (now (fields .entry)) d (now (full .entry)) (name-in (now (p .entry))) (name-in (now (q .entry))) (conflict deeper (now (p .entry)) (name-in (now (q .entry)))) (numbers-with (now (fields .entry)) c (last - first) first)))) (now (t .exit)) r) ⌝ }
 {
     let some = members::has_members(fields, c, first, last);
     if some {
         let message = joined::name_of(p);
         let name = joined::name_of(q);
-        let meets = members::conflict(p, deeper, name);
+        let meets = members::conflict_by(sums, n, p, deeper, name);
         return append_oneof_field(
             t,
             at,
@@ -188,6 +193,8 @@ pub fn append_oneof_fields(
     let range = members::fields_of(messages, i, p);
     let first = range.first;
     let last = range.last;
+    let mut sums = [0u64; NAMES];
+    let n = members::camel_sums(&mut sums, deeper, p);
     let mut a = at;
     let mut x: usize = 0;
     let mut place: usize = 0;
@@ -200,7 +207,23 @@ pub fn append_oneof_fields(
                 if f.number == 8 {
                     let q = parts::embedded(p, f);
                     x = x + 1;
-                    a = put_oneof(t, a, o, set, fields, d, full, deeper, p, q, x, first, last);
+                    a = put_oneof(
+                        t,
+                        a,
+                        o,
+                        set,
+                        fields,
+                        d,
+                        full,
+                        &sums,
+                        n,
+                        deeper,
+                        p,
+                        q,
+                        x,
+                        first,
+                        last,
+                    );
                 }
             }
         }

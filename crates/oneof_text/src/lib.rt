@@ -7,12 +7,14 @@ ghost use Rattle.base.specs.Lists.{is-empty};
 ghost use Rattle.writer.specs.Wrote.{Wrote};
 ghost use Rattle.writer.specs.Text.{pick};
 ghost use Rattle.options.specs.Settings.{settings};
-ghost use Rattle.members.specs.Members.{name-in, numbers-with, all-copy, all-eq, conflict};
+ghost use Rattle.checksums.specs.SumLaws.{Stored};
+ghost use Rattle.members.specs.Members.{name-in, numbers-with, all-copy, all-eq, conflict, camel-sums};
 ghost use Rattle.variants.specs.Variants.{variant-texts};
 ghost use Rattle.code_generator.specs.Piece.{_⟫_, piece, decl-open, choice, oneof-type, lit, flat};
 ghost use Rattle.code_generator.specs.Attributes.{line, end, derive, append-type-attributes, append-enum-attributes, append-prost-path-attribute, append-skip-debug};
 ghost use Rattle.oneof_text.specs.OneofText.{oneof-text, oneof-texts};
 use joined::MAX_PATH;
+use members::NAMES;
 use wire::Step;
 
 fn wide(d: u32) -> usize
@@ -118,7 +120,7 @@ pub fn append_oneof(
     )
 }
 
-// The oneof whose part q is, of the message whose part p is: one left without fields is left out.
+// The oneof whose part q is, of the message whose part p is, given the checksums of the names there: one left without fields is left out.
 fn append_part(
     t: &mut [u8],
     at: usize,
@@ -127,6 +129,8 @@ fn append_part(
     fields: &[u16],
     d: u32,
     full: &[u8],
+    sums: &[u64],
+    n: usize,
     deeper: bool,
     p: &[u8],
     q: &[u8],
@@ -134,6 +138,7 @@ fn append_part(
     first: usize,
     last: usize,
 ) -> usize
+    requires { ⌜ Stored (now sums) n (camel-sums deeper (now p)) ⌝ }
     ensures { λ r. ⌜ Wrote (now (t .entry)) at (pick (is-empty (numbers-with (now (fields .entry)) c (last - first) first)) [] (flat (oneof-text (settings (now (o .entry))) (now (set .entry)) [] (now (fields .entry)) d (now (full .entry)) (name-in (now (q .entry))) (conflict deeper (now (p .entry)) (name-in (now (q .entry)))) (numbers-with (now (fields .entry)) c (last - first) first)))) (now (t .exit)) r ⌝ }
 {
     let there = members::has_members(fields, c, first, last);
@@ -141,9 +146,9 @@ fn append_part(
         return at;
     }
     let name = joined::name_of(q);
-    let conflict = members::conflict(p, deeper, name);
+    let conflict = members::conflict_by(sums, n, p, deeper, name);
     let rest = writer::within(at, t.len());
-    let n = append_oneof(
+    let size = append_oneof(
         &mut t[rest..],
         o,
         set,
@@ -156,7 +161,7 @@ fn append_part(
         first,
         last,
     );
-    writer::advance(at, n)
+    writer::advance(at, size)
 }
 
 // The oneofs of message i, whose part p is. deeper: are nested messages read?
@@ -178,6 +183,8 @@ pub fn append_oneofs(
     let range = members::fields_of(messages, i, p);
     let first = range.first;
     let last = range.last;
+    let mut sums = [0u64; NAMES];
+    let n = members::camel_sums(&mut sums, deeper, p);
     let mut a = at;
     let mut place: usize = 0;
     let mut x: usize = 0;
@@ -190,7 +197,23 @@ pub fn append_oneofs(
                 if f.number == 8 {
                     x = x + 1;
                     let q = parts::embedded(p, f);
-                    a = append_part(t, a, o, set, fields, d, full, deeper, p, q, x, first, last);
+                    a = append_part(
+                        t,
+                        a,
+                        o,
+                        set,
+                        fields,
+                        d,
+                        full,
+                        &sums,
+                        n,
+                        deeper,
+                        p,
+                        q,
+                        x,
+                        first,
+                        last,
+                    );
                 }
             }
         }

@@ -1,15 +1,15 @@
 -- What is filled is what the definitions say. Assumes nothing.
 use mathlib.Core.Path.{_≡_, sym, ap, _∙_}
-use mathlib.Core.Bool.{Bool}
-use mathlib.Core.List.{List, [], _∷_}
-use mathlib.Core.Logic.{⊎-elim}
-use Prim.Native.Nat.{ℕ, zero, suc, _-_, _≤_, min}
-use native.Mathlib.Nat.{le-of-suc-le-suc, eq-or-lt-of-le}
+use mathlib.Core.Bool.{Bool, false}
+use mathlib.Core.List.{List, _++_}
+use Prim.Native.Nat.{ℕ, _*_, _-_, _≤_, min}
+use native.Mathlib.Nat.{sub-zero}
 use native.Mathlib.Omega.{arith}
-use lib.ListN.{length, take, drop, replicate}
-use lib.Seq.{take-all, take-append-le}
+use lib.ListN.{length, length-append, take, drop, replicate}
+use lib.Seq.{length-take-le}
 use Rattle.writer.specs.Wrote.{Wrote}
-use Rattle.options.specs.Settings.{settings}
+use Rattle.options.specs.Settings.{settings, first-of-kind}
+use Rattle.options.specs.declared.Found.{Found}
 use Rattle.index.specs.Tree.{file-forests, IndexedFiles, fill, Holds, all-members}
 use Rattle.message_graph.specs.Limit.{messages}
 use Rattle.message_graph.specs.Fields.{Fields}
@@ -21,66 +21,65 @@ use Rattle.declarations.specs.declared.Count.{Count}
 use Rattle.boxed_settings.specs.Flags.{set-flags}
 use Rattle.targets.specs.Targets.{target-at}
 use Rattle.context_tables.specs.Cells.{is-set-at, entry-at, columns, message-table, field-table}
-use Rattle.set_tables.specs.Filled.{most-fields, zeros, message-places, message-count, field-places, field-count, declarations-in, target-in, setting-bytes, columns-by, columns-to, settings-to, entries-by, message-numbers, field-numbers}
+use Rattle.set_tables.specs.Filled.{most-fields, zeros, message-places, message-count, field-places, field-count, declarations-in, target-in, setting-bytes, columns-at, Long, settings-to, entries-by, columned, message-numbers, field-numbers}
+use Rattle.set_tables.proofs.ZeroLaws.{zeros-length, drop-zeros, unset-bytes}
 
-pub settings-filled : (set o bytes : List ℕ) (end size : ℕ) → Wrote (replicate most-fields 0) 0 (set-flags (settings o) set) bytes end
-    → (r : List Bool) → r ≡ tab size (is-set-at bytes) → r ≡ tab size (is-set-at (setting-bytes set o))
+-- a part from the start on
+pub front-length : {A : Type 0} (k : ℕ) (s : List A) → k ≤ length s → length (take (k - 0) (drop 0 s)) ≡ k
+front-length k s h = rw sub-zero (length-take-le k s h)
+
+pub settings-put : (set o bytes : List ℕ) (end : ℕ) (old : List ℕ) → old ≡ replicate most-fields 0 → Wrote old 0 (set-flags (settings o) set) bytes end → bytes ≡ setting-bytes set o
 unfolding setting-bytes zeros
-settings-filled set o bytes end size wrote r is = is ∙ ap (λ (l : List ℕ). tab size (is-set-at l)) (wrote .text)
+settings-put set o bytes end old is wrote = wrote .text ∙ rw is
+
+pub settings-unset : (set o old : List ℕ) → old ≡ replicate most-fields 0 → (f : Found) → f ≡ first-of-kind 4 0 (settings o) → f .found ≡ false → old ≡ setting-bytes set o
+unfolding zeros
+settings-unset set o old is f found unset = is ∙ unset-bytes set o (rw found at unset)
+
+pub settings-filled : (set o bytes : List ℕ) (size : ℕ) → bytes ≡ setting-bytes set o → (r : List Bool) → r ≡ tab size (is-set-at bytes) → r ≡ tab size (is-set-at (setting-bytes set o))
+settings-filled set o bytes size put r is = is ∙ ap (λ (l : List ℕ). tab size (is-set-at l)) put
 
 pub targets-filled : (set fields t : List ℕ) (c : Count) (size : ℕ) → Became (declared set (replicate 3815 0)) t c
-    → (r : List ℕ) → r ≡ tab size (target-at set fields t (c .rows)) → r ≡ tab size (target-at set fields (declarations-in set .table) (declarations-in set .rows))
-unfolding declarations-in zeros
-targets-filled set fields t c size became r is = is ∙ ap (λ (x : State). tab size (target-at set fields (x .table) (x .rows))) (became .is)
+    → (r : List ℕ) → r ≡ tab size (target-at set fields t (c .rows)) → r ≡ tab size (target-in set fields)
+unfolding target-in declarations-in zeros
+targets-filled set fields t c size became r is = is ∙ ap (λ (x : State). tab size (λ (k : ℕ). target-at set fields (x .table) (x .rows) k)) (became .is)
 
--- ---- the first places of columns
+-- ---- both tables, by columns of one length
 
-take-tab : {A : Type 0} (f : ℕ → A) (m n : ℕ) → n ≤ m → take n (tab m f) ≡ tab n f
-unfolding tab
-take-tab f zero n h = let e : n ≡ 0 = omega arith in rw e
-take-tab {A} f (suc m) n h =
-    ⊎-elim
-    (λ e. let l = length-tab (suc m) f in ap (λ (k : ℕ). take k (tab (suc m) f)) e ∙ take-all (suc m) (tab (suc m) f) (omega arith) ∙ ap (λ (k : ℕ). tab k f) (sym e))
-    (λ less. let l = length-tab m f in take-append-le n (tab m f) (f m ∷ []) (omega arith) ∙ take-tab f m n (le-of-suc-le-suc less))
-    (eq-or-lt-of-le h)
+pub parts-long : (n k : ℕ) → k ≡ min n most-fields → (owner target kind label : List ℕ) (settings boxed : List Bool)
+    → length owner ≡ most-fields → Long most-fields target kind label settings boxed
+    → Long (length (take (k - 0) (drop 0 owner))) (take (k - 0) (drop 0 target)) (take (k - 0) (drop 0 kind)) (take (k - 0) (drop 0 label)) (take (k - 0) (drop 0 settings)) (take (k - 0) (drop 0 boxed))
+parts-long n k k-is owner target kind label settings boxed whole long =
+    let all = front-length k owner (omega arith) in
+    record {
+      targets = front-length k target (omega (arith, long .targets)) ∙ sym all;
+      kinds = front-length k kind (omega (arith, long .kinds)) ∙ sym all;
+      labels = front-length k label (omega (arith, long .labels)) ∙ sym all;
+      flags = front-length k settings (omega (arith, long .flags)) ∙ sym all;
+      boxes = front-length k boxed (omega (arith, long .boxes)) ∙ sym all;
+    }
 
-cut : {A : Type 0} (xs : List A) (k n : ℕ) → k ≡ n → take (k - 0) (drop 0 xs) ≡ take n xs
-cut xs k n e = ap (λ (i : ℕ). take i xs) (let z : k - 0 ≡ n = omega arith in z)
-
--- a column of so many places, read as far as k
-column-cut : {A : Type 0} (f : ℕ → A) (column : List A) (m k n : ℕ) → column ≡ tab m f → m ≡ most-fields → k ≡ min n most-fields → take (k - 0) (drop 0 column) ≡ tab (min n most-fields) f
-column-cut {A} f column m k n is whole k-is =
-    cut column k (min n most-fields) k-is ∙ ap (take (min n most-fields)) is ∙ take-tab f m (min n most-fields) (omega arith)
-
-module _ (set rows fields : List ℕ) (n k : ℕ) (k-is : k ≡ min n most-fields) (m : ℕ) (whole : m ≡ most-fields)
-    (owner kind label target : List ℕ) (owner-is : owner ≡ tab m (owner-at fields)) (kind-is : kind ≡ tab m (column-at set fields Kind)) (label-is : label ≡ tab m (column-at set fields Label))
-    (settings : List Bool) where
+module _ (set o rows fields : List ℕ) (k : ℕ) (target kind label : List ℕ) (settings boxed : List Bool) (long : Long k target kind label settings boxed)
+    (owner' target' kind' label' : List ℕ) (settings' : List Bool)
+    (owner-is : owner' ≡ tab k (owner-at fields)) (target-is : target' ≡ tab (length target) (target-in set fields)) (kind-is : kind' ≡ tab (length kind) (column-at set fields Kind))
+    (label-is : label' ≡ tab (length label) (column-at set fields Label)) (settings-are : settings' ≡ tab (length settings) (is-set-at (setting-bytes set o))) where
   abbrev given : Fields
-  given = columns (take (k - 0) (drop 0 owner)) (take (k - 0) (drop 0 target)) (take (k - 0) (drop 0 kind)) (take (k - 0) (drop 0 label))
+  given = columns owner' target' kind' label'
 
-  abbrev wanted : Fields
-  wanted = columns-by (min n most-fields) set fields (take (min n most-fields) target)
+  columns-are : given ≡ columns-at k set fields
+  unfolding columns-at
+  columns-are = rw (owner-is, target-is, kind-is, label-is, long .targets, long .kinds, long .labels)
 
-  columns-cut : given ≡ wanted
-  columns-cut =
-      rw (column-cut (owner-at fields) owner m k n owner-is whole k-is, column-cut (column-at set fields Kind) kind m k n kind-is whole k-is, column-cut (column-at set fields Label) label m k n label-is whole k-is, cut target k (min n most-fields) k-is)
+  flags-are : settings' ≡ settings-to k set o
+  unfolding settings-to
+  flags-are = settings-are ∙ rw (long .flags)
 
-  pub messages-filled : (size : ℕ) (r : List ℕ) → r ≡ message-table size rows fields n given (take (k - 0) (drop 0 settings))
-      → r ≡ message-table size rows fields n wanted (take (min n most-fields) settings)
-  messages-filled size r is =
-      is
-      ∙ ap (λ (f : Fields). message-table size rows fields n f (take (k - 0) (drop 0 settings))) columns-cut
-      ∙ ap (message-table size rows fields n wanted) (cut settings k (min n most-fields) k-is)
+  pub messages-filled : (n size : ℕ) (r : List ℕ) → r ≡ message-table size rows fields n given settings' → r ≡ message-table size rows fields n (columns-at k set fields) (settings-to k set o)
+  messages-filled n size r is = is ∙ rw (columns-are, flags-are)
 
-  pub fields-filled : (entries : List Bool) (b e : ℕ) → b ≡ most-fields → e ≡ messages → entries ≡ tab e (entry-at set rows) → (size : ℕ) (r : List ℕ)
-      → r ≡ field-table size b set rows fields given (take (k - 0) (drop 0 settings)) entries
-      → r ≡ field-table size most-fields set rows fields wanted (take (min n most-fields) settings) (entries-by set rows)
-  fields-filled entries b e b-is e-is entries-are size r is =
-      is
-      ∙ ap (λ (f : Fields). field-table size b set rows fields f (take (k - 0) (drop 0 settings)) entries) columns-cut
-      ∙ ap (λ (l : List Bool). field-table size b set rows fields wanted l entries) (cut settings k (min n most-fields) k-is)
-      ∙ ap (λ (x : ℕ). field-table size x set rows fields wanted (take (min n most-fields) settings) entries) b-is
-      ∙ ap (λ (l : List Bool). field-table size most-fields set rows fields wanted (take (min n most-fields) settings) l) (entries-are ∙ ap (λ (x : ℕ). tab x (entry-at set rows)) e-is)
+  pub fields-filled : (entries : List Bool) (e : ℕ) → e ≡ messages → entries ≡ tab e (entry-at set rows) → (size : ℕ) (r : List ℕ)
+      → r ≡ field-table size (length boxed) set rows fields given settings' entries → r ≡ field-table size k set rows fields (columns-at k set fields) (settings-to k set o) (entries-by set rows)
+  fields-filled entries e e-is entries-are size r is = is ∙ rw (long .boxes, columns-are, flags-are, entries-are, e-is)
 
 -- ---- both tables
 
@@ -105,22 +104,33 @@ module _ (set o rows fields : List ℕ) (count n : ℕ) (rows-are : IndexedFiles
   unfolding field-count
   n-as = let c = fields-are .counted in let l = ap length members-as in omega arith
 
-  module _ (m b : ℕ) (whole : m ≡ most-fields) (whole-flags : b ≡ most-fields)
-      (target : List ℕ) (target-is : target ≡ tab m (target-at set fields (declarations-in set .table) (declarations-in set .rows)))
-      (flags : List Bool) (flags-are : flags ≡ tab b (is-set-at (setting-bytes set o))) where
-    abbrev k : ℕ
-    k = min n most-fields
+  module _ (k : ℕ) (owner : List ℕ) (whole : length owner ≡ most-fields) (k-is : k ≡ min n most-fields) where
+    abbrev longest : ℕ
+    longest = length (take (k - 0) (drop 0 owner))
 
-    target-cut : take k target ≡ tab k (target-at set fields (declarations-in set .table) (declarations-in set .rows))
-    target-cut = ap (take k) target-is ∙ take-tab (target-at set fields (declarations-in set .table) (declarations-in set .rows)) m k (omega arith)
+    longest-as : longest ≡ columned set
+    longest-as = front-length k owner (omega arith) ∙ k-is ∙ ap (λ (x : ℕ). min x most-fields) n-as
 
-    flags-cut : take k flags ≡ tab k (is-set-at (setting-bytes set o))
-    flags-cut = ap (take k) flags-are ∙ take-tab (is-set-at (setting-bytes set o)) b k (omega arith)
+    pub message-numbers-are : (size : ℕ) (r : List ℕ) → r ≡ message-table size rows fields n (columns-at longest set fields) (settings-to longest set o) → r ≡ message-numbers size set o
+    unfolding message-numbers
+    message-numbers-are size r is = is ∙ rw (longest-as, rows-as, fields-as, n-as)
 
-    pub message-numbers-are : (size : ℕ) (r : List ℕ) → r ≡ message-table size rows fields n (columns-by k set fields (take k target)) (take k flags) → r ≡ message-numbers size set o
-    unfolding message-numbers columns-to settings-to target-in
-    message-numbers-are size r is = is ∙ rw (target-cut, flags-cut, rows-as, fields-as, n-as)
+    -- the rows in front, and the zeros behind them
+    module _ (size cells used : ℕ) (cells-are : cells ≡ k * 8) (used-is : used ≡ min cells size) (cleared : List ℕ) (cleared-is : cleared ≡ zeros size) where
+      used-as : used ≡ min (columned set * 8) size
+      used-as = used-is ∙ rw (cells-are, k-is, n-as)
 
-    pub field-numbers-are : (size : ℕ) (r : List ℕ) → r ≡ field-table size most-fields set rows fields (columns-by k set fields (take k target)) (take k flags) (entries-by set rows) → r ≡ field-numbers size set o
-    unfolding field-numbers columns-to settings-to target-in
-    field-numbers-are size r is = is ∙ rw (target-cut, flags-cut, rows-as, fields-as, n-as)
+      front-as : length (take (used - 0) (drop 0 cleared)) ≡ min (columned set * 8) size
+      front-as = let l : length cleared ≡ size = ap length cleared-is ∙ zeros-length size in front-length used cleared (omega arith) ∙ used-as
+
+      behind-as : drop (used - 0) cleared ≡ zeros (size - min (columned set * 8) size)
+      behind-as = rw sub-zero (ap (drop used) cleared-is ∙ drop-zeros used size ∙ ap (λ (x : ℕ). zeros (size - x)) used-as)
+
+      pub field-numbers-are : (r : List ℕ) → r ≡ field-table (length (take (used - 0) (drop 0 cleared))) longest set rows fields (columns-at longest set fields) (settings-to longest set o) (entries-by set rows)
+          → r ++ drop (used - 0) cleared ≡ field-numbers size set o
+      unfolding field-numbers
+      field-numbers-are r is = rw (is, behind-as, front-as, longest-as, rows-as, fields-as)
+
+pub field-numbers-length : (size : ℕ) (set o : List ℕ) → length (field-numbers size set o) ≡ size
+unfolding field-numbers field-table
+field-numbers-length size set o = simp (length-append, length-tab, zeros-length) (omega arith)

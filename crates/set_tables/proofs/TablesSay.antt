@@ -1,10 +1,10 @@
 -- The two tables of a set within the limits, without refusals 6 and 7, say what the definitions by full names say. Assumes nothing.
 use mathlib.Core.Path.{_≡_, refl, sym, ap, _∙_, subst}
 use mathlib.Core.Bool.{true, false, _||_}
-use mathlib.Core.List.{List, []}
-use Prim.Native.Nat.{ℕ, _+_, _*_, _≤_, _<_}
+use mathlib.Core.List.{List, [], _++_}
+use Prim.Native.Nat.{ℕ, _+_, _*_, _-_, _≤_, _<_, min}
 use native.Mathlib.Omega.{arith}
-use lib.ListN.{length, length-replicate, getD}
+use lib.ListN.{length, getD, List·getD-append}
 use Rattle.base.specs.Lists.{map-length}
 use Rattle.writer.specs.Wrote.{Wrote, after}
 use Rattle.descriptor.specs.Descriptor.{FileDescriptor}
@@ -18,7 +18,7 @@ use Rattle.name_rules.specs.declared.Names.the-variants.{Good}
 use Rattle.index.specs.Tree.{Holds, all-members, row-at, row-bytes}
 use Rattle.index.specs.declared.Row as index-row
 use Rattle.index.proofs.SetLaws.{MessageTable, messages-counted, messages-there, fields-hold}
-use Rattle.message_graph.specs.Tab.{tab, tab-at}
+use Rattle.message_graph.specs.Tab.{tab, length-tab, tab-at}
 use Rattle.declarations.specs.Listed.{listed, listed-files}
 use Rattle.declarations.proofs.SetLaws.{set-listed, set-room}
 use Rattle.boxed_settings.specs.Flags.{set-flags}
@@ -35,11 +35,15 @@ use Rattle.table_laws.specs.AfterLaws.{set-afters}
 use Rattle.table_laws.specs.NodeLaws.{MapField, entry-typed, nodes-say}
 use Rattle.table_laws.specs.TableTheorems.{message-table-says, message-table-after, field-table-says, field-table-place, field-table-no-place, field-table-lies}
 use Rattle.targets.proofs.TargetTheorem.{target-is}
-use Rattle.set_tables.specs.Filled.{most-fields, zeros, message-places, message-count, field-places, field-count, declarations-in, target-in, setting-bytes, columns-to, settings-to, columned, entries-by, message-numbers, field-numbers}
+use Rattle.set_tables.specs.Filled.{most-fields, zeros, message-places, message-count, field-places, field-count, declarations-in, target-in, setting-bytes, columns-at, columns-to, settings-to, columned, entries-by, message-numbers, field-numbers}
+use Rattle.set_tables.proofs.ZeroLaws.{zeros-length}
 
-zeros-length : (n : ℕ) → length (zeros n) ≡ n
-unfolding zeros
-zeros-length n = length-replicate {A = ℕ} n 0
+-- a row of a table is that of its front
+row-before : (a b : List ℕ) (k : ℕ) → k * 8 + 7 < length a → field-row (a ++ b) k ≡ field-row a k
+unfolding field-row
+row-before a b k h =
+    let at : (j : ℕ) → j < 8 → getD (a ++ b) (k * 8 + j) 0 ≡ getD a (k * 8 + j) 0 = λ j l. List·getD-append a b 0 (k * 8 + j) (omega arith) in
+    rw (List·getD-append a b 0 (k * 8) (omega arith), at 1 (omega arith), at 2 (omega arith), at 3 (omega arith), at 4 (omega arith), at 5 (omega arith), at 6 (omega arith), at 7 (omega arith))
 
 module _ (set o : List ℕ) (passed : limit-passed set ≡ 0) (good : names (decode-set set) ≡ Good) where
   abbrev ds : List FileDescriptor
@@ -105,10 +109,10 @@ module _ (set o : List ℕ) (passed : limit-passed set ≡ 0) (good : names (dec
       let few = set-room set (zeros 3815) 544 (omega arith) (omega arith) (few-rows set passed) .1 in
       omega arith
 
-  targets : (r : Row) (k : ℕ) → At r (rows-of es) k → (is-message (r .field) || is-group (r .field)) ≡ true → getD (tab n (target-in set)) k 0 ≡ number-of es (type-name-of r)
+  targets : (r : Row) (k : ℕ) → At r (rows-of es) k → (is-message (r .field) || is-group (r .field)) ≡ true → getD (tab n (target-in set fields)) k 0 ≡ number-of es (type-name-of r)
   unfolding target-in
   targets r k p is =
-      tab-at n (target-in set) 0 k (below p)
+      tab-at n (target-in set fields) 0 k (below p)
       ∙ target-is set (declarations-in set .table) (declarations-in set .rows) few-declarations lists rows (message-count set) message-table-is (zeros 10240) fields n field-rows field-room (limits .messages) good r k p is
 
   wrote : Wrote (zeros most-fields) 0 (set-flags rs set) (setting-bytes set o) (after 0 (length (set-flags rs set)))
@@ -127,40 +131,47 @@ module _ (set o : List ℕ) (passed : limit-passed set ≡ 0) (good : names (dec
     abbrev messages-to : ℕ → List ℕ
     messages-to k = message-table message-size rows fields n (columns-to k set) (settings-to k set o)
 
+    -- the rows of the first k fields
+    abbrev rows-to : ℕ → List ℕ
+    rows-to k = field-table (min (k * 8) field-size) k set rows fields (columns-to k set) (settings-to k set o) (entries-by set rows)
+
     abbrev fields-to : ℕ → List ℕ
-    fields-to k = field-table field-size most-fields set rows fields (columns-to k set) (settings-to k set o) (entries-by set rows)
+    fields-to k = rows-to k ++ zeros (field-size - min (k * 8) field-size)
 
     message-fits : {e : Entry} {i : ℕ} → At e es i → i * 4 + 3 < message-size
     message-fits p = let within = at-within p in let few = sound .few in omega arith
 
-    field-fits : {r : Row} {k : ℕ} → At r (rows-of es) k → k * 8 + 7 < field-size
+    field-fits : {r : Row} {k : ℕ} → At r (rows-of es) k → k * 8 + 7 < min (n * 8) field-size
     field-fits p = let less = below p in let few = few-fields in omega arith
 
-    field-most : {r : Row} {k : ℕ} → At r (rows-of es) k → k < most-fields
-    field-most p = let less = below p in let few = few-fields in omega arith
+    row-is : {r : Row} {k : ℕ} → At r (rows-of es) k → field-row (fields-to n) k ≡ field-row (rows-to n) k
+    unfolding field-table
+    row-is {r} {k} p = let fits = field-fits p in row-before (rows-to n) (zeros (field-size - min (n * 8) field-size)) k (rw length-tab fits)
 
     place : (r : Row) (k : ℕ) → At r (rows-of es) k → is-message (r .field) ≡ true → (e : Entry) (j : ℕ) → At e es j → e .full ≡ type-name-of r
         → PlaceSays set (is-repeated (r .field)) (e .message) (field-row (fields-to n) k)
-    unfolding columns-to settings-to
+    unfolding columns-at settings-to
     place r k p is e j q typed =
-        field-table-place set rows (message-count set) message-table-is (zeros 10240) fields n field-rows field-room passed good (tab n (target-in set)) targets rs (zeros most-fields) (setting-bytes set o) _ wrote space p is q typed field-size most-fields (field-fits p)
+        rw (row-is p)
+        (field-table-place set rows (message-count set) message-table-is (zeros 10240) fields n field-rows field-room passed good (tab n (target-in set fields)) targets rs (zeros most-fields) (setting-bytes set o) _ wrote space p is q typed (min (n * 8) field-size) n (field-fits p))
 
     no-place : (r : Row) (k : ℕ) → At r (rows-of es) k → is-message (r .field) ≡ false → (field-row (fields-to n) k .entry ≡ 0) × (field-row (fields-to n) k .entryend ≡ 0)
-    unfolding columns-to settings-to
+    unfolding columns-at settings-to
     no-place r k p is =
-        field-table-no-place set rows (message-count set) message-table-is (zeros 10240) fields n field-rows field-room passed good (tab n (target-in set)) targets rs (zeros most-fields) (setting-bytes set o) _ wrote space p is field-size most-fields (field-fits p)
+        rw (row-is p)
+        (field-table-no-place set rows (message-count set) message-table-is (zeros 10240) fields n field-rows field-room passed good (tab n (target-in set fields)) targets rs (zeros most-fields) (setting-bytes set o) _ wrote space p is (min (n * 8) field-size) n (field-fits p))
 
     all-say : Says rs set (messages-to n) (fields-to n)
-    unfolding columns-to settings-to
+    unfolding columns-at settings-to
     all-say =
         record {
-          message = λ e i p. message-table-says set rows (message-count set) message-table-is (zeros 10240) fields n field-rows field-room passed good (tab n (target-in set)) targets rs (zeros most-fields) (setting-bytes set o) _ wrote space p message-size (message-fits p);
-          field = λ r k p. field-table-says set rows (message-count set) message-table-is (zeros 10240) fields n field-rows field-room passed good (tab n (target-in set)) targets rs (zeros most-fields) (setting-bytes set o) _ wrote space p field-size most-fields (field-fits p) (field-most p) (entries-by set rows);
-          lies = λ r k p. field-table-lies set rows (message-count set) message-table-is (zeros 10240) fields n field-rows field-room passed good (tab n (target-in set)) targets rs (zeros most-fields) (setting-bytes set o) _ wrote space p field-size most-fields (field-fits p) (entries-by set rows);
+          message = λ e i p. message-table-says set rows (message-count set) message-table-is (zeros 10240) fields n field-rows field-room passed good (tab n (target-in set fields)) targets rs (zeros most-fields) (setting-bytes set o) _ wrote space p message-size (message-fits p);
+          field = λ r k p. rw (row-is p) (field-table-says set rows (message-count set) message-table-is (zeros 10240) fields n field-rows field-room passed good (tab n (target-in set fields)) targets rs (zeros most-fields) (setting-bytes set o) _ wrote space p (min (n * 8) field-size) n (field-fits p) (below p) (entries-by set rows));
+          lies = λ r k p. rw (row-is p) (field-table-lies set rows (message-count set) message-table-is (zeros 10240) fields n field-rows field-room passed good (tab n (target-in set fields)) targets rs (zeros most-fields) (setting-bytes set o) _ wrote space p (min (n * 8) field-size) n (field-fits p) (entries-by set rows));
           place = place;
           no-place = no-place;
           nodes = nodes-say set (messages-to n) (fields-to n) sound good (λ j. row-at rows j .after) (set-afters set rows (message-count set) message-table-is)
-              (λ e i p. message-table-after set rows (message-count set) message-table-is (zeros 10240) fields n field-rows field-room passed good (tab n (target-in set)) targets rs (zeros most-fields) (setting-bytes set o) _ wrote space p message-size (message-fits p))
+              (λ e i p. message-table-after set rows (message-count set) message-table-is (zeros 10240) fields n field-rows field-room passed good (tab n (target-in set fields)) targets rs (zeros most-fields) (setting-bytes set o) _ wrote space p message-size (message-fits p))
               place no-place;
         }
 

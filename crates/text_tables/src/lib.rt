@@ -105,3 +105,14 @@ pub fn field_row(t: &[u16], k: usize) -> FieldRow
         oneof: 0,
     }
 }
+
+// The oneof of a field: one more than the index, or 0.
+pub fn oneof_at(t: &[u16], k: usize) -> usize
+    ensures { λ r. ⌜ r ≡ field-row (now (t .entry)) k .oneof ⌝ }
+{
+    if k < 65536 {
+        let at = k * 8 + 7;
+        return number_at(t, at);
+    }
+    0
+}

@@ -113,8 +113,8 @@ pub fn append_variants(
     while next < last {
         let k = next;
         next = k + 1;
-        let row = text_tables::field_row(fields, k);
-        if row.oneof == c {
+        let which = text_tables::oneof_at(fields, k);
+        if which == c {
             a = append_variant(t, a, o, set, fields, d, full, oneof, k);
         }
     }

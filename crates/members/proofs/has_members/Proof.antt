@@ -18,11 +18,11 @@ abbrev μ-loop : tie.MeasureT-loop
 loop-holds : tie.Need-loop-holds Inv-loop μ-loop
 loop-holds c = refl
 
-field-row-requires : tie.Need-field-row-requires Inv-loop μ-loop
-field-row-requires c κs = search needs
+oneof-at-requires : tie.Need-oneof-at-requires Inv-loop μ-loop
+oneof-at-requires c κs = search needs
 
 returns : tie.Need-returns Inv-loop μ-loop
-returns c = sym (ap (λ (ks : List ℕ). not (is-empty ks)) (sym (c .before .before .before .before .loop .inv) ∙ numbers-found _ _ _ (c .before .before .before .loop-test .taken) _ (c .before .before .field-row .ensures) _ (c .if1 .taken)))
+returns c = sym (ap (λ (ks : List ℕ). not (is-empty ks)) (sym (c .before .before .before .loop .inv) ∙ numbers-found _ _ _ (c .before .before .loop-test .taken) _ refl _ (sym (c .before .oneof-at .ensures) ∙ c .if1 .taken)))
 
 add-k : tie.Need-add-k Inv-loop μ-loop
 add-k c = search needs
@@ -31,7 +31,7 @@ loop-less : tie.Need-loop-less Inv-loop μ-loop
 loop-less c = search needs
 
 loop-again : tie.Need-loop-again Inv-loop μ-loop
-loop-again c = sym (numbers-skip _ _ _ (c .before .before .before .loop-test .taken) _ (c .before .before .field-row .ensures) _ (c .if1 .left)) ∙ c .before .before .before .before .loop .inv
+loop-again c = sym (numbers-skip _ _ _ (c .before .before .loop-test .taken) _ refl _ (λ e. c .if1 .left (c .before .oneof-at .ensures ∙ e))) ∙ c .before .before .before .loop .inv
 
 returns-2 : tie.Need-returns-2 Inv-loop μ-loop
 returns-2 c = sym (ap (λ (ks : List ℕ). not (is-empty ks)) (sym (c .before .loop .inv) ∙ numbers-end _ _ _ _ (c .loop-test .left)))
@@ -43,7 +43,7 @@ has-members-spec =
     Inv-loop
     μ-loop
     loop-holds
-    field-row-requires
+    oneof-at-requires
     returns
     add-k
     loop-less

@@ -1,4 +1,4 @@
-use mathlib.Core.Path.{_≡_, refl, _∙_}
+use mathlib.Core.Path.{_≡_, refl, sym, _∙_}
 use Prim.Native.Nat.{_-_}
 use Rattle.members.specs.Members.{in-oneofs}
 use Rattle.members.proofs.MemberLaws.{oneofs-end, oneofs-found, oneofs-skip}
@@ -15,11 +15,11 @@ abbrev μ-loop : tie.MeasureT-loop
 loop-holds : tie.Need-loop-holds Inv-loop μ-loop
 loop-holds c = refl
 
-field-row-requires : tie.Need-field-row-requires Inv-loop μ-loop
-field-row-requires c κs = search needs
+oneof-at-requires : tie.Need-oneof-at-requires Inv-loop μ-loop
+oneof-at-requires c κs = search needs
 
 returns : tie.Need-returns Inv-loop μ-loop
-returns c = oneofs-found _ _ _ (c .before .before .before .loop-test .taken) _ (c .before .before .field-row .ensures) (c .if1 .taken) ∙ c .before .before .before .before .loop .inv
+returns c = oneofs-found _ _ _ (c .before .before .loop-test .taken) _ refl (λ e. c .if1 .taken (c .before .oneof-at .ensures ∙ e)) ∙ c .before .before .before .loop .inv
 
 add-k : tie.Need-add-k Inv-loop μ-loop
 add-k c = search needs
@@ -28,7 +28,7 @@ loop-less : tie.Need-loop-less Inv-loop μ-loop
 loop-less c = search needs
 
 loop-again : tie.Need-loop-again Inv-loop μ-loop
-loop-again c = oneofs-skip _ _ _ (c .before .before .before .loop-test .taken) _ (c .before .before .field-row .ensures) (c .if1 .left) ∙ c .before .before .before .before .loop .inv
+loop-again c = oneofs-skip _ _ _ (c .before .before .loop-test .taken) _ refl (sym (c .before .oneof-at .ensures) ∙ c .if1 .left) ∙ c .before .before .before .loop .inv
 
 returns-2 : tie.Need-returns-2 Inv-loop μ-loop
 returns-2 c = oneofs-end _ _ _ (c .loop-test .left) ∙ c .before .loop .inv
@@ -40,7 +40,7 @@ in-oneofs-spec =
     Inv-loop
     μ-loop
     loop-holds
-    field-row-requires
+    oneof-at-requires
     returns
     add-k
     loop-less

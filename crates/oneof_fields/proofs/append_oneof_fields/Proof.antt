@@ -13,13 +13,19 @@ use Rattle.oneof_fields.proofs.append_oneof_fields.Statement.{statement
 use Rattle.oneof_fields.proofs.append_oneof_fields.Tie as tie
 
 abbrev Inv-loop : tie.InvT-loop
-Inv-loop t₀ at o set messages fields d full deeper i p first last a₀ x₀ place₀ t a x place = (x ≤ place) × (place ≤ length p) × Going (oneof-field-part (settings o) set messages fields d full deeper i p) (next-index (settings o) set messages fields) 0 8 p t₀ at t place a x
+Inv-loop t₀ at o set messages fields d full deeper i p first last sums n a₀ x₀ place₀ t a x place = (x ≤ place) × (place ≤ length p) × Going (oneof-field-part (settings o) set messages fields d full deeper i p) (next-index (settings o) set messages fields) 0 8 p t₀ at t place a x
 
 abbrev μ-loop : tie.MeasureT-loop
-μ-loop t₀ at o set messages fields d full deeper i p first last a₀ x₀ place₀ t a x place = length p - place
+μ-loop t₀ at o set messages fields d full deeper i p first last sums n a₀ x₀ place₀ t a x place = length p - place
 
 fields-of-requires : tie.Need-fields-of-requires Inv-loop μ-loop
 fields-of-requires c κs = search needs
+
+slice-aggregate-camel-sums : tie.Need-slice-aggregate-camel-sums Inv-loop μ-loop
+slice-aggregate-camel-sums c = search needs
+
+camel-sums-requires : tie.Need-camel-sums-requires Inv-loop μ-loop
+camel-sums-requires c κs = search needs
 
 loop-holds : tie.Need-loop-holds Inv-loop μ-loop
 loop-holds c = (omega arith, omega arith, going-start _ _ _ _ _ _ _ (search needs))
@@ -54,16 +60,19 @@ embedded-requires : tie.Need-embedded-requires Inv-loop μ-loop
 embedded-requires c κs = search needs
 
 add-x : tie.Need-add-x Inv-loop μ-loop
-add-x c = let g = c .before .before .before .before .before .before .before .before .before .before .before .before .before .before .before .before .good .1 .1 .1 .1 .1 .1 .1 .1 .1 .1 .0 .1 in let h : c .before .before .before .before .before .before .before .loop .x < 2 ^ 63 = omega (arith, g) in search needs
+add-x c = let g = c .before .before .before .before .before .before .before .before .before .before .before .before .before .before .before .before .before .before .before .good .1 .1 .1 .1 .1 .1 .1 .1 .1 .1 .0 .1 in let h : c .before .before .before .before .before .before .before .loop .x < 2 ^ 63 = omega (arith, g) in search needs
+
+slice-aggregate-put-oneof : tie.Need-slice-aggregate-put-oneof Inv-loop μ-loop
+slice-aggregate-put-oneof c = search needs
 
 put-oneof-requires : tie.Need-put-oneof-requires Inv-loop μ-loop
-put-oneof-requires c κs = search needs
+put-oneof-requires c κs = c .before .before .before .before .before .before .before .before .before .before .before .camel-sums .ensures
 
 loop-less : tie.Need-loop-less Inv-loop μ-loop
 loop-less c = search places
 
 loop-again : tie.Need-loop-again Inv-loop μ-loop
-loop-again c = (search places, search places, going-found _ _ _ _ _ _ _ (c .before .before .before .before .before .before .before .before .before .before .before .loop .inv .2) _ (c .before .before .before .before .before .before .before .before .before .before .read-step .ensures) _ (c .before .before .before .before .before .before .before .before .f .given .1) (c .before .before .before .before .before .if1 .taken) (c .before .before .before .before .embedded .ensures) (named (part-in-range (c .before .before .before .before .before .before .before .before .before .before .before .before .before .before .before .before .before .before .before .before .args .messages .now) _ _ _ _ _ (c .before .before .before .before .before .before .before .before .before .before .before .before .fields-of .ensures .0) (c .before .before .before .before .before .before .before .before .before .before .before .before .fields-of .ensures .1) _ _ _ _ _ (c .before .before .before .before .before .before .before .before .before .before .before .loop .x) _) (c .before .before .put-oneof .ensures (c .before .before .before .before .before .before .before .before .before .before .before .before .before .before .before .before .before .before .before .before .args .messages .now))) _ (add-one (c .before .before .before .before .before .before .before .before .before .before .before .loop .x)))
+loop-again c = (search places, search places, going-found _ _ _ _ _ _ _ (c .before .before .before .before .before .before .before .before .before .before .before .before .loop .inv .2) _ (c .before .before .before .before .before .before .before .before .before .before .before .read-step .ensures) _ (c .before .before .before .before .before .before .before .before .before .f .given .1) (c .before .before .before .before .before .before .if1 .taken) (c .before .before .before .before .before .embedded .ensures) (named (part-in-range (c .before .before .before .before .before .before .before .before .before .before .before .before .before .before .before .before .before .before .before .before .before .before .before .before .args .messages .now) _ _ _ _ _ (c .before .before .before .before .before .before .before .before .before .before .before .before .before .before .before .before .fields-of .ensures .0) (c .before .before .before .before .before .before .before .before .before .before .before .before .before .before .before .before .fields-of .ensures .1) _ _ _ _ _ (c .before .before .before .before .before .before .before .before .before .before .before .before .loop .x) _) (c .before .before .put-oneof .ensures (c .before .before .before .before .before .before .before .before .before .before .before .before .before .before .before .before .before .before .before .before .before .before .before .before .args .messages .now))) _ (add-one (c .before .before .before .before .before .before .before .before .before .before .before .before .loop .x)))
 
 loop-less-2 : tie.Need-loop-less-2 Inv-loop μ-loop
 loop-less-2 c = search places
@@ -78,6 +87,8 @@ append-oneof-fields-spec =
     Inv-loop
     μ-loop
     fields-of-requires
+    slice-aggregate-camel-sums
+    camel-sums-requires
     loop-holds
     read-step-requires
     enum-told
@@ -89,6 +100,7 @@ append-oneof-fields-spec =
     enum-known-f
     embedded-requires
     add-x
+    slice-aggregate-put-oneof
     put-oneof-requires
     loop-less
     loop-again

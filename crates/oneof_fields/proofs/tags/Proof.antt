@@ -2,7 +2,7 @@ use Rattle.oneof_fields.proofs.TagLaws.{tags-from, tags-end, tags-next,
 use Rattle.attributes.proofs.Onward.{Onward, begun, turned, passed, done}
 use Rattle.name_rules.specs.Accessors.{number}
 use Rattle.writer.specs.Wrote.{kept, named}
-use mathlib.Core.Path.{ap, _∙_}
+use mathlib.Core.Path.{ap, _∙_, refl, sym}
 use mathlib.Core.Bool.{false}
 use native.Mathlib.Omega.{arith}
 use Prim.Native.Nat.{_-_}
@@ -19,8 +19,8 @@ abbrev μ-loop : tie.MeasureT-loop
 loop-holds : tie.Need-loop-holds Inv-loop μ-loop
 loop-holds c = begun (search needs)
 
-field-row-requires : tie.Need-field-row-requires Inv-loop μ-loop
-field-row-requires c κs = search needs
+oneof-at-requires : tie.Need-oneof-at-requires Inv-loop μ-loop
+oneof-at-requires c κs = search needs
 
 add-k : tie.Need-add-k Inv-loop μ-loop
 add-k c = search needs
@@ -38,13 +38,13 @@ loop-less : tie.Need-loop-less Inv-loop μ-loop
 loop-less c = omega arith
 
 loop-again : tie.Need-loop-again Inv-loop μ-loop
-loop-again c = turned (c .before .before .before .before .before .before .before .before .before .before .loop .inv) (tags-next _ _ _ _ _ _ (c .before .before .before .before .before .before .before .before .before .loop-test .taken) _ (c .before .before .before .before .before .before .before .before .field-row .ensures) (c .before .before .before .before .before .before .if1 .taken) _ (c .before .before .before .before .number .ensures ∙ ap number (c .before .before .before .before .before .field-at .ensures))) (c .before .before .put-tag .ensures)
+loop-again c = turned (c .before .before .before .before .before .before .before .before .before .loop .inv) (tags-next _ _ _ _ _ _ (c .before .before .before .before .before .before .before .before .loop-test .taken) _ refl (sym (c .before .before .before .before .before .before .before .oneof-at .ensures) ∙ c .before .before .before .before .before .before .if1 .taken) _ (c .before .before .before .before .number .ensures ∙ ap number (c .before .before .before .before .before .field-at .ensures))) (c .before .before .put-tag .ensures)
 
 loop-less-2 : tie.Need-loop-less-2 Inv-loop μ-loop
 loop-less-2 c = omega arith
 
 loop-again-2 : tie.Need-loop-again-2 Inv-loop μ-loop
-loop-again-2 c = passed (c .before .before .before .before .loop .inv) (tags-skip _ _ _ _ _ _ (c .before .before .before .loop-test .taken) _ (c .before .before .field-row .ensures) (c .if1 .left))
+loop-again-2 c = passed (c .before .before .before .loop .inv) (tags-skip _ _ _ _ _ _ (c .before .before .loop-test .taken) _ refl (λ e. c .if1 .left (c .before .oneof-at .ensures ∙ e)))
 
 returns : tie.Need-returns Inv-loop μ-loop
 returns c = named (all-tags _ _ _ _ _) (done (c .before .loop .inv) (tags-end _ _ _ _ _ _ (c .loop-test .left)))
@@ -59,7 +59,7 @@ tags-spec =
     Inv-loop
     μ-loop
     loop-holds
-    field-row-requires
+    oneof-at-requires
     add-k
     field-at-requires
     number-requires

@@ -13,13 +13,19 @@ use Rattle.oneof_text.proofs.append_oneofs.Statement.{statement}
 use Rattle.oneof_text.proofs.append_oneofs.Tie as tie
 
 abbrev Inv-loop : tie.InvT-loop
-Inv-loop t₀ at o set messages fields d full deeper i p first last a₀ place₀ x₀ t a place x = Going (oneof-part (settings o) set messages fields d full deeper i p) (next-index (settings o) set messages fields) 0 8 p t₀ at t place a x × (x ≤ place) × (place ≤ length p)
+Inv-loop t₀ at o set messages fields d full deeper i p first last sums n a₀ place₀ x₀ t a place x = Going (oneof-part (settings o) set messages fields d full deeper i p) (next-index (settings o) set messages fields) 0 8 p t₀ at t place a x × (x ≤ place) × (place ≤ length p)
 
 abbrev μ-loop : tie.MeasureT-loop
-μ-loop t₀ at o set messages fields d full deeper i p first last a₀ place₀ x₀ t a place x = length p - place
+μ-loop t₀ at o set messages fields d full deeper i p first last sums n a₀ place₀ x₀ t a place x = length p - place
 
 fields-of-requires : tie.Need-fields-of-requires Inv-loop μ-loop
 fields-of-requires c κs = search needs
+
+slice-aggregate-camel-sums : tie.Need-slice-aggregate-camel-sums Inv-loop μ-loop
+slice-aggregate-camel-sums c = search needs
+
+camel-sums-requires : tie.Need-camel-sums-requires Inv-loop μ-loop
+camel-sums-requires c κs = search needs
 
 loop-holds : tie.Need-loop-holds Inv-loop μ-loop
 loop-holds c = (going-start _ _ _ _ _ _ _ (search needs), search needs, search needs)
@@ -51,22 +57,25 @@ enum-known-f : tie.Need-enum-known-f Inv-loop μ-loop
 enum-known-f c = search needs
 
 add-x : tie.Need-add-x Inv-loop μ-loop
-add-x c = omega (arith, c .before .before .before .before .before .before .before .before .before .before .before .before .before .before .before .good .1 .1 .1 .1 .1 .1 .1 .1 .1 .1 .0, c .before .before .before .before .before .before .loop .inv .1, c .before .before .before .before .before .before .loop .inv .2)
+add-x c = omega (arith, c .before .before .before .before .before .before .before .before .before .before .before .before .before .before .before .before .before .before .good .1 .1 .1 .1 .1 .1 .1 .1 .1 .1 .0, c .before .before .before .before .before .before .loop .inv .1, c .before .before .before .before .before .before .loop .inv .2)
 
 embedded-requires : tie.Need-embedded-requires Inv-loop μ-loop
 embedded-requires c κs = search needs
 
+slice-aggregate-append-part : tie.Need-slice-aggregate-append-part Inv-loop μ-loop
+slice-aggregate-append-part c = search needs
+
 append-part-requires : tie.Need-append-part-requires Inv-loop μ-loop
-append-part-requires c κs = search needs
+append-part-requires c κs = c .before .before .before .before .before .before .before .before .before .before .before .camel-sums .ensures
 
 loop-less : tie.Need-loop-less Inv-loop μ-loop
 loop-less c = search places
 
 loop-again : tie.Need-loop-again Inv-loop μ-loop
 loop-again c =
-    let v = c .before .before .before .before .before .before .before .before .before .before .before .before .before .before .before .before .before .before .before .before .args in (
-      going-found _ _ _ _ _ _ _ (c .before .before .before .before .before .before .before .before .before .before .before .loop .inv .0) _ (c .before .before .before .before .before .before .before .before .before .before .read-step .ensures) _ (c .before .before .before .before .before .before .before .before .f .given .1) (c .before .before .before .before .before .if1 .taken) (c .before .before .before .before .embedded .ensures)
-          (named (part-is (settings (v .o .now)) (v .set .now) (v .messages .now) (v .fields .now) (v .d) (v .full .now) (v .deeper) (v .i) (v .p .now) (c .before .before .before .before .before .before .before .before .before .before .before .loop .x) (c .before .before .before .before .embedded .result .now) (c .before .before .before .before .before .before .before .before .before .before .before .before .fields-of .ensures .0) (c .before .before .before .before .before .before .before .before .before .before .before .before .fields-of .ensures .1)) (c .before .before .append-part .ensures))
+    let v = c .before .before .before .before .before .before .before .before .before .before .before .before .before .before .before .before .before .before .before .before .before .before .before .before .args in (
+      going-found _ _ _ _ _ _ _ (c .before .before .before .before .before .before .before .before .before .before .before .before .loop .inv .0) _ (c .before .before .before .before .before .before .before .before .before .before .before .read-step .ensures) _ (c .before .before .before .before .before .before .before .before .before .f .given .1) (c .before .before .before .before .before .before .if1 .taken) (c .before .before .before .before .before .embedded .ensures)
+          (named (part-is (settings (v .o .now)) (v .set .now) (v .messages .now) (v .fields .now) (v .d) (v .full .now) (v .deeper) (v .i) (v .p .now) (c .before .before .before .before .before .before .before .before .before .before .before .before .loop .x) (c .before .before .before .before .before .embedded .result .now) (c .before .before .before .before .before .before .before .before .before .before .before .before .before .before .before .before .fields-of .ensures .0) (c .before .before .before .before .before .before .before .before .before .before .before .before .before .before .before .before .fields-of .ensures .1)) (c .before .before .append-part .ensures))
           _
           (add-one _),
       search places,
@@ -86,6 +95,8 @@ append-oneofs-spec =
     Inv-loop
     μ-loop
     fields-of-requires
+    slice-aggregate-camel-sums
+    camel-sums-requires
     loop-holds
     read-step-requires
     enum-told
@@ -97,6 +108,7 @@ append-oneofs-spec =
     enum-known-f
     add-x
     embedded-requires
+    slice-aggregate-append-part
     append-part-requires
     loop-less
     loop-again

@@ -1,3 +1,4 @@
+use native.Mathlib.Omega.{arith}
 use Prim.Native.Nat.{_-_}
 use Rattle.members.specs.Members.{numbers-with}
 use Rattle.oneof_text.proofs.PartLaws.{left-out, not-left-out}
@@ -11,14 +12,14 @@ has-members-requires c κs = tt
 
 returns : tie.Need-returns
 returns c =
-    let v = c .before .before .before .before .before .before .before .before .before .args in
+    let v = c .before .before .before .before .before .before .before .before .before .before .args in
     named (left-out (numbers-with (v .fields .now) (v .c) (v .last - v .first) (v .first)) _ (c .before .has-members .ensures) (c .if1 .taken)) (none (search needs))
 
 name-of-requires : tie.Need-name-of-requires
 name-of-requires c κs = tt
 
-conflict-requires : tie.Need-conflict-requires
-conflict-requires c κs = tt
+conflict-by-requires : tie.Need-conflict-by-requires
+conflict-by-requires c κs = tt
 
 within-requires : tie.Need-within-requires
 within-requires c κs = tt
@@ -40,9 +41,9 @@ advance-requires c κs = tt
 
 returns-2 : tie.Need-returns-2
 returns-2 c =
-    let v = c .before .before .before .before .before .before .before .before .before .before .before .before .before .before .before .before .before .args in
+    let v = c .before .before .before .before .before .before .before .before .before .before .before .before .before .before .before .before .before .before .args in
     named (not-left-out (numbers-with (v .fields .now) (v .c) (v .last - v .first) (v .first)) _ (c .before .before .before .before .before .before .before .before .before .has-members .ensures) (c .before .before .before .before .before .before .before .before .if1 .left))
-    (rw (← c .before .before .before .before .before .before .before .name-of .ensures, ← c .before .before .before .before .before .before .conflict .ensures) (lent _ _ _ (search needs) (c .before .before .before .before .before .within .ensures) (c .before .before .before .append-oneof .ensures) (c .advance .ensures)))
+    (rw (← c .before .before .before .before .before .before .before .name-of .ensures, ← c .before .before .before .before .before .before .conflict-by .ensures (c .before .before .before .before .before .before .before .before .before .before .before .before .before .before .before .before .before .before .pre)) (lent _ _ _ (omega (arith, c .before .before .before .before .before .before .before .before .before .before .before .before .before .before .before .before .before .before .good .0)) (c .before .before .before .before .before .within .ensures) (c .before .before .before .append-oneof .ensures) (c .advance .ensures)))
 
 same-length : tie.Need-same-length
 same-length c = kept (returns-2 c)
@@ -54,7 +55,7 @@ append-part-spec =
     has-members-requires
     returns
     name-of-requires
-    conflict-requires
+    conflict-by-requires
     within-requires
     sub-append-oneof
     part-append-oneof-start

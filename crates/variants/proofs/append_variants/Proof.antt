@@ -1,4 +1,4 @@
-use mathlib.Core.Path.{ap}
+use mathlib.Core.Path.{ap, refl, sym, _∙_}
 use mathlib.Core.List.{List}
 use Prim.Native.Nat.{ℕ, _-_}
 use borrow.Author.Needs.{needs}
@@ -27,8 +27,8 @@ loop-holds c = begun (search needs)
 add-next : tie.Need-add-next Inv-loop μ-loop
 add-next c = search needs
 
-field-row-requires : tie.Need-field-row-requires Inv-loop μ-loop
-field-row-requires c κs = search needs
+oneof-at-requires : tie.Need-oneof-at-requires Inv-loop μ-loop
+oneof-at-requires c κs = search needs
 
 append-variant-requires : tie.Need-append-variant-requires Inv-loop μ-loop
 append-variant-requires c κs = search needs
@@ -39,9 +39,9 @@ loop-less c = search needs
 loop-again : tie.Need-loop-again Inv-loop μ-loop
 unfolding variant-texts
 loop-again c =
-    let v = c .before .before .before .before .before .before .before .before .before .before .before .before .before .before .before .args in
-    turned (c .before .before .before .before .before .before .before .before .loop .inv)
-    (ap (written (v .o .now) (v .set .now) (v .fields .now) (v .d) (v .full .now) (v .oneof .now)) (numbers-found _ _ _ (c .before .before .before .before .before .before .before .loop-test .taken) _ (c .before .before .before .before .before .before .field-row .ensures) _ (c .before .before .before .before .if1 .taken)))
+    let v = c .before .before .before .before .before .before .before .before .before .before .before .before .before .before .args in
+    turned (c .before .before .before .before .before .before .before .loop .inv)
+    (ap (written (v .o .now) (v .set .now) (v .fields .now) (v .d) (v .full .now) (v .oneof .now)) (numbers-found _ _ _ (c .before .before .before .before .before .before .loop-test .taken) _ refl _ (sym (c .before .before .before .before .before .oneof-at .ensures) ∙ c .before .before .before .before .if1 .taken)))
     (c .before .before .append-variant .ensures)
 
 loop-less-2 : tie.Need-loop-less-2 Inv-loop μ-loop
@@ -49,9 +49,9 @@ loop-less-2 c = search needs
 
 loop-again-2 : tie.Need-loop-again-2 Inv-loop μ-loop
 loop-again-2 c =
-    let v = c .before .before .before .before .before .before .before .before .before .before .before .args in
-    passed (c .before .before .before .before .loop .inv)
-    (ap (written (v .o .now) (v .set .now) (v .fields .now) (v .d) (v .full .now) (v .oneof .now)) (numbers-skip _ _ _ (c .before .before .before .loop-test .taken) _ (c .before .before .field-row .ensures) _ (c .if1 .left)))
+    let v = c .before .before .before .before .before .before .before .before .before .before .args in
+    passed (c .before .before .before .loop .inv)
+    (ap (written (v .o .now) (v .set .now) (v .fields .now) (v .d) (v .full .now) (v .oneof .now)) (numbers-skip _ _ _ (c .before .before .loop-test .taken) _ refl _ (λ e. c .if1 .left (c .before .oneof-at .ensures ∙ e))))
 
 returns : tie.Need-returns Inv-loop μ-loop
 unfolding variant-texts
@@ -70,7 +70,7 @@ append-variants-spec =
     μ-loop
     loop-holds
     add-next
-    field-row-requires
+    oneof-at-requires
     append-variant-requires
     loop-less
     loop-again

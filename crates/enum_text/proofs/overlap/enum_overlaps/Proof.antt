@@ -35,14 +35,14 @@ returns c = meets-taken _ _ _ (own-name _ _ (c .before .before .before .before .
 build-enum-value-mappings-requires : tie.Need-build-enum-value-mappings-requires
 build-enum-value-mappings-requires c κs = search needs
 
-slice-aggregate-meets : tie.Need-slice-aggregate-meets
-slice-aggregate-meets c = search needs
+slice-aggregate-overlaps : tie.Need-slice-aggregate-overlaps
+slice-aggregate-overlaps c = search needs
 
-meets-requires : tie.Need-meets-requires
-meets-requires c κs = search needs
+overlaps-requires : tie.Need-overlaps-requires
+overlaps-requires c κs = search needs
 
 returns-2 : tie.Need-returns-2
-returns-2 c = meets-there _ _ _ (own-name _ _ (c .before .before .before .before .before .before .before .before .before .before .before .before .before .name-view .ensures) _ (c .before .before .before .before .before .before .before .before .before .before .before .before .text .ensures)) (c .before .before .before .before .before .before .before .before .before .before .join .ensures) (length-replicate {A = ℕ} 512 0) _ (c .before .before .before .before .before .before .before .before .if1 .taken) _ (c .before .before .before .before .before .is-taken .ensures) (c .before .before .before .before .if2 .left) _ (kept-in _ _ (c .before .before .before .build-enum-value-mappings .ensures)) _ (c .meets .ensures)
+returns-2 c = meets-there _ _ _ (own-name _ _ (c .before .before .before .before .before .before .before .before .before .before .before .before .before .name-view .ensures) _ (c .before .before .before .before .before .before .before .before .before .before .before .before .text .ensures)) (c .before .before .before .before .before .before .before .before .before .before .join .ensures) (length-replicate {A = ℕ} 512 0) _ (c .before .before .before .before .before .before .before .before .if1 .taken) _ (c .before .before .before .before .before .is-taken .ensures) (c .before .before .before .before .if2 .left) _ (kept-in _ _ (c .before .before .before .build-enum-value-mappings .ensures)) _ (c .overlaps .ensures)
 
 returns-3 : tie.Need-returns-3
 returns-3 c = meets-unfit _ _ _ (own-name _ _ (c .before .before .before .before .before .name-view .ensures) _ (c .before .before .before .before .text .ensures)) (c .before .before .join .ensures) (length-replicate {A = ℕ} 512 0) _ (c .if1 .left)
@@ -61,7 +61,7 @@ enum-overlaps-spec =
     is-taken-requires
     returns
     build-enum-value-mappings-requires
-    slice-aggregate-meets
-    meets-requires
+    slice-aggregate-overlaps
+    overlaps-requires
     returns-2
     returns-3)

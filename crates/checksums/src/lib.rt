@@ -1,0 +1,64 @@
+// Checksums of byte strings, and tables of them: the same strings have the same checksum.
+ghost use mathlib.Core.Path.{_≡_};
+ghost use Prim.Native.Nat.{_<_};
+ghost use Rattle.checksums.specs.Sums.{sum-of, holds, repeats, Put};
+
+fn wide(x: u8) -> u64
+    ensures { λ r. ⌜ (r ≡ x) × (r < 256) ⌝ }
+{
+    x as u64
+}
+
+pub fn checksum(s: &[u8]) -> u64
+    ensures { λ r. ⌜ r ≡ sum-of (now (s .entry)) ⌝ }
+{
+    let mut h: u64 = 0;
+    let mut i: usize = 0;
+    while i < s.len() {
+        let x = wide(s[i]);
+        h = (h * 1000003 + x) % 4294967296;
+        i += 1;
+    }
+    h
+}
+
+// Is x one of the numbers of t?
+pub fn holds(t: &[u64], x: u64) -> bool
+    ensures { λ r. ⌜ r ≡ holds x (now (t .entry)) ⌝ }
+{
+    let mut i: usize = 0;
+    while i < t.len() {
+        if x == t[i] {
+            return true;
+        }
+        i += 1;
+    }
+    false
+}
+
+// Are two of the numbers of t the same?
+pub fn repeats(t: &[u64]) -> bool
+    ensures { λ r. ⌜ r ≡ repeats (now (t .entry)) ⌝ }
+{
+    let mut i: usize = 0;
+    while i < t.len() {
+        let x = t[i];
+        i += 1;
+        let again = holds(&t[i..], x);
+        if again {
+            return true;
+        }
+    }
+    false
+}
+
+// Number n of a table is x, and so many are there with it: one more than the table has room for, where there is none for x.
+pub fn put_sum(t: &mut [u64], n: usize, x: u64) -> usize
+    ensures { λ r. ⌜ Put (now (t .entry)) n x (now (t .exit)) r ⌝ }
+{
+    if n < t.len() {
+        t[n] = x;
+        return n + 1;
+    }
+    t.len() + 1
+}
