@@ -1,15 +1,15 @@
 -- The file with an index, of an accepted set: its text and its faults by the tables are those that the text call speaks of. Assumes nothing.
 use mathlib.Core.Path.{_≡_, refl, ap, _∙_}
 use mathlib.Core.List.{List, [], _∷_, map}
-use Prim.Native.Nat.{ℕ, zero, suc, _+_, _^_, _<_}
+use Prim.Native.Nat.{ℕ, zero, suc, _+_, _^_, _≤_, _<_}
 use native.Mathlib.Nat.{not-suc-le-zero, le-of-suc-le-suc}
 use native.Mathlib.Omega.{arith}
-use lib.ListN.{length}
-use Rattle.base.specs.Lists.{Every}
+use lib.ListN.{length, length-append}
+use Rattle.base.specs.Lists.{Every, all-of}
 use Rattle.wire.specs.Records.{scan, records}
-use Rattle.descriptor.specs.Descriptor.{Bytes, FileDescriptor}
+use Rattle.descriptor.specs.Descriptor.{Bytes, Forest, done, node, preorder, MessageDescriptor, FileDescriptor}
 use Rattle.descriptor.specs.Decode.{entries-of, entries, last-from, parts, decode-messages, decode-file, decode-set}
-use Rattle.descriptor.specs.Limits.{limit-passed}
+use Rattle.descriptor.specs.Limits.{messages-in, limit-passed}
 use Rattle.options.specs.Settings.{Setting, settings}
 use Rattle.options.specs.Layout.{layout}
 use Rattle.options.specs.declared.check.Layout.the-variants as row
@@ -26,6 +26,7 @@ use Rattle.file_faults.specs.declared.Faults.{Faults}
 use Rattle.code_generator.specs.Generate.{file-text}
 use Rattle.code_generator.specs.Refusals.{variants-overlap, defaults-fail}
 use Rattle.text_laws.specs.FileTheorems.{first-from, first-message, file-text-is, file-faults-are}
+use Rattle.limit_facts.specs.Within.{within}
 use Rattle.text_length.specs.Bound.{text-bounded}
 use Rattle.file_parts.specs.FileParts.{part-at, behind, first-number}
 use Rattle.calls.specs.TextCall.{file-at}
@@ -43,7 +44,7 @@ file-is (p ∷ ps) zero = refl
 file-is (p ∷ ps) (suc x) = file-is ps x
 
 module _ (set messages t : List ℕ) where
-  behind-is : (left : ℕ) (scope : Bytes) (i : ℕ) (ps : List Bytes) → Numbered (NodeSays set messages t) scope i (decode-messages (suc left) ps) → behind messages (length ps) i ≡ i + size (decode-messages (suc left) ps)
+  pub behind-is : (left : ℕ) (scope : Bytes) (i : ℕ) (ps : List Bytes) → Numbered (NodeSays set messages t) scope i (decode-messages (suc left) ps) → behind messages (length ps) i ≡ i + size (decode-messages (suc left) ps)
   unfolding decode-messages behind size
   behind-is left scope i [] h = omega arith
   behind-is left scope i (p ∷ ps) h =
@@ -60,6 +61,26 @@ module _ (set messages t : List ℕ) where
       ap (λ (j : ℕ). first-number messages j ps x) (behind-is 15 (package-scope (decode-file p .package-name)) i (parts 4 (entries p)) (h .0))
       ∙ first-is (i + size (decode-messages 16 (parts 4 (entries p)))) ps (h .1) x
 
+-- ---- the numbers of messages are below their count
+size-is : (F : Forest MessageDescriptor) → size F ≡ length (preorder F)
+unfolding size preorder
+size-is done = refl
+size-is (node m nested following) =
+    let a = size-is nested in
+    let b = size-is following in
+    let c = length-append (preorder nested) (preorder following) in
+    omega arith
+
+first-within : (i : ℕ) (fs : List FileDescriptor) (x : ℕ) → first-from i fs x ≤ i + length (messages-in fs)
+unfolding first-from messages-in all-of
+first-within i fs zero = omega arith
+first-within i [] (suc x) = omega arith
+first-within i (f ∷ fs) (suc x) =
+    let a = size-is (f .messages) in
+    let b = length-append (preorder (f .messages)) (messages-in fs) in
+    let c = first-within (i + size (f .messages)) fs x in
+    omega arith
+
 abbrev faults-of : List Setting → FileDescriptor → Faults
 faults-of rs f = record { overlap = variants-overlap rs f; default = defaults-fail rs f }
 
@@ -72,6 +93,9 @@ module _ (rs : List Setting) (set messages t : List ℕ) (passed : limit-passed 
   number-is : first-number messages 0 (parts 1 (entries set)) file ≡ first-message (decode-set set) file
   unfolding decode-set
   number-is = first-is set messages t 0 (parts 1 (entries set)) (says .nodes) file
+
+  pub call-number-within : first-number messages 0 (parts 1 (entries set)) file ≤ 256
+  call-number-within = let a = number-is in let b = first-within 0 (decode-set set) file in let c = within set passed .messages in omega arith
 
   descriptor-is : decode-file part-of ≡ file-at (decode-set set) file
   unfolding decode-set

@@ -1,0 +1,86 @@
+-- A file of an accepted set by the tables: refusals 8, 9 and 10. Assumes nothing.
+use mathlib.Core.Path.{_≡_, refl, sym, ap, _∙_, subst}
+use mathlib.Core.Bool.{true, false}
+use mathlib.Core.List.{List}
+use Prim.Native.Nat.{ℕ, _^_, _<_}
+use native.Mathlib.Omega.{arith}
+use lib.ListN.{length}
+use Rattle.base.specs.Choose.{choose}
+use Rattle.base.specs.Lists.{map-length}
+use Rattle.descriptor.specs.Descriptor.{Bytes, FileDescriptor}
+use Rattle.descriptor.specs.Decode.{entries, parts, decode-file, decode-set}
+use Rattle.options.specs.Settings.{settings}
+use Rattle.table_says.specs.Says.{Says}
+use Rattle.set_tables.specs.Filled.{message-numbers, field-numbers}
+use Rattle.set_tables.proofs.TablesSay.{tables-say}
+use Rattle.message_text.specs.MessageText.{text-of-file}
+use Rattle.file_faults.specs.FileFaults.{faults-of-file}
+use Rattle.file_faults.specs.declared.Faults.{Faults}
+use Rattle.file_parts.specs.FileParts.{part-at, first-number}
+use Rattle.code_generator.specs.Refusals.{variants-overlap, defaults-fail}
+use Rattle.calls.specs.TextCall.{Outcome, by-room, by-text, file-at, call-text}
+use Rattle.call_laws.specs.CallLaws.{call-number-within, call-text-is, call-faults-are, call-bounded}
+use Rattle.text_call.specs.Answer.{Accepted, Answers, Whole}
+use Rattle.text_call.specs.declared.TextAnswer.{TextAnswer}
+use Rattle.text_call.specs.declared.TextAnswer.the-variants.{Variants, Defaults}
+use Rattle.text_call.proofs.RoomLaws.{refuses}
+
+pub files-counted : (set : Bytes) → length (parts 1 (entries set)) ≡ length (decode-set set)
+unfolding decode-set
+files-counted set = sym (map-length decode-file (parts 1 (entries set)))
+
+module _ (set o : Bytes) (file : ℕ) (accepted : Accepted set o file) (messages fields : List ℕ) (m n : ℕ)
+    (messages-are : messages ≡ message-numbers m set o) (fields-are : fields ≡ field-numbers n set o) (wide : m ≡ 1024) (long : n ≡ 16384) where
+  says : Says (settings o) set messages fields
+  says = rw (messages-are, fields-are) (tables-say set o (accepted .limits) (accepted .named) m n (omega arith) (omega arith))
+
+  there : file < length (parts 1 (entries set))
+  there = let a = files-counted set in let h = accepted .there in omega arith
+
+  pub number-fits : first-number messages 0 (parts 1 (entries set)) file < 2 ^ 32
+  number-fits = let h = call-number-within (settings o) set messages fields (accepted .limits) (accepted .named) says file there in omega arith
+
+  module _ (i : ℕ) (p : Bytes) (numbered : i ≡ first-number messages 0 (parts 1 (entries set)) file) (part-is : p ≡ part-at (parts 1 (entries set)) file) where
+    text-is : text-of-file (settings o) set messages fields i p ≡ call-text set o file
+    text-is = rw (numbered, part-is) (call-text-is (settings o) set messages fields (accepted .limits) (accepted .named) says file there)
+
+    pub text-short : length (text-of-file (settings o) set messages fields i p) < 2 ^ 63
+    text-short =
+        let e = ap length text-is in
+        let h = call-bounded o set (accepted .options) (accepted .limits) file (accepted .there) in
+        omega arith
+
+    abbrev file-is : FileDescriptor
+    file-is = file-at (decode-set set) file
+
+    module _ (faults : Faults) (found : faults ≡ faults-of-file (settings o) set messages fields i p) where
+      faults-are : faults ≡ record { overlap = variants-overlap (settings o) file-is; default = defaults-fail (settings o) file-is }
+      faults-are = found ∙ rw (numbered, part-is) (call-faults-are (settings o) set messages fields (accepted .limits) (accepted .named) says file there)
+
+      overlap-is : variants-overlap (settings o) file-is ≡ faults .overlap
+      overlap-is = sym (ap (λ (x : Faults). x .overlap) faults-are)
+
+      default-is : defaults-fail (settings o) file-is ≡ faults .default
+      default-is = sym (ap (λ (x : Faults). x .default) faults-are)
+
+      module _ (t : List ℕ) where
+        abbrev Answered : List ℕ → TextAnswer → Type 0
+        Answered t' r = Answers (by-text (settings o) (decode-set set) (length t) file-is) (call-text set o file) t t' r
+
+        pub overlaps : faults .overlap ≡ true → Answered t Variants
+        unfolding by-text choose
+        overlaps h = refuses Variants _ (call-text set o file) t t (rw (overlap-is, h)) refl refl
+
+        module _ (apart : faults .overlap ≡ false) where
+          pub default-fails : faults .default ≡ true → Answered t Defaults
+          unfolding by-text choose
+          default-fails h = refuses Defaults _ (call-text set o file) t t (rw (overlap-is, apart, default-is, h)) refl refl
+
+          good-is : faults .default ≡ false → by-room (length t) (length (call-text set o file)) ≡ by-text (settings o) (decode-set set) (length t) file-is
+          unfolding by-text choose
+          good-is h = rw (overlap-is, apart, default-is, h)
+
+          pub fault-free : faults .default ≡ false → (t' : List ℕ) (r : TextAnswer) → Whole (text-of-file (settings o) set messages fields i p) t t' r → Answered t' r
+          fault-free h t' r w =
+              subst (λ (x : Outcome). Answers x (call-text set o file) t t' r) (good-is h)
+              (subst (λ (q : List ℕ). Whole q t t' r) text-is w)
