@@ -29,8 +29,8 @@ pub fn file_part(set: &[u8], file: usize) -> &[u8]
 }
 
 // The number behind n messages, the first of which is message i.
-fn behind(messages: &[u16], n: usize, i: usize) -> usize
-    ensures { λ r. ⌜ r ≡ behind (now (messages .entry)) n i ⌝ }
+pub fn behind(messages: &[u16], n: usize, i: usize) -> usize
+    ensures { λ r. ⌜ (r ≡ behind (now (messages .entry)) n i) × (i < 65536 → r < 65536) ⌝ }
 {
     let mut left = n;
     let mut k = i;

@@ -56,7 +56,7 @@ fn reads_nested(deeper: bool, p: &[u8]) -> bool
 }
 
 // Is a module written for message i, whose part p is?
-fn module_for(messages: &[u16], fields: &[u16], deeper: bool, i: usize, p: &[u8]) -> bool
+pub fn module_for(messages: &[u16], fields: &[u16], deeper: bool, i: usize, p: &[u8]) -> bool
     ensures { λ r. ⌜ r ≡ module-for (now (messages .entry)) (now (fields .entry)) deeper i (now (p .entry)) ⌝ }
 {
     let enums = parts::count_parts(p, 4);

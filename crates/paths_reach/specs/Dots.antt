@@ -56,7 +56,7 @@ name-no-dot (c ∷ s) h =
     start-part false t e = e
 
 -- ---- splitting
-split-cons : (c : ℕ) (s : Bytes) → split (b ".") (c ∷ s) ≡ choose (eqb c 46) ([] ∷ split (b ".") s) (push c (split (b ".") s))
+pub split-cons : (c : ℕ) (s : Bytes) → split (b ".") (c ∷ s) ≡ choose (eqb c 46) ([] ∷ split (b ".") s) (push c (split (b ".") s))
 unfolding split split-behind begins
 split-cons c s = rw (and-true (eqb c 46)) refl
 

@@ -24,7 +24,7 @@ pub every-right : {A : Type 0} (P : A → Type 0) (xs ys : List A) → Every P (
 every-right P [] ys p = p
 every-right P (x ∷ xs) ys p = every-right P xs ys (p .1)
 
-every-reverse : {A : Type 0} (P : A → Type 0) (xs ys : List A) → Every P xs → Every P ys → Every P (reverseAux xs ys)
+pub every-reverse : {A : Type 0} (P : A → Type 0) (xs ys : List A) → Every P xs → Every P ys → Every P (reverseAux xs ys)
 every-reverse P [] ys p q = q
 every-reverse P (x ∷ xs) ys p q = every-reverse P xs (x ∷ ys) (p .1) (p .0, q)
 

@@ -32,12 +32,12 @@ use Rattle.text_laws.specs.FaultLaws.{messages-faults-are}
 
 -- ---- a file that declares nothing
 
-no-parts : (n : ℕ) (ps : List Bytes) → decode-messages (suc n) ps ≡ done → ps ≡ []
+pub no-parts : (n : ℕ) (ps : List Bytes) → decode-messages (suc n) ps ≡ done → ps ≡ []
 unfolding decode-messages
 no-parts n [] e = refl
 no-parts n (p ∷ ps) e = both-ways refl (sym (ap none-nested e))
 
-none-mapped : {A B : Type 0} (g : A → B) (xs : List A) → map g xs ≡ [] → xs ≡ []
+pub none-mapped : {A B : Type 0} (g : A → B) (xs : List A) → map g xs ≡ [] → xs ≡ []
 none-mapped g [] e = refl
 none-mapped g (x ∷ xs) e = both-ways refl (sym (ap is-empty e))
 

@@ -32,7 +32,7 @@ use Rattle.text_laws.specs.FieldLaws.{FieldFits, plain-rows, VariantIs, 
 
 module _ (m : MessageDescriptor) (nested : Forest MessageDescriptor) where
   -- the oneof with the index x
-  abbrev oneof-at : ℕ → Option Bytes → OneofField
+  abbrev pub oneof-at : ℕ → Option Bytes → OneofField
   oneof-at x n = record { name = text n; fields = fields-at x (m .fields); has-type-name-conflict = meets m nested (text n) }
 
   module _ (texts : List OneofField → Bytes) (one : OneofField → Bytes) (on-nil : texts [] ≡ []) (on-cons : (r : OneofField) (rest : List OneofField) → texts (r ∷ rest) ≡ one r ++ texts rest) where
@@ -41,7 +41,7 @@ module _ (m : MessageDescriptor) (nested : Forest MessageDescriptor) where
     one-more true r rest = refl
     one-more false r rest = sym (on-cons r rest)
 
-    walked-is : (g : ℕ → Bytes → Bytes) (Q : Option Bytes → Type 0)
+    pub walked-is : (g : ℕ → Bytes → Bytes) (Q : Option Bytes → Type 0)
         → ((x : ℕ) (q : Bytes) → Q (decode-oneof q) → g x q ≡ pick (is-empty (fields-at x (m .fields))) [] (one (oneof-at x (decode-oneof q))))
         → (x : ℕ) (qs : List Bytes) → Every Q (map decode-oneof qs) → walked g (λ x q. suc x) x qs ≡ texts (oneofs-from m nested x (map decode-oneof qs))
     unfolding walked oneofs-from

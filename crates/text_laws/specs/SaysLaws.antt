@@ -33,11 +33,11 @@ from-places P k (f ∷ fs) h = (
 )
 
 module _ {A : Type 0} (P : A → Type 0) where
-  every-left : (xs ys : List A) → Every P (xs ++ ys) → Every P xs
+  pub every-left : (xs ys : List A) → Every P (xs ++ ys) → Every P xs
   every-left [] ys h = tt
   every-left (x ∷ xs) ys h = (h .0, every-left xs ys (h .1))
 
-  every-right : (xs ys : List A) → Every P (xs ++ ys) → Every P ys
+  pub every-right : (xs ys : List A) → Every P (xs ++ ys) → Every P ys
   every-right [] ys h = h
   every-right (x ∷ xs) ys h = every-right xs ys (h .1)
 

@@ -1,0 +1,2 @@
+pub mod DifferLaws
+pub mod CallLaws

@@ -1,0 +1,3 @@
+pub mod Differ
+pub mod NameTheorem
+pub mod Answer

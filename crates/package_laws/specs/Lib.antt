@@ -1,0 +1,4 @@
+pub mod PlaceLaws
+pub mod PackageLaws
+pub mod SegmentLaws
+pub mod PackageTheorems

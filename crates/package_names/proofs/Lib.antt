@@ -1,0 +1,2 @@
+pub mod MeetLaws
+pub mod StandLaws

@@ -1,0 +1,4 @@
+pub mod RowTexts
+pub mod HeldPlaces
+pub mod PlaceCount
+pub mod PlaceTheorems

@@ -1,0 +1,1 @@
+// The rows of declared places, of an accepted set: specs/.
