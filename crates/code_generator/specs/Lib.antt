@@ -8,3 +8,4 @@ pub mod Enums
 pub mod Generate
 pub mod Refusals
 pub mod Examples
+pub mod TreeTexts

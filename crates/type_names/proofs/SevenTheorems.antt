@@ -142,7 +142,7 @@ module _ (fs : List FileDescriptor) (none : first-seven fs ≡ length fs) where
   pub names-differ : (i j : ℕ) → i < j → j < length (set-declarations fs) → getD (fulls (set-declarations fs)) i [] ≡ getD (fulls (set-declarations fs)) j [] → ⊥
   names-differ = apart [] (set-declarations fs) (holds .distinct)
 
-  entries-apart : (i j : ℕ) → i < j → j < length (full-names (set-entries fs)) → getD (full-names (set-entries fs)) i [] ≡ getD (full-names (set-entries fs)) j [] → ⊥
+  pub entries-apart : (i j : ℕ) → i < j → j < length (full-names (set-entries fs)) → getD (full-names (set-entries fs)) i [] ≡ getD (full-names (set-entries fs)) j [] → ⊥
   entries-apart i j l k e =
       let ms : List Declaration = map message-declaration (set-entries fs) in
       let is : fresh [] ms ≡ true = ap (fresh []) (sym (set-only fs)) ∙ messages-fresh [] (set-declarations fs) (holds .distinct) in

@@ -2,7 +2,7 @@
 use Prim.Native.Nat.{ℕ}
 use Prim.Native.String.{String}
 use mathlib.Core.Path.{_≡_, refl, ap, sym, _∙_, subst}
-use mathlib.Core.Bool.{Bool, true, false}
+use mathlib.Core.Bool.{true, false}
 use mathlib.Core.Option.{Option, some, none}
 use mathlib.Core.List.{List, [], _∷_, _++_, map, List·Memᴰ, List·Memᴰ·head, List·Memᴰ·tail}
 use Rattle.base.specs.Bytes.{b, same}
@@ -13,8 +13,8 @@ use Rattle.ident.specs.Ident.{among as among-words, raw-words, kept-words, addi
 use Rattle.ident.specs.Name.{name-start, name-part, every, is-name, has-word}
 use Rattle.field_types.specs.Types.{sort-of}
 use Rattle.syntax.specs.Syntax.{syntax-of}
-use Rattle.descriptor.specs.Descriptor.{Bytes, done, node, FieldDescriptor, EnumDescriptor, MessageDescriptor, FileDescriptor}
-use Rattle.options.specs.Settings.{Setting, value-of}
+use Rattle.descriptor.specs.Descriptor.{Bytes}
+use Rattle.options.specs.Settings.{value-of}
 use Rattle.path.specs.Forms.{behind-dots, before-dots, filled, suffixes, prefixes, sub-path-iter, among}
 use Rattle.path.specs.PathMap.{get-in, first-with, find-best}
 use Rattle.extern_paths.specs.Split.{begins, split-behind, split}
@@ -32,6 +32,7 @@ use Rattle.code_generator.specs.Fields.{optional}
 use Rattle.code_generator.specs.MapFields.{map-entry-of}
 use Rattle.code_generator.specs.Oneofs.{plain-fields, fields-at, nested-meets, enum-meets, oneofs-from}
 use Rattle.code_generator.specs.Generate.{has-nested-types}
+use Rattle.code_generator.specs.TreeTexts.{one, set, rs}
 use Rattle.code_generator.specs.Refusals.{any-message, overlap}
 use Rattle.name_check.specs.NameCheck.{modules-in, each-once, package-modules, enum-places, message-places, file-places, places, places-differ, file-members-meet, name-check}
 use Rattle.sights.specs.Events.{WrittenPath}
@@ -45,85 +46,27 @@ use Rattle.walks_end.specs.BoxedFields.{no-boxed-setting, written-fields
 use Rattle.walks_end.specs.WalksEnd.{walks-end}
 use Rattle.walks_end.specs.BoxesStand.{boxes-stand}
 
-abbrev field : String → ℕ → ℕ → ℕ → Option Bytes → Option ℕ → FieldDescriptor
-field name number label type type-name oneof =
-    record {
-      name = some (b name);
-      number = some number;
-      label = some label;
-      type = some type;
-      type-name = type-name;
-      default-value = none;
-      options = none;
-      oneof-index = oneof;
-      proto3-optional = false;
-    }
-
--- a field of type message, optional or repeated
-abbrev one : String → ℕ → String → FieldDescriptor
-one name number type = field name number 1 11 (some (b type)) none
-
-abbrev many : String → ℕ → String → FieldDescriptor
-many name number type = field name number 3 11 (some (b type)) none
-
-abbrev variant : String → ℕ → String → FieldDescriptor
-variant name number type = field name number 1 11 (some (b type)) (some 0)
-
-abbrev message : String → List FieldDescriptor → List EnumDescriptor → Bool → List (Option Bytes) → MessageDescriptor
-message name fields enums map-entry oneofs = record { name = some (b name); fields = fields; enums = enums; map-entry = map-entry; oneofs = oneofs }
-
--- a tree with all that a field can be: of its own type; of another package's, which leads back; an enum; a map; repeated; of a type that an
--- extern path takes, which leads back too; of a nested type, which doesn't; and a oneof of these
-abbrev tree : MessageDescriptor
-tree =
-    message "Tree"
-    (one "left" 1 ".a.b.Tree"
-    ∷ one "forest" 2 ".a.c.Forest"
-    ∷ field "kind" 3 1 14 (some (b ".a.b.Tree.Kind")) none
-    ∷ many "by_name" 4 ".a.b.Tree.ByNameEntry"
-    ∷ many "children" 5 ".a.b.Tree"
-    ∷ one "stamp" 6 ".x.Stamp"
-    ∷ one "note" 7 ".a.b.Tree.Note"
-    ∷ variant "leaf" 8 ".a.b.Tree.Note"
-    ∷ variant "branch" 9 ".a.b.Tree"
-    ∷ [])
-    (record { name = some (b "Kind"); values = [] } ∷ []) false (some (b "shape") ∷ [])
-
-abbrev by-name-entry : MessageDescriptor
-by-name-entry = message "ByNameEntry" (field "key" 1 1 9 none none ∷ one "value" 2 ".a.b.Tree" ∷ []) [] true []
-
-abbrev set : List FileDescriptor
-set =
-    record { package-name = some (b "a.b"); syntax = none; messages = node tree (node (message "Note" [] [] false []) done (node by-name-entry done done)) done; enums = [] }
-    ∷ record { package-name = some (b "a.c"); syntax = none; messages = node (message "Forest" (one "tree" 1 ".a.b.Tree" ∷ []) [] false []) done done; enums = [] }
-    ∷ record { package-name = some (b "x"); syntax = none; messages = node (message "Stamp" (one "tree" 1 ".a.b.Tree" ∷ []) [] false []) done done; enums = [] }
-    ∷ []
-
--- one extern path
-abbrev rs : List Setting
-rs = record { kind = 1; path = b ".x"; value = b "::x" } ∷ []
-
-good : names set ≡ Good
+pub good : names set ≡ Good
 unfolding names first-six first-seven file-named file-good messages-good message-good field-good value-good enum-good entry-good key-good value-field-good key-type segments good-name map-entries-named entries-named entry-named entries set-entries file-declarations set-declarations declared declared-as fresh type-declared fields-of-entries first-undeclared name-start name-part every is-name has-word between class sort-of syntax-of all count first-failing choose same
 good = refl
 
-says-yes : name-check rs set ≡ true
+pub says-yes : name-check rs set ≡ true
 unfolding name-check places file-places message-places enum-places each-once modules-in package-modules places-differ file-members-meet any all-of any-message overlap among local-path split split-behind begins plain-fields fields-at nested-meets enum-meets oneofs-from has-nested-types taken extern-paths value-of find-best first-with prefixes filled before-dots choose same between class lowered raised parts words to-snake-case to-upper-camel-case among-words raw-words kept-words addition with-addition sanitize-identifier to-snake to-upper-camel
 says-yes = refl
 
-free : group-free set ≡ true
+pub free : group-free set ≡ true
 unfolding group-free entries set-entries fields-of-entries all
 free = refl
 
-unset : no-boxed-setting rs ≡ true
+pub unset : no-boxed-setting rs ≡ true
 unfolding no-boxed-setting all
 unset = refl
 
 -- ---- what is seen in the texts
-abbrev path : ℕ → List Bytes → String → WrittenPath
+abbrev pub path : ℕ → List Bytes → String → WrittenPath
 path supers modules last = record { supers = supers; modules = modules; last = b last }
 
-abbrev field-name : Option Label → Bytes
+abbrev pub field-name : Option Label → Bytes
 field-name none = []
 field-name (some l) = l .name
 
@@ -150,10 +93,10 @@ seen = (
 )
 
 -- a walk goes from the struct Tree to the struct Note, by the field `note`
-abbrev tree-struct : Item
+abbrev pub tree-struct : Item
 tree-struct = record { place = b "b" ∷ b "a" ∷ []; name = b "Tree"; is-module = false; mark = some (type-ref (b ".a.b.Tree")) }
 
-abbrev note-struct : Item
+abbrev pub note-struct : Item
 note-struct = record { place = b "tree" ∷ b "b" ∷ b "a" ∷ []; name = b "Note"; is-module = false; mark = some (type-ref (b ".a.b.Tree.Note")) }
 
 abbrev note-path : Use

@@ -1,17 +1,17 @@
--- The declaration around a path that is seen is seen itself. Assumes nothing.
+-- The declaration around a path or a Box that is seen is seen itself. Assumes nothing.
 use Prim.Native.Nat.{ℕ}
 use mathlib.Core.Path.{_≡_, refl, sym, subst}
 use mathlib.Core.Option.{Option, some, none}
 use mathlib.Core.Logic.{⊎-elim}
 use mathlib.Core.List.{List, [], _∷_, _++_, List·Memᴰ, List·Memᴰ·head, List·Memᴰ·tail, List·Memᴰ·cases-cons, List·Memᴰ·not-nil, Memᴰ·append-left, Memᴰ·append-right}
 use native.Mathlib.Omega.{arith}
-use Rattle.base.specs.Lists.{Every, every-of, all-of}
+use Rattle.base.specs.Lists.{Every, every-of, every-to, all-of}
 use Rattle.descriptor.specs.Descriptor.{Bytes, FileDescriptor}
 use Rattle.options.specs.Settings.{Setting}
 use Rattle.code_generator.specs.Piece.{pieces, Wrap, opt, vec, box, table}
 use Rattle.code_generator.specs.Generate.{generate}
 use Rattle.sights.specs.Events.{Event, open-module, open-declaration, open-block, close-block, open-field, close-field, open-tag, close-tag, open-wrap, close-wrap, meet-path, events}
-use Rattle.sights.specs.Sights.{Item, Use, Sight, Frame, in-module, in-declaration, in-block, in-field, in-tag, in-wrap, owner-of, closed, declaration-at, box-seen, read, file-place, file-sights, set-sights, items, uses}
+use Rattle.sights.specs.Sights.{Item, Use, BoxUse, Sight, an-item, a-path, a-box, Frame, in-module, in-declaration, in-block, in-field, in-tag, in-wrap, owner-of, closed, declaration-at, box-seen, read, file-place, file-sights, set-sights, items, uses, boxes}
 use Rattle.paths_reach.specs.Seen.{Fine, fine-uses, items-append, every-mem}
 
 same-item : (i j : Item) → some i ≡ some j → i ≡ j
@@ -30,8 +30,28 @@ module _ (P : Item → Type 0) where
   Open in-tag = Unit
   Open (in-wrap w) = Unit
 
-  abbrev Owner : Use → Type 0
-  Owner u = (i : Item) → u .owner ≡ some i → P i
+  abbrev Owner : Option Item → Type 0
+  Owner o = (i : Item) → o ≡ some i → P i
+
+  -- of what is seen: what holds of the declaration around it
+  abbrev Around : Sight → Type 0
+  Around (an-item i) = Unit
+  Around (a-path u) = Owner (u .owner)
+  Around (a-box x) = Owner (x .owner)
+
+  path-owner : (ss : List Sight) → Every Around ss → (u : Use) → List·Memᴰ u (uses ss) → Owner (u .owner)
+  path-owner ss h = fine-uses (λ (u : Use). Owner (u .owner)) ss (every-to (λ s. fine s) ss h)
+    where
+      fine : (s : Sight) → Around s → Fine (λ (u : Use). Owner (u .owner)) s
+      fine (an-item i) a = tt
+      fine (a-path u) a = a
+      fine (a-box x) a = tt
+
+  box-owner : (ss : List Sight) → Every Around ss → (x : BoxUse) → List·Memᴰ x (boxes ss) → Owner (x .owner)
+  box-owner [] h x m = absurd (List·Memᴰ·not-nil m)
+  box-owner (an-item i ∷ ss) h x m = box-owner ss (h .1) x m
+  box-owner (a-path u ∷ ss) h x m = box-owner ss (h .1) x m
+  box-owner (a-box y ∷ ss) h x m = ⊎-elim (λ e. subst (λ (z : BoxUse). Owner (z .owner)) (sym e) (h .0)) (λ n. box-owner ss (h .1) x n) (List·Memᴰ·cases-cons m)
 
   open-owner : (fs : List Frame) → Every Open fs → (i : Item) → owner-of fs ≡ some i → P i
   open-owner [] h i e = no-item i e
@@ -46,11 +66,11 @@ module _ (P : Item → Type 0) where
   open-closed [] h = tt
   open-closed (x ∷ fs) h = h .1
 
-  box-owned : (w : Wrap) (fs : List Frame) (ss : List Sight) → Every (Fine Owner) ss → Every (Fine Owner) (box-seen w fs ++ ss)
-  box-owned opt fs ss h = h
-  box-owned vec fs ss h = h
-  box-owned box fs ss h = (tt, h)
-  box-owned table fs ss h = h
+  box-owned : (w : Wrap) (fs : List Frame) (ss : List Sight) → Every Open fs → Every Around ss → Every Around (box-seen w fs ++ ss)
+  box-owned opt fs ss o h = h
+  box-owned vec fs ss o h = h
+  box-owned box fs ss o h = (open-owner fs o, h)
+  box-owned table fs ss o h = h
 
   box-items : (w : Wrap) (fs : List Frame) (ss : List Sight) → items (box-seen w fs ++ ss) ≡ items ss
   box-items opt fs ss = refl
@@ -58,7 +78,7 @@ module _ (P : Item → Type 0) where
   box-items box fs ss = refl
   box-items table fs ss = refl
 
-  owners : (base : List Bytes) (fs : List Frame) (es : List Event) → Every Open fs → ((i : Item) → List·Memᴰ i (items (read base fs es)) → P i) → Every (Fine Owner) (read base fs es)
+  owners : (base : List Bytes) (fs : List Frame) (es : List Event) → Every Open fs → ((i : Item) → List·Memᴰ i (items (read base fs es)) → P i) → Every Around (read base fs es)
   owners base fs [] h k = tt
   owners base fs (open-module n ∷ es) h k = (tt, owners base (in-module n ∷ fs) es (tt, h) (λ i m. k i (List·Memᴰ·tail m)))
   owners base fs (open-declaration r n ∷ es) h k =
@@ -72,7 +92,7 @@ module _ (P : Item → Type 0) where
   owners base fs (close-tag ∷ es) h k = owners base (closed fs) es (open-closed fs h) k
   owners base fs (open-wrap w ∷ es) h k =
       let ss = read base (in-wrap w ∷ fs) es in
-      box-owned w fs ss (owners base (in-wrap w ∷ fs) es (tt, h) (λ i m. k i (subst (λ (l : List Item). List·Memᴰ i l) (sym (box-items w fs ss)) m)))
+      box-owned w fs ss h (owners base (in-wrap w ∷ fs) es (tt, h) (λ i m. k i (subst (λ (l : List Item). List·Memᴰ i l) (sym (box-items w fs ss)) m)))
   owners base fs (close-wrap ∷ es) h k = owners base (closed fs) es (open-closed fs h) k
   owners base fs (meet-path r p ∷ es) h k = (open-owner fs h, owners base fs es h k)
 
@@ -84,11 +104,19 @@ items-all {A} g (y ∷ xs) x m i n =
     subst (λ (l : List Item). List·Memᴰ i l) (sym (items-append (g y) (all-of g xs)))
     (⊎-elim (λ e. Memᴰ·append-left (items (all-of g xs)) (subst (λ (z : A). List·Memᴰ i (items (g z))) e n)) (λ k. Memᴰ·append-right (items (g y)) (items-all g xs x k i n)) (List·Memᴰ·cases-cons m))
 
-pub owners-seen : (rs : List Setting) (set : List FileDescriptor) (u : Use) → List·Memᴰ u (uses (set-sights rs set)) → (i : Item) → u .owner ≡ some i → List·Memᴰ i (items (set-sights rs set))
-unfolding set-sights file-sights
-owners-seen rs set =
-    let P : Item → Type 0 = λ (i : Item). List·Memᴰ i (items (set-sights rs set)) in
-    fine-uses (Owner P) (set-sights rs set)
-    (every-of (Fine (Owner P)) (file-sights rs set) set
-    (every-mem (λ (f : FileDescriptor). Every (Fine (Owner P)) (file-sights rs set f)) set
-    (λ f m. owners P (file-place f) [] (events (pieces (generate rs set f))) tt (items-all (file-sights rs set) set f m))))
+module _ (rs : List Setting) (set : List FileDescriptor) where
+  abbrev Seen : Item → Type 0
+  Seen i = List·Memᴰ i (items (set-sights rs set))
+
+  all-around : Every (Around Seen) (set-sights rs set)
+  unfolding set-sights file-sights
+  all-around =
+      every-of (Around Seen) (file-sights rs set) set
+      (every-mem (λ (f : FileDescriptor). Every (Around Seen) (file-sights rs set f)) set
+      (λ f m. owners Seen (file-place f) [] (events (pieces (generate rs set f))) tt (items-all (file-sights rs set) set f m)))
+
+  pub owners-seen : (u : Use) → List·Memᴰ u (uses (set-sights rs set)) → (i : Item) → u .owner ≡ some i → List·Memᴰ i (items (set-sights rs set))
+  owners-seen = path-owner Seen (set-sights rs set) all-around
+
+  pub box-owners-seen : (x : BoxUse) → List·Memᴰ x (boxes (set-sights rs set)) → (i : Item) → x .owner ≡ some i → List·Memᴰ i (items (set-sights rs set))
+  box-owners-seen = box-owner Seen (set-sights rs set) all-around

@@ -34,7 +34,7 @@ pub record Keeps (item : Item → Item) (use-of : Use → Use) : Type 0 where
   pub owner : (u : Use) (i : Item) → use-of u .owner ≡ some i → (j : Item) × (u .owner ≡ some j) × (item j ≡ i)
 
 -- ---- what a test finds
-those-mem : {A : Type 0} (p : A → Bool) (xs : List A) (x : A) → List·Memᴰ x (those p xs) → List·Memᴰ x xs × (p x ≡ true)
+pub those-mem : {A : Type 0} (p : A → Bool) (xs : List A) (x : A) → List·Memᴰ x (those p xs) → List·Memᴰ x xs × (p x ≡ true)
 unfolding those choose
 those-mem p [] x m = absurd (List·Memᴰ·not-nil m)
 those-mem {A} p (y ∷ xs) x m = go (p y) refl m (those-mem p xs x)
@@ -43,7 +43,7 @@ those-mem {A} p (y ∷ xs) x m = go (p y) refl m (those-mem p xs x)
     go true e n rest = ⊎-elim (λ q. (List·Memᴰ·head q, subst (λ (z : A). p z ≡ true) (sym q) e)) (λ k. let r = rest k in (List·Memᴰ·tail (r .0), r .1)) (List·Memᴰ·cases-cons n)
     go false e n rest = let r = rest n in (List·Memᴰ·tail (r .0), r .1)
 
-mem-those : {A : Type 0} (p : A → Bool) (xs : List A) (x : A) → List·Memᴰ x xs → p x ≡ true → List·Memᴰ x (those p xs)
+pub mem-those : {A : Type 0} (p : A → Bool) (xs : List A) (x : A) → List·Memᴰ x xs → p x ≡ true → List·Memᴰ x (those p xs)
 unfolding those choose
 mem-those p [] x m h = absurd (List·Memᴰ·not-nil m)
 mem-those {A} p (y ∷ xs) x m h = go (p y) refl (List·Memᴰ·cases-cons m) (λ k. mem-those p xs x k h)

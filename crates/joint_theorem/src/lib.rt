@@ -1,0 +1,1 @@
+// Demand 3 as one theorem: specs/.
