@@ -1,4 +1,5 @@
 //! Brings the generator's nine files, unchanged, into the build folder and declares their modules.
+//! With the feature `compare` it links the library made by `rt staticlib generator` too.
 
 use std::{env, fs, path::Path, path::PathBuf};
 
@@ -21,6 +22,35 @@ const CODE_GENERATOR: [&str; 3] = [
 ];
 
 fn main() {
+    bring_generator();
+    if env::var_os("CARGO_FEATURE_COMPARE").is_some() {
+        link_library();
+    }
+}
+
+/// Links libgenerator.a out of the folder that CEMILOVASH_LIB names.
+fn link_library() {
+    println!("cargo:rerun-if-env-changed=CEMILOVASH_LIB");
+    let folder = env::var_os("CEMILOVASH_LIB")
+        .map(PathBuf::from)
+        .unwrap_or_else(|| {
+            Path::new(&env::var_os("CARGO_MANIFEST_DIR").unwrap()).join("../target/staticlib")
+        });
+    println!(
+        "cargo:rerun-if-changed={}",
+        folder.join("libgenerator.a").display()
+    );
+    println!("cargo:rustc-link-search=native={}", folder.display());
+    println!("cargo:rustc-link-lib=static=generator");
+    println!("cargo:rustc-check-cfg=cfg(names_call)");
+    let archive = fs::read(folder.join("libgenerator.a")).unwrap_or_default();
+    let symbol = b"cemilovash_names";
+    if archive.windows(symbol.len()).any(|part| part == symbol) {
+        println!("cargo:rustc-cfg=names_call");
+    }
+}
+
+fn bring_generator() {
     println!("cargo:rerun-if-env-changed=PROST_BUILD_SRC");
     let given = env::var_os("PROST_BUILD_SRC")
         .map(PathBuf::from)

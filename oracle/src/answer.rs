@@ -21,39 +21,71 @@ pub fn decode(set: &[u8]) -> Option<FileDescriptorSet> {
 }
 
 /// Document 01's longest text.
-const TEXT_LIMIT: usize = 65_536;
+pub const TEXT_LIMIT: usize = 65_536;
+
+/// A file's package and text; no text where the Rust panics on it.
+pub struct Written {
+    pub package: Option<String>,
+    pub text: Option<String>,
+}
+
+/// Why a set has no texts.
+pub enum Failed {
+    Options,
+    Extern,
+    Undecodable,
+    Panicked,
+}
+
+/// The texts of all files of a set.
+pub fn texts(set: &[u8], mut config: Config) -> Result<Vec<Written>, Failed> {
+    let extern_paths = config.extern_paths().map_err(|_| Failed::Extern)?;
+    let set = decode(set).ok_or(Failed::Undecodable)?;
+    let graph =
+        catch_unwind(|| MessageGraph::new(set.file.iter())).map_err(|_| Failed::Panicked)?;
+    let mut context = Context::new(&mut config, graph, extern_paths);
+    let mut found = Vec::new();
+    for file in set.file {
+        let package = file.package.clone();
+        let mut text = String::new();
+        let generate = || CodeGenerator::generate(&mut context, file, &mut text);
+        let done = catch_unwind(AssertUnwindSafe(generate));
+        found.push(Written {
+            package,
+            text: done.is_ok().then_some(text),
+        });
+    }
+    Ok(found)
+}
 
 /// `//@ ` line and text of each file. Where that ends early, the last line says why: `undecodable`,
 /// `options` (layout), `extern` (extern paths), and in place of a file's `//@ ` line `panicked`, or
 /// `refused 10 LENGTH` for a text that is too long.
 pub fn answer(set: &[u8], options: &[u8]) -> String {
-    let Some(mut config) = Config::read(options) else {
-        return "options\n".to_string();
-    };
-    let Ok(extern_paths) = config.extern_paths() else {
-        return "extern\n".to_string();
-    };
-    let Some(set) = decode(set) else {
-        return "undecodable\n".to_string();
+    let found = match Config::read(options).ok_or(Failed::Options) {
+        Ok(config) => texts(set, config),
+        Err(failed) => Err(failed),
     };
     let mut output = String::new();
-    let Ok(graph) = catch_unwind(|| MessageGraph::new(set.file.iter())) else {
-        return "panicked\n".to_string();
-    };
-    let mut context = Context::new(&mut config, graph, extern_paths);
-    for file in set.file {
-        let package = file.package.clone().unwrap_or_else(|| "-".to_string());
-        let mut text = String::new();
-        let generate = || CodeGenerator::generate(&mut context, file, &mut text);
-        if catch_unwind(AssertUnwindSafe(generate)).is_err() {
-            output.push_str("panicked\n");
-            return output;
-        }
-        if text.len() > TEXT_LIMIT {
-            output.push_str(&format!("refused 10 {}\n", text.len()));
-            return output;
-        }
-        output.push_str(&format!("//@ {package}\n{text}"));
+    match found {
+        Ok(files) => print(files, &mut output),
+        Err(Failed::Options) => output.push_str("options\n"),
+        Err(Failed::Extern) => output.push_str("extern\n"),
+        Err(Failed::Undecodable) => output.push_str("undecodable\n"),
+        Err(Failed::Panicked) => output.push_str("panicked\n"),
     }
     output
+}
+
+fn print(files: Vec<Written>, output: &mut String) {
+    for file in files {
+        let package = file.package.as_deref().unwrap_or("-");
+        match file.text {
+            None => return output.push_str("panicked\n"),
+            Some(text) if text.len() > TEXT_LIMIT => {
+                return output.push_str(&format!("refused 10 {}\n", text.len()));
+            }
+            Some(text) => output.push_str(&format!("//@ {package}\n{text}")),
+        }
+    }
 }

@@ -24,6 +24,8 @@ pub struct Config {
     // Not read by the generator's files, but given to `ExternPaths::new`.
     extern_paths: Vec<(String, String)>,
     prost_types: Option<String>,
+    /// Whether a row of kind 4 is there.
+    pub(crate) sets_box: bool,
 }
 
 impl Config {
@@ -45,6 +47,7 @@ impl Config {
             prost_path: None,
             extern_paths: Vec::new(),
             prost_types: None,
+            sets_box: false,
         }
     }
 
@@ -63,6 +66,24 @@ impl Config {
 
     /// Reads an options file. Its layout is judged only as far as reading needs it.
     pub fn read(options: &[u8]) -> Option<Config> {
+        Config::read_with(options, |_, value| value)
+    }
+
+    /// The same with every value replaced by a short one, so that what is written besides the
+    /// values can be read out of a text.
+    pub fn plain(options: &[u8]) -> Option<Config> {
+        Config::read_with(options, |kind, _| {
+            let value = match kind {
+                1 => "::opaque",
+                10 => "::prost",
+                12 => "::opaque_types",
+                _ => "#[v]",
+            };
+            value.to_string()
+        })
+    }
+
+    fn read_with(options: &[u8], value_of: fn(u16, String) -> String) -> Option<Config> {
         let number = |at: usize| {
             Some(u16::from_le_bytes(
                 options.get(at..at + 2)?.try_into().ok()?,
@@ -84,7 +105,7 @@ impl Config {
                 String::from_utf8(bytes.to_vec()).ok()
             };
             let path = part(number(at + 2)?)?;
-            let value = part(number(at + 4)?)?;
+            let value = value_of(kind, part(number(at + 4)?)?);
             config.add(kind, path, value)?;
         }
         (body == options.len()).then_some(config)
@@ -95,7 +116,10 @@ impl Config {
             1 => self.extern_paths.push((path, value)),
             2 => self.bytes_type.insert(path, BytesType::Bytes),
             3 => self.map_type.insert(path, MapType::BTreeMap),
-            4 => self.boxed.insert(path, ()),
+            4 => {
+                self.sets_box = true;
+                self.boxed.insert(path, ());
+            }
             5 => self.type_attributes.insert(path, value),
             6 => self.field_attributes.insert(path, value),
             7 => self.message_attributes.insert(path, value),

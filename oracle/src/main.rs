@@ -1,32 +1,14 @@
-//! The generator of prost-build 0.14.4 as the oracle. Its nine files are compiled unchanged; what
-//! they call but don't hold is named in docs/ORACLE.md.
-
-mod answer;
-mod ast;
-mod config;
-mod graph;
-mod lines;
-mod pack;
-
-// code_generator, collections, context, extern_paths, ident, message_graph, path
-include!(concat!(env!("OUT_DIR"), "/modules.rs"));
-
-// The names that the generator's files expect at the crate's root.
-pub(crate) use collections::{BytesType, MapType};
-pub use config::Config;
-
-/// Stand-in for prost-build's trait of this name. No service generator is ever set.
-pub trait ServiceGenerator {
-    fn generate(&mut self, service: ast::Service, buf: &mut String);
-    fn finalize(&mut self, buf: &mut String);
-}
+//! The oracle's commands (docs/ORACLE.md).
 
 use std::io::{self, BufRead, BufReader, BufWriter, Write};
 use std::panic::{catch_unwind, set_hook};
 use std::process::ExitCode;
 
+use oracle::{answer, follow, graph, lines, pack};
+
 const USAGE: &str = "usage: oracle text SET OPTIONS     the answer to one case
        oracle many < PACK            a pack of cases, each with its answer, to stdout
+       oracle names < PACK           a pack of sets, each with yes, no, or - without a text, to stdout
        oracle graph SET OPTIONS      links, Box, Copy and Eq of a set's messages and fields
        oracle ident|unescape|escape|paths|extern|options < LINES";
 
@@ -36,7 +18,8 @@ fn main() -> ExitCode {
     let arguments: Vec<&str> = arguments.iter().map(String::as_str).collect();
     let done = match arguments[..] {
         ["text", set, options] => text(set, options),
-        ["many"] => many(),
+        ["many"] => many(answer::answer),
+        ["names"] => many(names),
         ["graph", set, options] => graph_of(set, options),
         ["ident"] => each_line(lines::ident),
         ["unescape"] => each_line(lines::unescape),
@@ -60,13 +43,23 @@ fn text(set: &str, options: &str) -> io::Result<()> {
     io::stdout().write_all(answer.as_bytes())
 }
 
-fn many() -> io::Result<()> {
+/// The plain name check's answer.
+fn names(set: &[u8], options: &[u8]) -> String {
+    let answer = match follow::check(set, options) {
+        Some((true, _)) => "yes\n",
+        Some((false, _)) => "no\n",
+        None => "-\n",
+    };
+    answer.to_string()
+}
+
+fn many(answer: fn(&[u8], &[u8]) -> String) -> io::Result<()> {
     let mut from = BufReader::new(io::stdin().lock());
     let mut to = BufWriter::new(io::stdout().lock());
     pack::read_magic(&mut from)?;
     to.write_all(pack::MAGIC)?;
     while let Some(mut case) = pack::read_case(&mut from)? {
-        case.output = answer::answer(&case.set, &case.options).into_bytes();
+        case.output = answer(&case.set, &case.options).into_bytes();
         pack::write_case(&mut to, &case)?;
     }
     to.flush()

@@ -1,0 +1,79 @@
+//! Times the text call, and beside it the Rust, on a pack made by `make speed`: each output is a file
+//! index and a name; a name that starts with `!` is of a set that the Rust isn't run on. Times are in
+//! microseconds.
+
+use std::fs::File;
+use std::io::{self, BufReader};
+use std::time::{Duration, Instant};
+
+use oracle::answer::TEXT_LIMIT;
+use oracle::library::{text, Outcome};
+use oracle::pack::{read_case, read_magic, Case};
+use oracle::timed::{generation, shortest, whole};
+
+/// The text call into a cleared buffer, and its outcome.
+fn ours(case: &Case, file: usize) -> (Duration, Outcome) {
+    let mut buffer = vec![0; TEXT_LIMIT];
+    let mut outcome = (0, 0);
+    let time = shortest(|| {
+        buffer.fill(0);
+        let start = Instant::now();
+        outcome = text(&case.set, &case.options, file, &mut buffer);
+        start.elapsed()
+    });
+    (time, outcome)
+}
+
+fn micros(time: Duration) -> String {
+    let micros = time.as_secs_f64() * 1e6;
+    if micros < 10.0 {
+        format!("{micros:.1}")
+    } else {
+        format!("{micros:.0}")
+    }
+}
+
+const BOTH: &str = "| Set | Bytes | Text | Rust, generation alone | Rust, from the set's bytes | Text call | Ratio to the first | to the second |
+|---|---|---|---|---|---|---|---|";
+const OURS: &str = "| Set | Bytes | Text | Text call |\n|---|---|---|---|";
+
+fn line(case: &Case, shared: &mut bool) {
+    let output = std::str::from_utf8(&case.output).expect("a name");
+    let (file, name) = output.split_once(' ').expect("file and name");
+    let file: usize = file.parse().expect("a file index");
+    let (time, outcome) = ours(case, file);
+    let given = match outcome {
+        (0, length) => format!("{length} bytes"),
+        (number, place) => format!("refused {number} {place}"),
+    };
+    let size = case.set.len();
+    if let Some(name) = name.strip_prefix('!') {
+        if std::mem::replace(shared, false) {
+            println!("\n{OURS}");
+        }
+        println!("| {name} | {size} | {given} | {} |", micros(time));
+        return;
+    }
+    let alone = generation(&case.set, &case.options, file);
+    let all = whole(&case.set, &case.options, file);
+    println!(
+        "| {name} | {size} | {given} | {} | {} | {} | {:.1} | {:.1} |",
+        micros(alone),
+        micros(all),
+        micros(time),
+        time.as_secs_f64() / alone.as_secs_f64(),
+        time.as_secs_f64() / all.as_secs_f64(),
+    );
+}
+
+fn main() -> io::Result<()> {
+    let path = std::env::args().nth(1).expect("a pack");
+    let mut from = BufReader::new(File::open(path)?);
+    read_magic(&mut from)?;
+    println!("{BOTH}");
+    let mut shared = true;
+    while let Some(case) = read_case(&mut from)? {
+        line(&case, &mut shared);
+    }
+    Ok(())
+}
