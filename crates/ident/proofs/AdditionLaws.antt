@@ -5,16 +5,18 @@ use mathlib.Core.List.{List, [], _∷_}
 use Prim.Native.Nat.{ℕ, zero, suc, _+_, _-_, _^_, _<_, _≤_, min}
 use native.Mathlib.Omega.{arith}
 use native.Mathlib.Decide.{decLe}
-use lib.Dec.{ltb, eqb}
-use lib.ListN.{length, take, drop, length-take, take-append-drop}
+use lib.Dec.{ltb, leb, eqb}
+use lib.ListN.{length, take, drop, getD, length-take, take-append-drop}
 use lib.Seq.{sets-eq, take-all, take-at, getD-take}
-use borrow.Author.Tests.{ltb-true}
+use borrow.Author.Tests.{ltb-true, leb-true}
 use Rattle.base.specs.Choose.{choose}
-use Rattle.base.specs.Tests.{and-left, and-right}
-use Rattle.base.specs.Bytes.{b, same}
+use Rattle.base.specs.Tests.{and-left, and-right, both-ways}
+use Rattle.base.specs.Bytes.{b, same, same-sound}
+use Rattle.heck.specs.Case.{between, is-upper, is-digit}
 use Rattle.writer.specs.Wrote.{Wrote, over, after, over-cut}
 use Rattle.ident.specs.Ident.{among, raw-words, kept-words, addition}
 use Rattle.ident.specs.Spaced.{spaced}
+use Rattle.ident.specs.declared.keywords.Addition.the-variants.{Nothing, Trailing}
 
 -- ---- the tables
 pub raw-spaced : spaced (b "as break const continue else enum false fn for if impl in let loop match mod move mut pub ref return static struct trait true type unsafe use where while dyn abstract become box do final macro override priv typeof unsized virtual yield async await try gen") ≡ raw-words
@@ -28,6 +30,45 @@ kept-spaced = refl
 short : ℕ → List (List ℕ) → Bool
 short n [] = true
 short n (w ∷ ws) = ltb (length w) n && short n ws
+
+-- ---- names that begin with an uppercase letter
+abbrev begins-upper : List ℕ → Bool
+begins-upper x = is-upper (getD x 0 0)
+
+-- the words that do
+uppers : List (List ℕ) → List (List ℕ)
+uppers [] = []
+uppers (w ∷ ws) = choose (begins-upper w) (w ∷ uppers ws) (uppers ws)
+
+among-upper : (x : List ℕ) (ws : List (List ℕ)) → begins-upper x ≡ true → among x (uppers ws) ≡ among x ws
+unfolding among uppers choose
+among-upper x [] h = refl
+among-upper x (w ∷ ws) h = on (begins-upper w) refl (among-upper x ws h)
+  where
+    on : (t : Bool) → begins-upper w ≡ t → among x (uppers ws) ≡ among x ws → among x (choose t (w ∷ uppers ws) (uppers ws)) ≡ (same x w || among x ws)
+    on true e rest = ap (λ (t : Bool). same x w || t) rest
+    on false e rest = rest ∙ other (same x w) refl
+      where
+        other : (s : Bool) → same x w ≡ s → among x ws ≡ (s || among x ws)
+        other false q = refl
+        other true q = both-ways (ap begins-upper (sym (same-sound x w q)) ∙ h) e
+
+upper-no-digit : (c : ℕ) → is-upper c ≡ true → is-digit c ≡ false
+unfolding between
+upper-no-digit c h = on (is-digit c) refl
+  where
+    on : (t : Bool) → is-digit c ≡ t → t ≡ false
+    on false e = refl
+    on true e = absurd (omega (arith, leb-true 65 c (and-left (leb 65 c) (leb c 90) h), leb-true c 57 (and-right (leb 48 c) (leb c 57) e)))
+
+pub upper-addition : (x : List ℕ) → begins-upper x ≡ true → addition x ≡ choose (same x (b "Self")) Trailing Nothing
+unfolding addition raw-words kept-words uppers choose among between
+upper-addition x h =
+    rw (← among-upper x raw-words h, ← among-upper x kept-words h, upper-no-digit (getD x 0 0) h) (on (same x (b "Self")))
+  where
+    on : (t : Bool) → choose (t || false) Trailing Nothing ≡ choose t Trailing Nothing
+    on true = refl
+    on false = refl
 
 -- ---- the first bytes
 same-front : (n : ℕ) (x w : List ℕ) → length w < n → same (take n x) w ≡ same x w

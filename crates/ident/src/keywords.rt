@@ -1,5 +1,8 @@
 // What sanitising adds to a name that is a keyword or begins with a digit.
 ghost use mathlib.Core.Path.{_≡_};
+ghost use mathlib.Core.Bool.{true};
+ghost use lib.ListN.{getD};
+ghost use Rattle.heck.specs.Case.{is-upper};
 ghost use Rattle.writer.specs.Wrote.{Wrote};
 ghost use Rattle.ident.specs.Ident.{addition, among, is-trailing};
 ghost use Rattle.ident.specs.Added.{before, behind};
@@ -35,7 +38,20 @@ fn listed(x: &[u8], words: &[u8]) -> bool
     base::same_bytes(x, &words[from..])
 }
 
-pub fn addition_of(x: &[u8]) -> Addition
+// Of a name that begins with an uppercase letter: of the listed words `Self` alone does.
+fn addition_of_upper(x: &[u8]) -> Addition
+    requires { ⌜ is-upper (getD (now x) 0 0) ≡ true ⌝ }
+    ensures { λ r. ⌜ r ≡ addition (now (x .entry)) ⌝ }
+{
+    let own = base::same_bytes(x, b"Self");
+    if own {
+        return Addition::Trailing;
+    }
+    Addition::Nothing
+}
+
+// Of any other name.
+fn addition_of_lower(x: &[u8]) -> Addition
     ensures { λ r. ⌜ r ≡ addition (now (x .entry)) ⌝ }
 {
     let raw = listed(
@@ -54,6 +70,16 @@ pub fn addition_of(x: &[u8]) -> Addition
         return Addition::Leading;
     }
     Addition::Nothing
+}
+
+pub fn addition_of(x: &[u8]) -> Addition
+    ensures { λ r. ⌜ r ≡ addition (now (x .entry)) ⌝ }
+{
+    let upper = heck::is_upper(base::byte_at(x, 0));
+    if upper {
+        return addition_of_upper(x);
+    }
+    addition_of_lower(x)
 }
 
 pub fn is_trailing(added: Addition) -> bool
