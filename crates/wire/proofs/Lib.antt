@@ -1,4 +1,5 @@
 pub mod VarintLaws
+pub mod ShortLaws
 pub mod StepLaws
 pub mod RecordsLaws
 pub mod EncodingSound

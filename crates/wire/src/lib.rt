@@ -1,9 +1,9 @@
 // The Protocol Buffers encoding: varints, and the records (key and payload) of a message. A message is its bytes.
 ghost use mathlib.Core.Path.{_≡_};
 ghost use Prim.Native.Nat.{ℕ, _+_, _≤_, _<_, _^_};
-ghost use lib.ListN.{length};
+ghost use lib.ListN.{length, getD};
 ghost use Rattle.wire.specs.Varint.{groups, varint, cap};
-ghost use Rattle.wire.specs.Step.{stepAt, payload, sized};
+ghost use Rattle.wire.specs.Step.{stepAt, keyed, payload, sized};
 
 // A varint: its value, and the position after it. A fault is one that is cut or over 64 bits.
 pub enum Varint {
@@ -71,7 +71,7 @@ fn read_groups(s: &[u8], at: usize, left: usize) -> Varint
     }
 }
 
-// The varint at `at`. Most have one byte.
+// The varint at `at`. Most have one byte or two.
 pub fn read_varint(s: &[u8], at: usize) -> Varint
     ensures { λ r. ⌜ r ≡ varint (now (s .entry)) at ⌝ }
 {
@@ -79,9 +79,19 @@ pub fn read_varint(s: &[u8], at: usize) -> Varint
         return Varint::Fault;
     }
     let b = wide(s[at]);
+    let second = at + 1;
     if b < 128 {
-        let end = at + 1;
-        return Varint::Value(b, end);
+        return Varint::Value(b, second);
+    }
+    if second < s.len() {
+        let c = wide(s[second]);
+        if c < 128 {
+            let high = c * 128;
+            let low = b % 128;
+            let value = high + low;
+            let end = second + 1;
+            return Varint::Value(value, end);
+        }
     }
     read_groups(s, at, 10)
 }
@@ -150,13 +160,21 @@ fn read_payload(s: &[u8], key: usize, number: u64, wiretype: u64, start: usize) 
     Step::Fault(key)
 }
 
-// What stands at `at`: a key is a varint, the field number times 8 and the wire type.
-pub fn read_step(s: &[u8], at: usize) -> Step
-    ensures { λ r. ⌜ r ≡ stepAt (now (s .entry)) at ⌝ }
+// The same step, made anew: so the compiler keeps a step that is read in the short way in registers.
+fn remade(x: Step) -> Step
+    ensures { λ r. ⌜ r ≡ x ⌝ }
 {
-    if s.len() <= at {
-        return Step::End;
+    match x {
+        Step::End => Step::End,
+        Step::Fault(key) => Step::Fault(key),
+        Step::Found(f) => Step::Found(f),
     }
+}
+
+// The record at `at`: a key is a varint, the field number times 8 and the wire type.
+fn read_record(s: &[u8], at: usize) -> Step
+    ensures { λ r. ⌜ r ≡ keyed (now (s .entry)) at (varint (now (s .entry)) at) ⌝ }
+{
     match read_varint(s, at) {
         Varint::Fault => Step::Fault(at),
         Varint::Value(key, from) => {
@@ -165,4 +183,49 @@ pub fn read_step(s: &[u8], at: usize) -> Step
             read_payload(s, at, number, wiretype, from)
         }
     }
+}
+
+// A record whose value is v.
+fn scalar_step(key: usize, number: u64, value: u64, start: usize, next: usize) -> Step
+    ensures { λ r. ⌜ r ≡ Step.Found (record { key = key; number = number; wiretype = 0; value = value; start = start; next = next }) ⌝ }
+{
+    Step::Found(Record {
+        key,
+        number,
+        wiretype: 0,
+        value,
+        start,
+        next,
+    })
+}
+
+// What stands at `at`. Most keys, values and lengths have one byte.
+pub fn read_step(s: &[u8], at: usize) -> Step
+    ensures { λ r. ⌜ r ≡ stepAt (now (s .entry)) at ⌝ }
+{
+    if s.len() <= at {
+        return Step::End;
+    }
+    let start = at + 1;
+    if s.len() <= start {
+        return remade(read_record(s, at));
+    }
+    let b = wide(s[at]);
+    let v = wide(s[start]);
+    if b < 128 {
+        if v < 128 {
+            let number = b / 8;
+            let wiretype = b % 8;
+            let next = start + 1;
+            if number != 0 {
+                if wiretype == 2 {
+                    return read_sized(s, at, number, wiretype, v, next, v);
+                }
+                if wiretype == 0 {
+                    return scalar_step(at, number, v, start, next);
+                }
+            }
+        }
+    }
+    remade(read_record(s, at))
 }

@@ -1,4 +1,5 @@
-use Rattle.wire.proofs.VarintLaws.{past, final}
+use Rattle.wire.proofs.ShortLaws.{one-byte, two-bytes}
+use Rattle.wire.proofs.VarintLaws.{past}
 use native.Mathlib.Omega.{arith}
 use borrow.Author.Needs.{needs}
 use Rattle.wire.specs.Varint.{cap, varint}
@@ -15,20 +16,37 @@ shared-slice-read-wide c = search needs
 wide-requires : tie.Need-wide-requires
 wide-requires c κs = search needs
 
+add-second : tie.Need-add-second
+add-second c = search needs
+
+returns-2 : tie.Need-returns-2
+returns-2 c = one-byte _ _ _ (c .before .wide .ensures) (c .before .before .before .if1 .left) (c .if2 .taken)
+
+shared-slice-read-wide-2 : tie.Need-shared-slice-read-wide-2
+shared-slice-read-wide-2 c = search needs
+
+wide-requires-2 : tie.Need-wide-requires-2
+wide-requires-2 c κs = search needs
+
+mul-high : tie.Need-mul-high
+mul-high c = search needs
+
+add-value : tie.Need-add-value
+add-value c = search needs
+
 add-end : tie.Need-add-end
 add-end c = search needs
 
-returns-2 : tie.Need-returns-2
-unfolding varint
-returns-2 c = final 10 _ _ (λ e. omega arith) (c .before .before .before .if1 .left) _ (c .before .wide .ensures) (c .if2 .taken) (λ e. omega arith)
+returns-3 : tie.Need-returns-3
+returns-3 c = two-bytes _ _ _ (c .before .before .before .before .before .wide .ensures) (c .before .before .before .before .if2 .left) (c .before .before .before .if3 .taken) _ (c .before .wide2 .ensures) (c .if4 .taken)
 
 read-groups-requires : tie.Need-read-groups-requires
 unfolding cap
 read-groups-requires c κs = search needs
 
-returns-3 : tie.Need-returns-3
+returns-4 : tie.Need-returns-4
 unfolding varint
-returns-3 c = search needs
+returns-4 c = search needs
 
 pub read-varint-spec : {M : Type 1} → statement M
 read-varint-spec =
@@ -37,7 +55,13 @@ read-varint-spec =
     returns
     shared-slice-read-wide
     wide-requires
-    add-end
+    add-second
     returns-2
+    shared-slice-read-wide-2
+    wide-requires-2
+    mul-high
+    add-value
+    add-end
+    returns-3
     read-groups-requires
-    returns-3)
+    returns-4)
