@@ -1,3 +1,4 @@
 pub mod Sums
 pub mod Weights
+pub mod Fits
 pub mod Answer
