@@ -36,7 +36,6 @@ can-message-derive d f set x = message-can d f set messages x
 unfoldable pub can-field-derive : Derive → Fields → List Bool → ℕ → Bool
 can-field-derive d f set i = field-can d f set (can-message-derive d f set) i
 
--- what the answer of the field i turns on
-unfoldable pub turn-at : Derive → Fields → List Bool → ℕ → ℕ
-turn-at d f set i =
-    turn (rule d (kind-of f i) (label-of f i) (leadsb f (target-of f i) (owner-of f i)) (getD set i false))
+-- what the answer of the field i turns on, where no loop is tested for
+unfoldable pub turn-at : Derive → (kind label : List ℕ) → List Bool → ℕ → ℕ
+turn-at d kind label set i = turn (rule d (getD kind i 0) (getD label i 0) false (getD set i false))

@@ -9,12 +9,12 @@ use native.Mathlib.Nat.{le-of-suc-le-suc, not-suc-le-zero, le-refl, eq-or-lt-of-
 use native.Mathlib.Omega.{arith}
 use native.Mathlib.Decide.{ℕ-discrete}
 use lib.Dec.{eqb}
-use lib.ListN.{length, getD}
-use borrow.Author.Tests.{eqb-true, eq-eqb, ne-eqb}
-use Rattle.base.specs.Tests.{bool-cases, and-both, both-ways}
+use lib.ListN.{getD}
+use borrow.Author.Tests.{eq-eqb, ne-eqb}
+use Rattle.base.specs.Tests.{bool-cases, and-both}
 use Rattle.message_graph.specs.Limit.{messages}
 use Rattle.message_graph.specs.Fields.{Fields, size, owner-of, target-of, kind-of, label-of, link, message-at-below}
-use Rattle.message_graph.specs.Leads.{Link, Leads, leadsb}
+use Rattle.message_graph.specs.Leads.{leadsb}
 use Rattle.message_graph.specs.Leads.Leads.{here, step}
 use Rattle.message_graph.specs.Boxes.{boxed-by-loop}
 use Rattle.message_graph.specs.Decided.{leads-sound, leads-complete}
@@ -56,7 +56,7 @@ one-le : (x y : Bool) → (x ≡ true → y ≡ true) → cond {A = ℕ} x 1 0 �
 one-le true y h = subst (λ (z : Bool). 1 ≤ cond z 1 0) (sym (h refl)) (le-refl 1)
 one-le false y h = zero-le
 
-count-le : (n : ℕ) (p q : ℕ → Bool) → ((k : ℕ) → k < n → p k ≡ true → q k ≡ true) → count n p ≤ count n q
+pub count-le : (n : ℕ) (p q : ℕ → Bool) → ((k : ℕ) → k < n → p k ≡ true → q k ≡ true) → count n p ≤ count n q
 unfolding count
 count-le zero p q h = le-refl 0
 count-le (suc n) p q h =
@@ -64,7 +64,7 @@ count-le (suc n) p q h =
     let one = one-le (p n) (q n) (h n (le-refl _)) in
     omega arith
 
-count-lt : (n : ℕ) (p q : ℕ → Bool) → ((k : ℕ) → k < n → p k ≡ true → q k ≡ true) → (k : ℕ) → k < n → p k ≡ false → q k ≡ true → count n p < count n q
+pub count-lt : (n : ℕ) (p q : ℕ → Bool) → ((k : ℕ) → k < n → p k ≡ true → q k ≡ true) → (k : ℕ) → k < n → p k ≡ false → q k ≡ true → count n p < count n q
 unfolding count
 count-lt zero p q h k lt no′ yes′ = absurd (not-suc-le-zero lt)
 count-lt (suc n) p q h k lt no′ yes′ =
@@ -84,7 +84,7 @@ one-most : (x : Bool) → cond {A = ℕ} x 1 0 ≤ 1
 one-most true = le-refl 1
 one-most false = zero-le
 
-count-most : (n : ℕ) (p : ℕ → Bool) → count n p ≤ n
+pub count-most : (n : ℕ) (p : ℕ → Bool) → count n p ≤ n
 unfolding count
 count-most zero p = le-refl 0
 count-most (suc n) p =

@@ -3,11 +3,9 @@
 use mathlib.Core.Path.{_≡_, refl, sym, _∙_, ap}
 use mathlib.Core.Bool.{Bool, true, false, not, _&&_}
 use mathlib.Core.Logic.{⊎-elim}
-use mathlib.Core.List.{List}
 use Prim.Native.Nat.{ℕ}
 use native.Mathlib.Omega.{arith}
 use lib.Dec.{eqb}
-use lib.ListN.{getD}
 use Rattle.base.specs.Choose.{choose}
 use Rattle.base.specs.Tests.{bool-cases, both-ways}
 use Rattle.field_types.specs.Types.{can-pack, type-eq}
@@ -17,7 +15,6 @@ use Rattle.message_graph.specs.Boxes.{boxed-by-loop}
 use Rattle.message_graph.specs.BoxLaws.{boxed-link}
 use Rattle.derives.specs.declared.Derive.{Derive}
 use Rattle.derives.specs.declared.Derive.the-variants.{Copy, Eq}
-use Rattle.derives.specs.Can.{turn-at}
 use Rattle.derives.specs.Rules.{rule, turn, can-field-derive-copy, can-field-derive-eq}
 
 -- what `answer` does with the message's answer
@@ -59,10 +56,32 @@ eq-free true true looped plain c e = refl
 eq-free repeated false looped plain c e = refl
 eq-free false true looped plain c e = both-ways refl e
 
-loop-free : (d : Derive) (kind label : ℕ) (looped set c : Bool) → is-link kind label ≡ false → rule d kind label looped set c ≡ rule d kind label false set c
+pub loop-free : (d : Derive) (kind label : ℕ) (looped set c : Bool) → is-link kind label ≡ false → rule d kind label looped set c ≡ rule d kind label false set c
 unfolding rule is-link can-field-derive-copy can-field-derive-eq
 loop-free Copy kind label looped set c e = copy-free (eqb label label-repeated) (eqb kind type-message) looped set (can-pack kind) c e
 loop-free Eq kind label looped set c e = eq-free (eqb label label-repeated) (eqb kind type-message) looped (type-eq kind) c e
+
+-- ---- where it is one, it cannot if its type cannot
+
+copy-none : (repeated message looped set plain : Bool) → (message && not repeated) ≡ true → choose repeated false (choose message (choose looped false (choose set false false)) plain) ≡ false
+unfolding choose
+copy-none true message looped set plain e = refl
+copy-none false false looped set plain e = both-ways e refl
+copy-none false true true set plain e = refl
+copy-none false true false true plain e = refl
+copy-none false true false false plain e = refl
+
+eq-none : (repeated message looped plain : Bool) → (message && not repeated) ≡ true → choose message (choose repeated false (choose looped false false)) plain ≡ false
+unfolding choose
+eq-none repeated false looped plain e = both-ways e refl
+eq-none true true looped plain e = refl
+eq-none false true true plain e = refl
+eq-none false true false plain e = refl
+
+pub link-none : (d : Derive) (kind label : ℕ) (looped set : Bool) → is-link kind label ≡ true → rule d kind label looped set false ≡ false
+unfolding rule is-link can-field-derive-copy can-field-derive-eq
+link-none Copy kind label looped set e = copy-none (eqb label label-repeated) (eqb kind type-message) looped set (can-pack kind) e
+link-none Eq kind label looped set e = eq-none (eqb label label-repeated) (eqb kind type-message) looped (type-eq kind) e
 
 -- ---- what a field turns on
 
@@ -116,7 +135,3 @@ rule-same d kind label looped looped′ set can can′ same-loop same-can =
 -- so the table of boxes serves as well as the test of leading
 pub loop-is-box : (d : Derive) (f : Fields) (i : ℕ) (set c : Bool) → rule d (kind-of f i) (label-of f i) (boxed-by-loop f i) set c ≡ rule d (kind-of f i) (label-of f i) (leadsb f (target-of f i) (owner-of f i)) set c
 loop-is-box d f i set c = rule-same d (kind-of f i) (label-of f i) (boxed-by-loop f i) (leadsb f (target-of f i) (owner-of f i)) set c c (boxed-link f i) (λ is. refl)
-
-pub turn-box : (d : Derive) (f : Fields) (set : List Bool) (i : ℕ) → turn (rule d (kind-of f i) (label-of f i) (boxed-by-loop f i) (getD set i false)) ≡ turn-at d f set i
-unfolding turn turn-at
-turn-box d f set i = rw (loop-is-box d f i (getD set i false) true, loop-is-box d f i (getD set i false) false)

@@ -1,7 +1,7 @@
 // context.rs: can a message, or a field, derive Copy or Eq?
 ghost use mathlib.Core.Path.{_≡_};
 ghost use mathlib.Core.Bool.{false};
-ghost use Prim.Native.Nat.{_<_, _≤_};
+ghost use Prim.Native.Nat.{_≤_, _<_};
 ghost use lib.ListN.{length, getD};
 ghost use Rattle.field_types.specs.Types.{type-eq};
 ghost use Rattle.message_graph.specs.Limit.{messages};
@@ -10,12 +10,14 @@ ghost use Rattle.message_graph.specs.Boxes.{boxed-by-loop};
 ghost use Rattle.message_graph.specs.Tab.{tab};
 ghost use Rattle.derives.specs.Rules.{can-field-derive-copy, can-field-derive-eq, rule, turn};
 ghost use Rattle.derives.specs.Can.{can-message-derive, can-field-derive, turn-at};
-ghost use Rattle.derives.specs.Depth.{rank};
-ghost use Rattle.derives.specs.Memo.{Memo, Boxed};
+ghost use Rattle.derives.specs.Memo.{Memo, Kept, Ranged, unknown};
 use message_graph::Index;
 use message_graph::LABEL_REPEATED;
 use message_graph::MESSAGES;
 use message_graph::TYPE_MESSAGE;
+
+// How many places a table of ranges has: two for each message.
+const PLACES: usize = 512;
 
 // The trait that is asked for.
 pub enum Derive {
@@ -118,30 +120,12 @@ fn flag_at(s: &[bool], i: usize) -> bool
     false
 }
 
-// Is the field i boxed by a loop? By the table, as far as it goes.
-fn is_looped(
-    owner: &[Index],
-    target: &[Index],
-    kind: &[u8],
-    label: &[u8],
-    boxed: &[bool],
-    i: usize,
-) -> bool
-    requires { ⌜ Boxed (fields (now owner) (now target) (now kind) (now label)) (now boxed) ⌝ }
-    ensures { λ r. ⌜ r ≡ boxed-by-loop (fields (now (owner .entry)) (now (target .entry)) (now (kind .entry)) (now (label .entry))) i ⌝ }
+// What the answer of a field turns on: 0 it cannot, 1 it can, 2 as its type's message. A loop needs no test: in one, no message can.
+fn turn_of(d: Derive, kind: u8, label: u8, set: bool) -> u8
+    ensures { λ r. ⌜ r ≡ turn (rule d kind label false set) ⌝ }
 {
-    if i < boxed.len() {
-        return boxed[i];
-    }
-    message_graph::boxed_by_loop(owner, target, kind, label, i)
-}
-
-// What the answer of a field turns on: 0 it cannot, 1 it can, 2 as its type's message.
-fn turn_of(d: Derive, kind: u8, label: u8, looped: bool, set: bool) -> u8
-    ensures { λ r. ⌜ r ≡ turn (rule d kind label looped set) ⌝ }
-{
-    if can_field_derive(d, kind, label, looped, set, true) {
-        if can_field_derive(d, kind, label, looped, set, false) {
+    if can_field_derive(d, kind, label, false, set, true) {
+        if can_field_derive(d, kind, label, false, set, false) {
             return 1;
         }
         return 2;
@@ -150,27 +134,48 @@ fn turn_of(d: Derive, kind: u8, label: u8, looped: bool, set: bool) -> u8
 }
 
 // What the answer of the field i turns on.
-fn turn_at(
-    d: Derive,
-    owner: &[Index],
-    target: &[Index],
-    kind: &[u8],
-    label: &[u8],
-    set: &[bool],
-    boxed: &[bool],
-    i: usize,
-) -> u8
-    requires { ⌜ Boxed (fields (now owner) (now target) (now kind) (now label)) (now boxed) ⌝ }
-    ensures { λ r. ⌜ r ≡ turn-at d (fields (now (owner .entry)) (now (target .entry)) (now (kind .entry)) (now (label .entry))) (now (set .entry)) i ⌝ }
+fn turn_at(d: Derive, kind: &[u8], label: &[u8], set: &[bool], i: usize) -> u8
+    ensures { λ r. ⌜ r ≡ turn-at d (now (kind .entry)) (now (label .entry)) (now (set .entry)) i ⌝ }
 {
     let k = base::byte_at(kind, i);
     let l = base::byte_at(label, i);
-    let looped = is_looped(owner, target, kind, label, boxed, i);
     let s = flag_at(set, i);
-    turn_of(d, k, l, looped, s)
+    turn_of(d, k, l, s)
 }
 
-// Can the message x? Known answers are in memo: 1 can, 2 cannot. depth bounds the links that are followed from x.
+// The place that a table has at i, and 0 past its end.
+fn place_at(s: &[usize], i: usize) -> usize
+    ensures { λ r. ⌜ r ≡ getD (now (s .entry)) i 0 ⌝ }
+{
+    if i < s.len() {
+        return s[i];
+    }
+    0
+}
+
+// For each message x, where its fields begin, at 2x, and where they end, at 2x + 1.
+fn ranges(owner: &[Index]) -> [usize; PLACES]
+    ensures { λ r. ⌜ Ranged (now (owner .entry)) r ⌝ }
+{
+    let mut out = [0usize; PLACES];
+    let mut i = 0;
+    while i < owner.len() {
+        let x = message_graph::message_at(owner, i);
+        let begin = 2 * x;
+        let end = begin + 1;
+        let next = i + 1;
+        let known = out[end];
+        out[end] = next;
+        if known == 0 {
+            out[begin] = i;
+        }
+        i = next;
+    }
+    out
+}
+
+// Can the message x? Known answers are in memo: 1 can, 2 cannot. While it is sought it is held to be 2: what asks for it then is in a loop.
+// depth: how many links may still be followed from x.
 fn message_can(
     d: Derive,
     owner: &[Index],
@@ -178,16 +183,17 @@ fn message_can(
     kind: &[u8],
     label: &[u8],
     set: &[bool],
-    boxed: &[bool],
+    ranges: &[usize],
     memo: &mut [u8],
     x: usize,
     depth: usize,
 ) -> bool
-    requires { ⌜ Boxed (fields (now owner) (now target) (now kind) (now label)) (now boxed) ⌝ }
-    requires { ⌜ Memo d (fields (now owner) (now target) (now kind) (now label)) (now set) (now memo) ⌝ }
-    requires { ⌜ (x < messages) × (rank (fields (now owner) (now target) (now kind) (now label)) x ≤ depth) ⌝ }
+    requires { ⌜ Ranged (now owner) (now ranges) ⌝ }
+    requires { ⌜ Memo d (fields (now owner) (now target) (now kind) (now label)) (now set) (now memo) x ⌝ }
+    requires { ⌜ (x < messages) × (getD (now memo) x 0 ≡ 2 → can-message-derive d (fields (now owner) (now target) (now kind) (now label)) (now set) x ≡ false) ⌝ }
+    requires { ⌜ unknown (now memo) ≤ depth ⌝ }
     ensures { λ r. ⌜ r ≡ can-message-derive d (fields (now (owner .entry)) (now (target .entry)) (now (kind .entry)) (now (label .entry))) (now (set .entry)) x ⌝ }
-    ensures { λ _. ⌜ Memo d (fields (now (owner .entry)) (now (target .entry)) (now (kind .entry)) (now (label .entry))) (now (set .entry)) (now (memo .exit)) ⌝ }
+    ensures { λ _. ⌜ Kept d (fields (now (owner .entry)) (now (target .entry)) (now (kind .entry)) (now (label .entry))) (now (set .entry)) (now (memo .entry)) (now (memo .exit)) ⌝ }
 {
     let known = memo[x];
     if known == 1 {
@@ -196,11 +202,11 @@ fn message_can(
     if known == 2 {
         return false;
     }
-    if fields_can(d, owner, target, kind, label, set, boxed, memo, x, depth) {
+    memo[x] = 2;
+    if fields_can(d, owner, target, kind, label, set, ranges, memo, x, depth) {
         memo[x] = 1;
         return true;
     }
-    memo[x] = 2;
     false
 }
 
@@ -212,22 +218,26 @@ fn fields_can(
     kind: &[u8],
     label: &[u8],
     set: &[bool],
-    boxed: &[bool],
+    ranges: &[usize],
     memo: &mut [u8],
     x: usize,
     depth: usize,
 ) -> bool
-    requires { ⌜ Boxed (fields (now owner) (now target) (now kind) (now label)) (now boxed) ⌝ }
-    requires { ⌜ Memo d (fields (now owner) (now target) (now kind) (now label)) (now set) (now memo) ⌝ }
-    requires { ⌜ (x < messages) × (rank (fields (now owner) (now target) (now kind) (now label)) x ≤ depth) ⌝ }
+    requires { ⌜ Ranged (now owner) (now ranges) ⌝ }
+    requires { ⌜ Memo d (fields (now owner) (now target) (now kind) (now label)) (now set) (now memo) x ⌝ }
+    requires { ⌜ x < messages ⌝ }
+    requires { ⌜ unknown (now memo) < depth ⌝ }
     ensures { λ r. ⌜ r ≡ can-message-derive d (fields (now (owner .entry)) (now (target .entry)) (now (kind .entry)) (now (label .entry))) (now (set .entry)) x ⌝ }
-    ensures { λ _. ⌜ Memo d (fields (now (owner .entry)) (now (target .entry)) (now (kind .entry)) (now (label .entry))) (now (set .entry)) (now (memo .exit)) ⌝ }
+    ensures { λ _. ⌜ Kept d (fields (now (owner .entry)) (now (target .entry)) (now (kind .entry)) (now (label .entry))) (now (set .entry)) (now (memo .entry)) (now (memo .exit)) ⌝ }
 {
-    let mut i = 0;
-    while i < owner.len() {
+    let begin = 2 * x;
+    let end = begin + 1;
+    let last = place_at(ranges, end);
+    let mut i = place_at(ranges, begin);
+    while i < last {
         let next = i + 1;
         if message_graph::message_at(owner, i) == x {
-            if !field_can(d, owner, target, kind, label, set, boxed, memo, i, depth) {
+            if !field_can(d, owner, target, kind, label, set, ranges, memo, i, depth) {
                 return false;
             }
         }
@@ -244,18 +254,19 @@ fn field_can(
     kind: &[u8],
     label: &[u8],
     set: &[bool],
-    boxed: &[bool],
+    ranges: &[usize],
     memo: &mut [u8],
     i: usize,
     depth: usize,
 ) -> bool
-    requires { ⌜ Boxed (fields (now owner) (now target) (now kind) (now label)) (now boxed) ⌝ }
-    requires { ⌜ Memo d (fields (now owner) (now target) (now kind) (now label)) (now set) (now memo) ⌝ }
-    requires { ⌜ (i < length (now owner)) × (rank (fields (now owner) (now target) (now kind) (now label)) (message-at (now owner) i) ≤ depth) ⌝ }
+    requires { ⌜ Ranged (now owner) (now ranges) ⌝ }
+    requires { ⌜ Memo d (fields (now owner) (now target) (now kind) (now label)) (now set) (now memo) (message-at (now owner) i) ⌝ }
+    requires { ⌜ i < length (now owner) ⌝ }
+    requires { ⌜ unknown (now memo) < depth ⌝ }
     ensures { λ r. ⌜ r ≡ can-field-derive d (fields (now (owner .entry)) (now (target .entry)) (now (kind .entry)) (now (label .entry))) (now (set .entry)) i ⌝ }
-    ensures { λ _. ⌜ Memo d (fields (now (owner .entry)) (now (target .entry)) (now (kind .entry)) (now (label .entry))) (now (set .entry)) (now (memo .exit)) ⌝ }
+    ensures { λ _. ⌜ Kept d (fields (now (owner .entry)) (now (target .entry)) (now (kind .entry)) (now (label .entry))) (now (set .entry)) (now (memo .entry)) (now (memo .exit)) ⌝ }
 {
-    let turn = turn_at(d, owner, target, kind, label, set, boxed, i);
+    let turn = turn_at(d, kind, label, set, i);
     if turn == 0 {
         return false;
     }
@@ -263,21 +274,11 @@ fn field_can(
         return true;
     }
     let t = message_graph::message_at(target, i);
-    message_can(
-        d,
-        owner,
-        target,
-        kind,
-        label,
-        set,
-        boxed,
-        memo,
-        t,
-        depth - 1,
-    )
+    let left = depth - 1;
+    message_can(d, owner, target, kind, label, set, ranges, memo, t, left)
 }
 
-// For each message, whether it can.
+// For each message, whether it can. One without fields can.
 fn answers(
     d: Derive,
     owner: &[Index],
@@ -285,28 +286,35 @@ fn answers(
     kind: &[u8],
     label: &[u8],
     set: &[bool],
-    boxed: &[bool],
+    ranges: &[usize],
 ) -> [bool; MESSAGES]
-    requires { ⌜ Boxed (fields (now owner) (now target) (now kind) (now label)) (now boxed) ⌝ }
+    requires { ⌜ Ranged (now owner) (now ranges) ⌝ }
     ensures { λ r. ⌜ r ≡ tab messages (can-message-derive d (fields (now (owner .entry)) (now (target .entry)) (now (kind .entry)) (now (label .entry))) (now (set .entry))) ⌝ }
 {
     let mut memo = [0u8; MESSAGES];
     let mut out = [false; MESSAGES];
     let mut x = 0;
     while x < MESSAGES {
-        out[x] = message_can(
-            d,
-            owner,
-            target,
-            kind,
-            label,
-            set,
-            boxed,
-            &mut memo,
-            x,
-            MESSAGES,
-        );
-        x += 1;
+        let next = x + 1;
+        let begin = 2 * x;
+        let end = begin + 1;
+        if place_at(ranges, end) == 0 {
+            out[x] = true;
+        } else {
+            out[x] = message_can(
+                d,
+                owner,
+                target,
+                kind,
+                label,
+                set,
+                ranges,
+                &mut memo,
+                x,
+                MESSAGES,
+            );
+        }
+        x = next;
     }
     out
 }
@@ -325,7 +333,8 @@ pub fn can_derive(
     ensures { λ r. ⌜ r .eq ≡ tab messages (can-message-derive Derive.Eq (fields (now (owner .entry)) (now (target .entry)) (now (kind .entry)) (now (label .entry))) (now (set .entry))) ⌝ }
 {
     message_graph::boxes(owner, target, kind, label, boxed);
-    let copy = answers(Derive::Copy, owner, target, kind, label, set, boxed);
-    let eq = answers(Derive::Eq, owner, target, kind, label, set, boxed);
+    let places = ranges(owner);
+    let copy = answers(Derive::Copy, owner, target, kind, label, set, &places);
+    let eq = answers(Derive::Eq, owner, target, kind, label, set, &places);
     Derives { copy, eq }
 }

@@ -1,15 +1,13 @@
--- `derives::field_can`, `derives::fields_can` and `derives::message_can` meet their contracts. The depth falls from a field to its type's message. Assumes nothing.
+-- `derives::field_can`, `derives::fields_can` and `derives::message_can` meet their contracts. With each link, the depth falls. Assumes nothing.
+use Rattle.derives.proofs.place_at.Reads as place-at-reads
 use borrow.Author.Needs.{needs}
 use borrow.Author.Tests.{not-true, not-false}
-use mathlib.Core.Path.{_≡_, refl, sym, _∙_, ap, subst}
+use mathlib.Core.Path.{sym, _∙_, ap}
 use native.Mathlib.Omega.{arith}
-use lib.ListN.{length, getD}
-use Rattle.message_graph.specs.Limit.{messages}
 use Rattle.message_graph.specs.Fields.{fields, message-at, message-at-below}
 use Rattle.derives.specs.Can.{can-message-derive}
-use Rattle.derives.specs.Depth.{rank}
-use Rattle.derives.proofs.Known.{field-cannot, field-can-all, field-by-type, field-falls, memo-set, same-size, kept-size, Scan, scan-none, scan-other, scan-can, scan-all, scan-not}
-use Prim.Native.Nat.{ℕ, _<_, _+_, _-_, _*_, _≤_}
+use Rattle.derives.proofs.Known.{field-cannot, field-can-all, field-by-type, memo-type, type-cannot, kept-same, kept-more, kept-memo, memo-sought, sought-fewer, known-size, kept-cannot, kept-can, Scan, scan-begin, scan-other, scan-can, scan-all, scan-not}
+use Prim.Native.Nat.{ℕ, _<_, _+_, _-_, _*_}
 use borrow.Fn.Kinds.{In}
 use borrow.Fn.PlainCycle.{Measures, is, falls, and}
 use Rattle.derives.proofs.field_can.Reads as field-can
@@ -62,56 +60,63 @@ abbrev field-can-claims : ℕ → field-can-lts.Claims
 field-can-claims t = (turn-at-reads.Asked, turn-at-reads.Learnt, message-at-reads.Asked, message-at-reads.Learnt, message-can-below t, message-can.Post)
 
 abbrev fields-can-claims : ℕ → fields-can-lts.Claims
-fields-can-claims t = (message-at-reads.Asked, message-at-reads.Learnt, field-can-below t, field-can.Post)
+fields-can-claims t = (place-at-reads.Asked, place-at-reads.Learnt, message-at-reads.Asked, message-at-reads.Learnt, field-can-below t, field-can.Post)
 
 abbrev message-can-claims : ℕ → message-can-lts.Claims
 message-can-claims t = (fields-can-below t, fields-can.Post)
 
 abbrev fields-can-Inv-loop : fields-can-lts.InvT-loop
-fields-can-Inv-loop derive owner target kind label set boxed memo₀ x depth i₀ memo i = Scan derive (fields owner target kind label) set memo x i
+fields-can-Inv-loop d owner target kind label set ranges memo₀ x depth begin end last i₀ memo i = Scan d (fields owner target kind label) set memo₀ memo x i
 
 abbrev fields-can-μ-loop : fields-can-lts.MeasureT-loop
-fields-can-μ-loop derive owner target kind label set boxed memo₀ x depth i₀ memo i = length owner - i
+fields-can-μ-loop d owner target kind label set ranges memo₀ x depth begin end last i₀ memo i = last - i
 
 module _ (t : ℕ) where
   field-can-turn-at-requires : field-can-lts.Need-turn-at-requires (field-can-claims t) (field-can-at t) field-can.Post
-  field-can-turn-at-requires c κs = c .before .before .before .before .before .before .before .pre .1 .0
+  field-can-turn-at-requires c κs = search needs
 
   field-can-returns : field-can-lts.Need-returns (field-can-claims t) (field-can-at t) field-can.Post
-  field-can-returns c = (sym (field-cannot _ _ _ _ _ (c .before .turn-at .ensures) (c .if1 .taken)), c .before .before .before .before .before .before .before .before .before .pre .1 .1 .0)
+  field-can-returns c = let s = c .before .before .before .before .before .before .before .before .before in (sym (field-cannot _ _ _ _ _ (s .pre .1 .1 .1 .0) (c .before .turn-at .ensures) (c .if1 .taken)), kept-same (s .pre .1 .1 .0))
 
   field-can-returns-2 : field-can-lts.Need-returns-2 (field-can-claims t) (field-can-at t) field-can.Post
-  field-can-returns-2 c = (sym (field-can-all _ _ _ _ _ (c .before .before .turn-at .ensures) (c .if2 .taken)), c .before .before .before .before .before .before .before .before .before .before .pre .1 .1 .0)
+  field-can-returns-2 c = let s = c .before .before .before .before .before .before .before .before .before .before in (sym (field-can-all _ _ _ _ _ (s .pre .1 .1 .1 .0) (c .before .before .turn-at .ensures) (c .if2 .taken)), kept-same (s .pre .1 .1 .0))
 
   field-can-message-at-requires : field-can-lts.Need-message-at-requires (field-can-claims t) (field-can-at t) field-can.Post
   field-can-message-at-requires c κs = search needs
 
-  field-can-sub-message-can : field-can-lts.Need-sub-message-can (field-can-claims t) (field-can-at t) field-can.Post
-  field-can-sub-message-can c =
-      let s = c .before .before .before .before .before .before .before .before .before .before .before .before in
-      let less = field-falls _ _ _ _ _ (c .before .before .before .before .turn-at .ensures) (c .before .before .before .if1 .left) (c .before .before .if2 .left) (s .pre .1 .1 .1 .0) in
-      omega (arith, s .pre .1 .1 .1 .1)
+  field-can-sub-left : field-can-lts.Need-sub-left (field-can-claims t) (field-can-at t) field-can.Post
+  field-can-sub-left c = omega (arith, c .before .before .before .before .before .before .before .before .before .before .before .pre .1 .1 .1 .1)
 
   field-can-message-can-requires : field-can-lts.Need-message-can-requires (field-can-claims t) (field-can-at t) field-can.Post
   field-can-message-can-requires c κs =
       let s = c .before .before .before .before .before .before .before .before .before .before .before .before in
-      let a = s .args in
-      let f = fields (a .owner .now) (a .target .now) (a .kind .now) (a .label .now) in
-      let less = field-falls _ _ _ _ _ (c .before .before .before .before .turn-at .ensures) (c .before .before .before .if1 .left) (c .before .before .if2 .left) (s .pre .1 .1 .1 .0) in
-      let bound : rank f (message-at (a .target .now) (a .i)) ≤ a .depth - 1 = omega (arith, s .pre .1 .1 .1 .1) in
-      let is = c .before .message-at .ensures in
-      (omega (arith, s .pre .0, s .pre .1 .1 .1 .1), (s .pre .1 .0, (s .pre .1 .1 .0, (omega (arith, message-at-below (a .target .now) (a .i)), rw is bound))))
+      let m = s .pre .1 .1 .0 in
+      let to = c .before .message-at .ensures in
+      let below = message-at-below (s .args .target .now) (s .args .i) in
+      (omega (arith, s .pre .0, s .pre .1 .1 .1 .1), (s .pre .1 .0, (memo-type _ _ _ _ _ (s .pre .1 .1 .1 .0) (c .before .before .before .before .turn-at .ensures) (c .before .before .before .if1 .left) (c .before .before .if2 .left) m _ to, ((omega arith, type-cannot _ _ _ _ _ (s .pre .1 .1 .1 .0) (c .before .before .before .before .turn-at .ensures) (c .before .before .before .if1 .left) (c .before .before .if2 .left) m _ to), omega (arith, s .pre .1 .1 .1 .1)))))
 
   field-can-same-length : field-can-lts.Need-same-length (field-can-claims t) (field-can-at t) field-can.Post
-  field-can-same-length c = c .before .before .message-can .kept .1 .1 .1 .1 .1 .1 .1 .0
+  field-can-same-length c = c .before .before .message-can .ensures .1 .size
 
   field-can-returns-3 : field-can-lts.Need-returns-3 (field-can-claims t) (field-can-at t) field-can.Post
   field-can-returns-3 c =
       let r = c .before .before .message-can .ensures in
-      (r .0 ∙ ap (can-message-derive _ _ _) (c .before .before .before .before .message-at .ensures) ∙ sym (field-by-type _ _ _ _ _ (c .before .before .before .before .before .before .before .turn-at .ensures) (c .before .before .before .before .before .before .if1 .left) (c .before .before .before .before .before .if2 .left)), r .1)
+      (r .0 ∙ ap (can-message-derive _ _ _) (c .before .before .before .before .message-at .ensures) ∙ sym (field-by-type _ _ _ _ _ (c .before .before .before .before .before .before .before .before .before .before .before .before .before .before .before .pre .1 .1 .1 .0) (c .before .before .before .before .before .before .before .turn-at .ensures) (c .before .before .before .before .before .before .if1 .left) (c .before .before .before .before .before .if2 .left)), r .1)
+
+  fields-can-mul-begin : fields-can-lts.Need-mul-begin (fields-can-claims t) (fields-can-at t) fields-can.Post fields-can-Inv-loop fields-can-μ-loop
+  fields-can-mul-begin c = omega (arith, c .before .before .before .before .before .before .before .pre .1 .1 .1 .0)
+
+  fields-can-add-end : fields-can-lts.Need-add-end (fields-can-claims t) (fields-can-at t) fields-can.Post fields-can-Inv-loop fields-can-μ-loop
+  fields-can-add-end c = omega (arith, c .before .before .before .before .before .before .before .pre .1 .1 .1 .0)
+
+  fields-can-place-at-requires : fields-can-lts.Need-place-at-requires (fields-can-claims t) (fields-can-at t) fields-can.Post fields-can-Inv-loop fields-can-μ-loop
+  fields-can-place-at-requires c κs = search needs
+
+  fields-can-place-at-requires-2 : fields-can-lts.Need-place-at-requires-2 (fields-can-claims t) (fields-can-at t) fields-can.Post fields-can-Inv-loop fields-can-μ-loop
+  fields-can-place-at-requires-2 c κs = search needs
 
   fields-can-loop-holds : fields-can-lts.Need-loop-holds (fields-can-claims t) (fields-can-at t) fields-can.Post fields-can-Inv-loop fields-can-μ-loop
-  fields-can-loop-holds c = scan-none (c .before .before .before .before .before .before .before .pre .1 .1 .0) _
+  fields-can-loop-holds c = scan-begin (c .before .before .before .before .before .before .before .before .before .pre .1 .1 .0) _ (c .before .before .before .before .before .before .before .before .before .pre .1 .0) _ (c .place-at2 .ensures)
 
   fields-can-add-next : fields-can-lts.Need-add-next (fields-can-claims t) (fields-can-at t) fields-can.Post fields-can-Inv-loop fields-can-μ-loop
   fields-can-add-next c = search needs
@@ -121,18 +126,23 @@ module _ (t : ℕ) where
 
   fields-can-field-can-requires : fields-can-lts.Need-field-can-requires (fields-can-claims t) (fields-can-at t) fields-can.Post fields-can-Inv-loop fields-can-μ-loop
   fields-can-field-can-requires c κs =
-      let s = c .before .before .before .before .before .before .before .before .before .before .before .before in
+      let s = c .before .before .before .before .before .before .before .before .before .before .before .before .before .before in
       let own = sym (c .before .before .message-at .ensures) ∙ c .before .if1 .taken in
-      (omega (arith, s .pre .0), (s .pre .1 .0, (c .before .before .before .before .loop .inv .memo, (c .before .before .before .loop-test .taken, rw own (s .pre .1 .1 .1 .1)))))
+      let k = c .before .before .before .before .loop .inv .kept in
+      let fewer = k .fewer in
+      let last = s .pre .1 .0 .within (2 * s .args .x + 1) in
+      (omega (arith, s .pre .0), (s .pre .1 .0, (rw own (kept-memo (s .pre .1 .1 .0) k), (omega (arith, c .before .before .before .loop-test .taken, c .before .before .before .before .before .before .place-at .ensures), omega (arith, s .pre .1 .1 .1 .1)))))
 
   fields-can-same-length : fields-can-lts.Need-same-length (fields-can-claims t) (fields-can-at t) fields-can.Post fields-can-Inv-loop fields-can-μ-loop
-  fields-can-same-length c = same-size (c .before .before .before .field-can .ensures .1) (c .before .before .before .before .before .before .before .before .before .before .before .before .before .before .before .before .pre .1 .1 .0)
+  fields-can-same-length c = kept-more (c .before .before .before .before .before .before .before .before .loop .inv .kept) (c .before .before .before .field-can .ensures .1) .size
 
   fields-can-returns : fields-can-lts.Need-returns (fields-can-claims t) (fields-can-at t) fields-can.Post fields-can-Inv-loop fields-can-μ-loop
   fields-can-returns c =
       let r = c .before .before .before .field-can .ensures in
+      let s = c .before .before .before .before .before .before .before .before .before .before .before .before .before .before .before .before .before .before in
       let own = sym (c .before .before .before .before .before .before .message-at .ensures) ∙ c .before .before .before .before .before .if1 .taken in
-      (sym (scan-not _ _ _ (c .before .before .before .before .before .before .before .before .before .before .before .before .before .before .before .before .args .x) (c .before .before .before .before .before .before .before .before .loop .i) (c .before .before .before .before .before .before .before .loop-test .taken) own (sym (r .0) ∙ not-true _ (c .if2 .taken))), r .1)
+      let last = s .pre .1 .0 .within (2 * s .args .x + 1) in
+      (sym (scan-not _ _ _ (s .args .x) (c .before .before .before .before .before .before .before .before .loop .i) (omega (arith, c .before .before .before .before .before .before .before .loop-test .taken, c .before .before .before .before .before .before .before .before .before .before .place-at .ensures)) own (sym (r .0) ∙ not-true _ (c .if2 .taken))), kept-more (c .before .before .before .before .before .before .before .before .loop .inv .kept) (r .1))
 
   fields-can-loop-less : fields-can-lts.Need-loop-less (fields-can-claims t) (fields-can-at t) fields-can.Post fields-can-Inv-loop fields-can-μ-loop
   fields-can-loop-less c = search needs
@@ -140,61 +150,60 @@ module _ (t : ℕ) where
   fields-can-loop-again : fields-can-lts.Need-loop-again (fields-can-claims t) (fields-can-at t) fields-can.Post fields-can-Inv-loop fields-can-μ-loop
   fields-can-loop-again c =
       let r = c .before .before .before .field-can .ensures in
-      scan-can (c .before .before .before .before .before .before .before .before .loop .inv) (c .before .before .before .before .before .before .before .loop-test .taken) (sym (c .before .before .before .before .before .before .message-at .ensures) ∙ c .before .before .before .before .before .if1 .taken) (r .1) (sym (r .0) ∙ not-false _ (c .if2 .left))
+      scan-can (c .before .before .before .before .before .before .before .before .loop .inv) (sym (c .before .before .before .before .before .before .message-at .ensures) ∙ c .before .before .before .before .before .if1 .taken) (r .1) (sym (r .0) ∙ not-false _ (c .if2 .left))
 
   fields-can-loop-less-2 : fields-can-lts.Need-loop-less-2 (fields-can-claims t) (fields-can-at t) fields-can.Post fields-can-Inv-loop fields-can-μ-loop
   fields-can-loop-less-2 c = search needs
 
   fields-can-loop-again-2 : fields-can-lts.Need-loop-again-2 (fields-can-claims t) (fields-can-at t) fields-can.Post fields-can-Inv-loop fields-can-μ-loop
-  fields-can-loop-again-2 c = scan-other (c .before .before .before .loop .inv) (c .before .before .loop-test .taken) (λ e. c .if1 .left (c .before .message-at .ensures ∙ e))
+  fields-can-loop-again-2 c = scan-other (c .before .before .before .loop .inv) (λ e. c .if1 .left (c .before .message-at .ensures ∙ e))
 
   fields-can-same-length-2 : fields-can-lts.Need-same-length-2 (fields-can-claims t) (fields-can-at t) fields-can.Post fields-can-Inv-loop fields-can-μ-loop
-  fields-can-same-length-2 c = same-size (c .before .loop .inv .memo) (c .before .before .before .before .before .before .before .before .before .pre .1 .1 .0)
+  fields-can-same-length-2 c = c .before .loop .inv .kept .size
 
   fields-can-returns-2 : fields-can-lts.Need-returns-2 (fields-can-claims t) (fields-can-at t) fields-can.Post fields-can-Inv-loop fields-can-μ-loop
-  fields-can-returns-2 c = (sym (scan-all (c .before .loop .inv) (c .loop-test .left)), c .before .loop .inv .memo)
+  fields-can-returns-2 c = (sym (scan-all (c .before .loop .inv) _ (c .before .before .before .before .before .before .before .before .before .before .before .pre .1 .0) _ (c .before .before .before .place-at .ensures) (c .loop-test .left)), c .before .loop .inv .kept)
 
   message-can-slice-read-known : message-can-lts.Need-slice-read-known (message-can-claims t) (message-can-at t) message-can.Post
-  message-can-slice-read-known c = let s = c .before .before .before .before .before .before .before .before in omega (arith, s .pre .1 .1 .0 .size, s .pre .1 .1 .1 .0)
+  message-can-slice-read-known c = omega (arith, c .before .before .before .before .before .before .before .before .pre .1 .1 .0 .size, c .before .before .before .before .before .before .before .before .pre .1 .1 .1 .0 .0)
 
   message-can-returns : message-can-lts.Need-returns (message-can-claims t) (message-can-at t) message-can.Post
-  message-can-returns c =
-      let s = c .before .before .before .before .before .before .before .before .before in
-      (sym (s .pre .1 .1 .0 .can (s .args .x) (c .if1 .taken)), s .pre .1 .1 .0)
+  message-can-returns c = let s = c .before .before .before .before .before .before .before .before .before in (sym (s .pre .1 .1 .0 .can (s .args .x) (c .if1 .taken)), kept-same (s .pre .1 .1 .0))
 
   message-can-returns-2 : message-can-lts.Need-returns-2 (message-can-claims t) (message-can-at t) message-can.Post
-  message-can-returns-2 c =
-      let s = c .before .before .before .before .before .before .before .before .before .before in
-      (sym (s .pre .1 .1 .0 .cannot (s .args .x) (c .if2 .taken)), s .pre .1 .1 .0)
-
-  message-can-fields-can-requires : message-can-lts.Need-fields-can-requires (message-can-claims t) (message-can-at t) message-can.Post
-  message-can-fields-can-requires c κs = (omega (arith, c .before .before .before .before .before .before .before .before .before .before .before .pre .0), c .before .before .before .before .before .before .before .before .before .before .before .pre .1)
+  message-can-returns-2 c = let s = c .before .before .before .before .before .before .before .before .before .before in (sym (s .pre .1 .1 .1 .0 .1 (c .if2 .taken)), kept-same (s .pre .1 .1 .0))
 
   message-can-slice-write-memo : message-can-lts.Need-slice-write-memo (message-can-claims t) (message-can-at t) message-can.Post
-  message-can-slice-write-memo c = omega (arith, c .before .before .before .fields-can .ensures .1 .size, c .before .before .before .before .before .before .before .before .before .before .before .before .before .before .before .pre .1 .1 .1 .0)
+  message-can-slice-write-memo c = omega (arith, c .before .before .before .before .before .before .before .before .before .before .pre .1 .1 .0 .size, c .before .before .before .before .before .before .before .before .before .before .pre .1 .1 .1 .0 .0)
+
+  message-can-fields-can-requires : message-can-lts.Need-fields-can-requires (message-can-claims t) (message-can-at t) message-can.Post
+  message-can-fields-can-requires c κs =
+      let s = c .before .before .before .before .before .before .before .before .before .before .before in
+      let m = s .pre .1 .1 .0 in
+      let lt = s .pre .1 .1 .1 .0 .0 in
+      let less = sought-fewer m lt (c .before .before .if1 .left) (c .before .if2 .left) in
+      (omega (arith, s .pre .0), (s .pre .1 .0, (memo-sought m lt, (lt, omega (arith, s .pre .1 .1 .1 .1)))))
+
+  message-can-slice-write-memo-2 : message-can-lts.Need-slice-write-memo-2 (message-can-claims t) (message-can-at t) message-can.Post
+  message-can-slice-write-memo-2 c = omega (arith, known-size (c .before .before .before .before .before .before .before .before .before .before .before .before .before .before .before .pre .1 .1 .0) (c .before .before .before .before .before .before .before .before .before .before .before .before .before .before .before .pre .1 .1 .1 .0 .0) (c .before .before .before .fields-can .ensures .1), c .before .before .before .before .before .before .before .before .before .before .before .before .before .before .before .pre .1 .1 .1 .0 .0)
 
   message-can-same-length : message-can-lts.Need-same-length (message-can-claims t) (message-can-at t) message-can.Post
-  message-can-same-length c = kept-size (c .before .before .before .fields-can .ensures .1) (c .before .before .before .before .before .before .before .before .before .before .before .before .before .before .before .pre .1 .1 .0) (c .before .before .before .before .before .before .before .before .before .before .before .before .before .before .before .args .x) 1
+  message-can-same-length c = kept-can (c .before .before .before .before .before .before .before .before .before .before .before .before .before .before .before .pre .1 .1 .0) (c .before .before .before .before .before .before .before .before .before .before .before .before .before .before .before .pre .1 .1 .1 .0 .0) (c .before .before .before .fields-can .ensures .1) (sym (c .before .before .before .fields-can .ensures .0) ∙ c .if3 .taken) .size
 
   message-can-returns-3 : message-can-lts.Need-returns-3 (message-can-claims t) (message-can-at t) message-can.Post
   message-can-returns-3 c =
-      let s = c .before .before .before .before .before .before .before .before .before .before .before .before .before .before .before in
       let r = c .before .before .before .fields-can .ensures in
       let can = sym (r .0) ∙ c .if3 .taken in
-      (sym can, memo-set (r .1) (s .args .x) 1 (s .pre .1 .1 .1 .0) (λ e. can) (λ e. absurd (omega arith)))
-
-  message-can-slice-write-memo-2 : message-can-lts.Need-slice-write-memo-2 (message-can-claims t) (message-can-at t) message-can.Post
-  message-can-slice-write-memo-2 c = omega (arith, c .before .before .before .fields-can .ensures .1 .size, c .before .before .before .before .before .before .before .before .before .before .before .before .before .before .before .pre .1 .1 .1 .0)
+      (sym can, kept-can (c .before .before .before .before .before .before .before .before .before .before .before .before .before .before .before .pre .1 .1 .0) (c .before .before .before .before .before .before .before .before .before .before .before .before .before .before .before .pre .1 .1 .1 .0 .0) (r .1) can)
 
   message-can-same-length-2 : message-can-lts.Need-same-length-2 (message-can-claims t) (message-can-at t) message-can.Post
-  message-can-same-length-2 c = kept-size (c .before .before .before .fields-can .ensures .1) (c .before .before .before .before .before .before .before .before .before .before .before .before .before .before .before .pre .1 .1 .0) (c .before .before .before .before .before .before .before .before .before .before .before .before .before .before .before .args .x) 2
+  message-can-same-length-2 c = kept-cannot (c .before .before .before .before .before .before .before .before .before .before .before .before .before .before .before .pre .1 .1 .0) (c .before .before .before .before .before .before .before .before .before .before .before .before .before .before .before .pre .1 .1 .1 .0 .0) (c .before .before .before .fields-can .ensures .1) (sym (c .before .before .before .fields-can .ensures .0) ∙ c .if3 .left) .size
 
   message-can-returns-4 : message-can-lts.Need-returns-4 (message-can-claims t) (message-can-at t) message-can.Post
   message-can-returns-4 c =
-      let s = c .before .before .before .before .before .before .before .before .before .before .before .before .before .before .before in
       let r = c .before .before .before .fields-can .ensures in
       let cannot = sym (r .0) ∙ c .if3 .left in
-      (sym cannot, memo-set (r .1) (s .args .x) 2 (s .pre .1 .1 .1 .0) (λ e. absurd (omega arith)) (λ e. cannot))
+      (sym cannot, kept-cannot (c .before .before .before .before .before .before .before .before .before .before .before .before .before .before .before .pre .1 .1 .0) (c .before .before .before .before .before .before .before .before .before .before .before .before .before .before .before .pre .1 .1 .1 .0 .0) (r .1) cannot)
 
 pub +field-can+fields-can+message-can-spec : {M : Type 1} → statement M
 +field-can+fields-can+message-can-spec =
@@ -205,7 +214,7 @@ pub +field-can+fields-can+message-can-spec : {M : Type 1} → statement M
     (field-can-returns t)
     (field-can-returns-2 t)
     (field-can-message-at-requires t)
-    (field-can-sub-message-can t)
+    (field-can-sub-left t)
     (field-can-message-can-requires t)
     (field-can-same-length t)
     (field-can-returns-3 t))
@@ -214,6 +223,10 @@ pub +field-can+fields-can+message-can-spec : {M : Type 1} → statement M
     fields-can.Post
     fields-can-Inv-loop
     fields-can-μ-loop
+    (fields-can-mul-begin t)
+    (fields-can-add-end t)
+    (fields-can-place-at-requires t)
+    (fields-can-place-at-requires-2 t)
     (fields-can-loop-holds t)
     (fields-can-add-next t)
     (fields-can-message-at-requires t)
@@ -232,10 +245,10 @@ pub +field-can+fields-can+message-can-spec : {M : Type 1} → statement M
     (message-can-slice-read-known t)
     (message-can-returns t)
     (message-can-returns-2 t)
-    (message-can-fields-can-requires t)
     (message-can-slice-write-memo t)
+    (message-can-fields-can-requires t)
+    (message-can-slice-write-memo-2 t)
     (message-can-same-length t)
     (message-can-returns-3 t)
-    (message-can-slice-write-memo-2 t)
     (message-can-same-length-2 t)
     (message-can-returns-4 t)

@@ -1,5 +1,4 @@
 -- `derives::turn_of` meets its contract. Assumes nothing.
-use mathlib.Core.Path.{_≡_, refl, sym, _∙_, ap}
 use Rattle.base.specs.Choose.{calls}
 use Rattle.derives.specs.Rules.{turn}
 use borrow.Author.Needs.{needs}
