@@ -15,60 +15,11 @@ use Rattle.base.specs.Bytes.{b, same, same-sound}
 use Rattle.heck.specs.Case.{between, is-upper, is-digit}
 use Rattle.writer.specs.Wrote.{Wrote, over, after, over-cut}
 use Rattle.ident.specs.Ident.{among, raw-words, kept-words, addition}
-use Rattle.ident.specs.Spaced.{spaced}
 use Rattle.ident.specs.declared.keywords.Addition.the-variants.{Nothing, Trailing}
-
--- ---- the tables
-pub raw-spaced : spaced (b "as break const continue else enum false fn for if impl in let loop match mod move mut pub ref return static struct trait true type unsafe use where while dyn abstract become box do final macro override priv typeof unsized virtual yield async await try gen") ≡ raw-words
-unfolding spaced choose raw-words
-raw-spaced = refl
-
-pub kept-spaced : spaced (b "_ super self Self extern crate") ≡ kept-words
-unfolding spaced choose kept-words
-kept-spaced = refl
 
 short : ℕ → List (List ℕ) → Bool
 short n [] = true
 short n (w ∷ ws) = ltb (length w) n && short n ws
-
--- ---- names that begin with an uppercase letter
-abbrev begins-upper : List ℕ → Bool
-begins-upper x = is-upper (getD x 0 0)
-
--- the words that do
-uppers : List (List ℕ) → List (List ℕ)
-uppers [] = []
-uppers (w ∷ ws) = choose (begins-upper w) (w ∷ uppers ws) (uppers ws)
-
-among-upper : (x : List ℕ) (ws : List (List ℕ)) → begins-upper x ≡ true → among x (uppers ws) ≡ among x ws
-unfolding among uppers choose
-among-upper x [] h = refl
-among-upper x (w ∷ ws) h = on (begins-upper w) refl (among-upper x ws h)
-  where
-    on : (t : Bool) → begins-upper w ≡ t → among x (uppers ws) ≡ among x ws → among x (choose t (w ∷ uppers ws) (uppers ws)) ≡ (same x w || among x ws)
-    on true e rest = ap (λ (t : Bool). same x w || t) rest
-    on false e rest = rest ∙ other (same x w) refl
-      where
-        other : (s : Bool) → same x w ≡ s → among x ws ≡ (s || among x ws)
-        other false q = refl
-        other true q = both-ways (ap begins-upper (sym (same-sound x w q)) ∙ h) e
-
-upper-no-digit : (c : ℕ) → is-upper c ≡ true → is-digit c ≡ false
-unfolding between
-upper-no-digit c h = on (is-digit c) refl
-  where
-    on : (t : Bool) → is-digit c ≡ t → t ≡ false
-    on false e = refl
-    on true e = absurd (omega (arith, leb-true 65 c (and-left (leb 65 c) (leb c 90) h), leb-true c 57 (and-right (leb 48 c) (leb c 57) e)))
-
-pub upper-addition : (x : List ℕ) → begins-upper x ≡ true → addition x ≡ choose (same x (b "Self")) Trailing Nothing
-unfolding addition raw-words kept-words uppers choose among between
-upper-addition x h =
-    rw (← among-upper x raw-words h, ← among-upper x kept-words h, upper-no-digit (getD x 0 0) h) (on (same x (b "Self")))
-  where
-    on : (t : Bool) → choose (t || false) Trailing Nothing ≡ choose t Trailing Nothing
-    on true = refl
-    on false = refl
 
 -- ---- the first bytes
 same-front : (n : ℕ) (x w : List ℕ) → length w < n → same (take n x) w ≡ same x w
@@ -109,3 +60,11 @@ head-addition {t} {t'} {p} {n} {m} w e f =
     let h : m ≡ length (take 9 p) = omega arith in
     ap (λ (l : List ℕ). addition (take m l)) (w .text ∙ over-front t p 9 e (decLe (length p) 9))
     ∙ ap addition (head-is t p 9 m e h) ∙ addition-front p
+
+-- ---- the whole name, in a buffer that has room for it
+pub written-whole : {t t' p : List ℕ} {n : ℕ} → Wrote t 0 p t' n → n ≤ length t → take n t' ≡ p
+unfolding after over
+written-whole {t} {t'} {p} {n} w h =
+    let g : n ≡ 0 + min (length p) (2 ^ 63 - 0) = w .next in
+    let r : length t < 2 ^ 63 = w .room in
+    ap (take n) (w .text ∙ sets-eq p t 0 (omega arith)) ∙ take-at p (drop (0 + length p) t) n (omega arith)

@@ -1,6 +1,6 @@
-pub mod SpacedLaws
 pub mod NameLaws
 pub mod AdditionLaws
+pub mod NumberLaws
 pub mod PrefixLaws
 pub mod EveryLaws
 pub mod Spelled

@@ -7,10 +7,11 @@ mod prefix;
 use heck::State;
 use keywords::Addition;
 ghost use mathlib.Core.Path.{_≡_};
+ghost use mathlib.Core.Bool.{true};
 ghost use lib.ListN.{drop};
 ghost use Rattle.writer.specs.Wrote.{Wrote};
 ghost use Rattle.heck.specs.Pass.{cased};
-ghost use Rattle.ident.specs.Ident.{addition, with-addition, sanitize-identifier, to-snake, to-upper-camel, strip-enum-prefix};
+ghost use Rattle.ident.specs.Ident.{addition, is-trailing, with-addition, sanitize-identifier, to-snake, to-upper-camel, strip-enum-prefix};
 ghost use Rattle.ident.specs.Convert.{convertible, convert};
 
 // What a name writer answers: the place behind the name.
@@ -28,17 +29,6 @@ fn addition_to(s: &[u8], from: usize, state: State, camel: bool) -> Addition
     keywords::addition_of(&head[..m])
 }
 
-// The rest of a name, as the case rule spells it from a state on, sanitised.
-fn put_name(t: &mut [u8], at: usize, s: &[u8], from: usize, state: State, camel: bool) -> Named
-    ensures { λ r. ⌜ Wrote (now (t .entry)) at (sanitize-identifier (cased camel state (drop from (now (s .entry))))) (now (t .exit)) (r .next) ⌝ }
-{
-    let added = addition_to(s, from, state, camel);
-    let a = keywords::put_before(t, at, added);
-    let a = heck::put_case(t, a, s, from, state, camel);
-    let a = keywords::put_behind(t, a, added);
-    Named { next: a }
-}
-
 // s, sanitised.
 pub fn put_sanitized(t: &mut [u8], at: usize, s: &[u8]) -> Named
     ensures { λ r. ⌜ Wrote (now (t .entry)) at (sanitize-identifier (now (s .entry))) (now (t .exit)) (r .next) ⌝ }
@@ -48,6 +38,29 @@ pub fn put_sanitized(t: &mut [u8], at: usize, s: &[u8]) -> Named
     let a = writer::put(t, a, s);
     let a = keywords::put_behind(t, a, added);
     Named { next: a }
+}
+
+// The rest of a name, as the case rule spells it from a state on, sanitised: a name of any length.
+fn put_long_name(t: &mut [u8], at: usize, s: &[u8], from: usize, state: State, camel: bool) -> Named
+    ensures { λ r. ⌜ Wrote (now (t .entry)) at (sanitize-identifier (cased camel state (drop from (now (s .entry))))) (now (t .exit)) (r .next) ⌝ }
+{
+    let added = addition_to(s, from, state, camel);
+    let a = keywords::put_before(t, at, added);
+    let a = heck::put_case(t, a, s, from, state, camel);
+    let a = keywords::put_behind(t, a, added);
+    Named { next: a }
+}
+
+// The same, spelt once: 64 bytes of a name are spelt in at most 106.
+fn put_name(t: &mut [u8], at: usize, s: &[u8], from: usize, state: State, camel: bool) -> Named
+    ensures { λ r. ⌜ Wrote (now (t .entry)) at (sanitize-identifier (cased camel state (drop from (now (s .entry))))) (now (t .exit)) (r .next) ⌝ }
+{
+    let mut name = [0u8; 106];
+    let n = heck::put_case(&mut name, 0, s, from, state, camel);
+    if n <= 106 {
+        return put_sanitized(t, at, &name[..n]);
+    }
+    put_long_name(t, at, s, from, state, camel)
 }
 
 // A name without a prefix that an uppercase letter follows, sanitised.
@@ -72,11 +85,26 @@ pub fn put_upper_camel(t: &mut [u8], at: usize, s: &[u8]) -> Named
     put_name(t, at, s, 0, State::Start, true)
 }
 
+// Does the camel name of s gain a trailing `_`?
+fn is_kept(s: &[u8]) -> bool
+    ensures { λ r. ⌜ r ≡ is-trailing (addition (cased true State.Start (now (s .entry)))) ⌝ }
+{
+    let step = heck::camel_step(s, 0, State::Start);
+    if step.more {
+        let maybe = keywords::begins_kept(step.byte);
+        if maybe {
+            return keywords::is_trailing(addition_to(s, 0, State::Start, true));
+        }
+        return false;
+    }
+    false
+}
+
 // The camel name of an enum's value, without the enum's own written name in front.
 pub fn put_variant(t: &mut [u8], at: usize, prefix: &[u8], name: &[u8]) -> Named
     ensures { λ r. ⌜ Wrote (now (t .entry)) at (strip-enum-prefix (to-upper-camel (now (prefix .entry))) (to-upper-camel (now (name .entry)))) (now (t .exit)) (r .next) ⌝ }
 {
-    let kept = keywords::is_trailing(addition_to(prefix, 0, State::Start, true));
+    let kept = is_kept(prefix);
     if kept {
         return put_name(t, at, name, 0, State::Start, true);
     }

@@ -1,35 +1,54 @@
--- `ident::put_name` meets its contract. Assumes nothing.
-use Rattle.writer.specs.Wrote.{_►_, named}
-use Rattle.ident.specs.Added.{sanitized-around}
+use native.Mathlib.Omega.{arith}
+use lib.Seq.{length-take-le}
+use mathlib.Core.Path.{sym, ap}
+use Rattle.writer.specs.Wrote.{kept, named}
+use Rattle.ident.specs.Ident.{sanitize-identifier}
+use Rattle.ident.proofs.AdditionLaws.{written-whole}
 use borrow.Author.Needs.{needs}
 use Rattle.ident.proofs.put_name.Statement.{statement}
 use Rattle.ident.proofs.put_name.Tie as tie
 
-addition-to-requires : tie.Need-addition-to-requires
-addition-to-requires c κs = search needs
-
-put-before-requires : tie.Need-put-before-requires
-put-before-requires c κs = search needs
+slice-aggregate-put-case : tie.Need-slice-aggregate-put-case
+slice-aggregate-put-case c = search needs
 
 put-case-requires : tie.Need-put-case-requires
 put-case-requires c κs = search needs
 
-put-behind-requires : tie.Need-put-behind-requires
-put-behind-requires c κs = search needs
+array-share-prefix-name : tie.Need-array-share-prefix-name
+array-share-prefix-name c = search needs
+
+slice-aggregate-put-sanitized : tie.Need-slice-aggregate-put-sanitized
+slice-aggregate-put-sanitized c = let h = kept (c .before .before .before .before .put-case .ensures) in sym (length-take-le _ _ (omega arith))
+
+put-sanitized-requires : tie.Need-put-sanitized-requires
+put-sanitized-requires c κs = search needs
 
 same-length : tie.Need-same-length
 same-length c = search needs
 
 returns : tie.Need-returns
-returns c = named (sanitized-around _ _ (c .before .before .before .before .before .before .before .before .before .before .before .before .addition-to .ensures)) (c .before .before .before .before .before .before .before .before .before .before .put-before .ensures ► c .before .before .before .before .before .before .put-case .ensures ► c .before .before .put-behind .ensures)
+returns c = named (ap sanitize-identifier (written-whole (c .before .before .before .before .before .before .before .put-case .ensures) (c .before .before .before .before .before .if1 .taken))) (c .before .before .put-sanitized .ensures)
+
+put-long-name-requires : tie.Need-put-long-name-requires
+put-long-name-requires c κs = search needs
+
+same-length-2 : tie.Need-same-length-2
+same-length-2 c = search needs
+
+returns-2 : tie.Need-returns-2
+returns-2 c = search needs
 
 pub put-name-spec : {M : Type 1} → statement M
 put-name-spec =
     tie.close
     (tie.spec
-    addition-to-requires
-    put-before-requires
+    slice-aggregate-put-case
     put-case-requires
-    put-behind-requires
+    array-share-prefix-name
+    slice-aggregate-put-sanitized
+    put-sanitized-requires
     same-length
-    returns)
+    returns
+    put-long-name-requires
+    same-length-2
+    returns-2)

@@ -7,11 +7,8 @@ use borrow.Author.Needs.{needs}
 use Rattle.ident.proofs.put_variant.Statement.{statement}
 use Rattle.ident.proofs.put_variant.Tie as tie
 
-addition-to-requires : tie.Need-addition-to-requires
-addition-to-requires c κs = search needs
-
-is-trailing-requires : tie.Need-is-trailing-requires
-is-trailing-requires c κs = search needs
+is-kept-requires : tie.Need-is-kept-requires
+is-kept-requires c κs = search needs
 
 put-name-requires : tie.Need-put-name-requires
 put-name-requires c κs = search needs
@@ -20,7 +17,7 @@ same-length : tie.Need-same-length
 same-length c = search needs
 
 returns : tie.Need-returns
-returns c = named (strip-none _ _ (ap is-trailing (sym (c .before .before .before .before .before .before .addition-to .ensures)) ∙ sym (c .before .before .before .before .before .is-trailing .ensures) ∙ c .before .before .before .before .if1 .taken)) (c .before .before .put-name .ensures)
+returns c = named (strip-none _ _ (sym (c .before .before .before .before .before .is-kept .ensures) ∙ c .before .before .before .before .if1 .taken)) (c .before .before .put-name .ensures)
 
 behind-requires : tie.Need-behind-requires
 behind-requires c κs = search needs
@@ -32,14 +29,13 @@ same-length-2 : tie.Need-same-length-2
 same-length-2 c = search needs
 
 returns-2 : tie.Need-returns-2
-returns-2 c = named (strip-rest _ _ (ap is-trailing (sym (c .before .before .before .before .before .before .before .addition-to .ensures)) ∙ sym (c .before .before .before .before .before .before .is-trailing .ensures) ∙ c .before .before .before .before .before .if1 .left) _ (c .before .before .before .before .behind .ensures)) (c .before .before .put-name2 .ensures)
+returns-2 c = named (strip-rest _ _ (sym (c .before .before .before .before .before .before .is-kept .ensures) ∙ c .before .before .before .before .before .if1 .left) _ (c .before .before .before .before .behind .ensures)) (c .before .before .put-name2 .ensures)
 
 pub put-variant-spec : {M : Type 1} → statement M
 put-variant-spec =
     tie.close
     (tie.spec
-    addition-to-requires
-    is-trailing-requires
+    is-kept-requires
     put-name-requires
     same-length
     returns
