@@ -1,4 +1,5 @@
 pub mod CursorLaws
+pub mod EndLaws
 pub mod NamedLaws
 pub mod FindLaws
 pub mod BeforeLaws

@@ -2,7 +2,7 @@
 ghost use mathlib.Core.Path.{_≡_};
 ghost use mathlib.Core.Bool.{true, false};
 ghost use Prim.Native.Nat.{ℕ, _+_, _<_};
-ghost use Rattle.type_names.specs.Cursors.{Sits, Prior, Entered};
+ghost use Rattle.type_names.specs.Cursors.{Ends, Sits, Prior, Entered};
 ghost use lib.Dec.{ltb};
 ghost use Rattle.base.specs.Choose.{choose};
 ghost use Rattle.base.specs.Bytes.{same};
@@ -111,11 +111,48 @@ fn read_back(set: &[u8], t: &[usize], c: Cursor) -> Back
     }
 }
 
+// The last byte of the full name of a row: that of its own name, or the dot before an empty one.
+fn last_byte(set: &[u8], t: &[usize], row: usize) -> u8
+    requires { ⌜ row < 65536 ⌝ }
+    ensures { λ r. ⌜ Ends (now (set .entry)) (now (t .entry)) (row + 1) r ⌝ }
+{
+    let start = declarations::cell(t, row, 0);
+    let len = declarations::cell(t, row, 1);
+    if set.len() < start {
+        return 46;
+    }
+    let room = set.len() - start;
+    let n = writer::within(len, room);
+    if n == 0 {
+        return 46;
+    }
+    let end = start + n;
+    set[end - 1]
+}
+
+// Does the name end in another byte than the full name of the row? Most rows are told apart so.
+fn ends_apart(set: &[u8], t: &[usize], name: &[u8], row: usize) -> bool
+    requires { ⌜ row < 65536 ⌝ }
+    ensures { λ r. ⌜ (r ≡ true → same (full (now (set .entry)) (now (t .entry)) (row + 1)) (now (name .entry)) ≡ false) ⌝ }
+{
+    let n = name.len();
+    if n == 0 {
+        return false;
+    }
+    if name[n - 1] == last_byte(set, t, row) {
+        return false;
+    }
+    true
+}
+
 // Is this the full name of the row?
 pub fn is_named(set: &[u8], t: &[usize], name: &[u8], row: usize) -> bool
     ensures { λ r. ⌜ r ≡ named (now (set .entry)) (now (t .entry)) (now (name .entry)) row ⌝ }
 {
     if 65535 < row {
+        return false;
+    }
+    if ends_apart(set, t, name, row) {
         return false;
     }
     let code = row + 1;
@@ -224,11 +261,14 @@ pub fn declared_before(set: &[u8], t: &[usize], row: usize) -> bool
     if 65535 < row {
         return false;
     }
+    let last = last_byte(set, t, row);
     let mut j = row;
     while 0 < j {
         let k = j - 1;
-        if row_same(set, t, row, k) {
-            return true;
+        if last_byte(set, t, k) == last {
+            if row_same(set, t, row, k) {
+                return true;
+            }
         }
         j = k;
     }

@@ -1,35 +1,47 @@
-use Rattle.type_names.proofs.BeforeLaws.{past, Left, left-start, left-end, left-found, left-more}
+use Rattle.type_names.proofs.BeforeLaws.{past, Left, left-start, left-end, left-found, left-more, left-apart}
 use native.Mathlib.Omega.{arith}
 use borrow.Author.Needs.{needs}
 use Rattle.type_names.proofs.declared_before.Statement.{statement}
 use Rattle.type_names.proofs.declared_before.Tie as tie
 
 abbrev Inv-loop : tie.InvT-loop
-Inv-loop set t row j₀ j = Left set t row j
+Inv-loop set t row last j₀ j = Left set t row j
 
 abbrev μ-loop : tie.MeasureT-loop
-μ-loop set t row j₀ j = j
+μ-loop set t row last j₀ j = j
 
 returns : tie.Need-returns Inv-loop μ-loop
 returns c = past _ _ _ (c .if1 .taken)
 
+last-byte-requires : tie.Need-last-byte-requires Inv-loop μ-loop
+last-byte-requires c κs = omega (arith, c .if1 .left)
+
 loop-holds : tie.Need-loop-holds Inv-loop μ-loop
-loop-holds c = left-start _ _ _ (c .if1 .left)
+loop-holds c = left-start _ _ _ (c .before .if1 .left)
 
 sub-k : tie.Need-sub-k Inv-loop μ-loop
 sub-k c = search needs
 
+last-byte-requires-2 : tie.Need-last-byte-requires-2 Inv-loop μ-loop
+last-byte-requires-2 c κs = let a = c .before .loop .inv .few in let b = c .before .loop .inv .inside in omega (arith, c .loop-test .taken)
+
 row-same-requires : tie.Need-row-same-requires Inv-loop μ-loop
-row-same-requires c κs = let a = c .before .loop .inv .few in let b = c .before .loop .inv .inside in (omega arith, omega arith)
+row-same-requires c κs = let a = c .before .before .before .loop .inv .few in let b = c .before .before .before .loop .inv .inside in (omega arith, omega arith)
 
 returns-2 : tie.Need-returns-2 Inv-loop μ-loop
-returns-2 c = left-found _ _ _ _ (c .before .before .before .loop .inv) (c .before .before .loop-test .taken) _ (c .before .row-same .ensures) (c .if2 .taken)
+returns-2 c = left-found _ _ _ _ (c .before .before .before .before .before .loop .inv) (c .before .before .before .before .loop-test .taken) _ (c .before .row-same .ensures) (c .if3 .taken)
 
 loop-less : tie.Need-loop-less Inv-loop μ-loop
-loop-less c = omega (arith, c .before .before .loop-test .taken)
+loop-less c = omega (arith, c .before .before .before .before .loop-test .taken)
 
 loop-again : tie.Need-loop-again Inv-loop μ-loop
-loop-again c = left-more _ _ _ _ (c .before .before .before .loop .inv) (c .before .before .loop-test .taken) _ (c .before .row-same .ensures) (c .if2 .left)
+loop-again c = left-more _ _ _ _ (c .before .before .before .before .before .loop .inv) (c .before .before .before .before .loop-test .taken) _ (c .before .row-same .ensures) (c .if3 .left)
+
+loop-less-2 : tie.Need-loop-less-2 Inv-loop μ-loop
+loop-less-2 c = omega (arith, c .before .before .loop-test .taken)
+
+loop-again-2 : tie.Need-loop-again-2 Inv-loop μ-loop
+loop-again-2 c = left-apart _ _ _ _ (c .before .before .before .loop .inv) (c .before .before .loop-test .taken) _ _ (c .before .before .before .before .last-byte .ensures) (c .before .last-byte2 .ensures) (c .if2 .left)
 
 returns-3 : tie.Need-returns-3 Inv-loop μ-loop
 returns-3 c = left-end _ _ _ _ (c .before .loop .inv) (c .loop-test .left)
@@ -41,10 +53,14 @@ declared-before-spec =
     Inv-loop
     μ-loop
     returns
+    last-byte-requires
     loop-holds
     sub-k
+    last-byte-requires-2
     row-same-requires
     returns-2
     loop-less
     loop-again
+    loop-less-2
+    loop-again-2
     returns-3)
