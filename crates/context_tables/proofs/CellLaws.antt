@@ -3,13 +3,14 @@ use mathlib.Core.Path.{_≡_, sym, ap, _∙_}
 use mathlib.Core.Bool.{Bool, true, false, not}
 use mathlib.Core.List.{List}
 use mathlib.Core.Option.{none}
-use Prim.Native.Nat.{ℕ, _-_, _/_, _%_}
+use Prim.Native.Nat.{ℕ, _-_, _/_, _%_, _≤_}
+use native.Mathlib.Omega.{arith}
 use lib.Dec.{eqb}
 use lib.ListN.{getD}
 use Rattle.base.specs.Choose.{choose}
-use Rattle.wire.specs.Records.{part}
+use Rattle.wire.specs.Records.{part, records, scan}
 use Rattle.descriptor.specs.Descriptor.{FieldDescriptor}
-use Rattle.descriptor.specs.Decode.{decode-field, decode-message}
+use Rattle.descriptor.specs.Decode.{decode-field, decode-message, entries, entries-of, parts, joined, last-from}
 use Rattle.descriptor.specs.Views.{number-of, field-of, field-in, message-in}
 use Rattle.descriptor.specs.declared.FieldView.{FieldView}
 use Rattle.descriptor.specs.declared.MessageView.{MessageView}
@@ -23,7 +24,7 @@ use Rattle.message_graph.specs.Tab.{tab}
 use Rattle.derives.specs.declared.Derive.the-variants.{Copy, Eq}
 use Rattle.field_columns.specs.Columns.{start-at}
 use Rattle.code_generator.specs.Oneofs.{oneof-of}
-use Rattle.context_tables.specs.Cells.{is-set-at, entry-at, message-number, message-cell, oneof-cell, oneof-at, field-number, field-cell, can, message-table, field-table}
+use Rattle.context_tables.specs.Cells.{is-set-at, entry-at, message-number, message-cell, oneof-cell, oneof-at, field-cell, can, message-table, field-table}
 
 pub set-read : (bytes : List ℕ) (i x : ℕ) → x ≡ getD bytes i 0 → not (eqb x 0) ≡ is-set-at bytes i
 unfolding is-set-at
@@ -32,11 +33,6 @@ set-read bytes i x e = ap (λ (n : ℕ). not (eqb n 0)) e
 pub message-read : (rows first : List ℕ) (copy eq : List Bool) (at r : ℕ) → r ≡ message-number rows first copy eq (at / 4) (at % 4) → r ≡ message-cell rows first copy eq at
 unfolding message-cell
 message-read rows first copy eq at r e = e
-
-pub field-read : (set rows table target kind label : List ℕ) (boxed settings copy eq entries : List Bool) (at r : ℕ)
-    → r ≡ field-number set rows table target kind label boxed settings copy eq entries (at / 8) (at % 8) → r ≡ field-cell set rows table target kind label boxed settings copy eq entries at
-unfolding field-cell
-field-read set rows table target kind label boxed settings copy eq entries at r e = e
 
 -- a field's oneof, by its view
 module _ (set table : List ℕ) (k : ℕ) (row : Row) (row-is : row ≡ row-at table k) (start end : ℕ) (start-is : start ≡ row .start) (end-is : end ≡ row .end)
@@ -67,6 +63,15 @@ unfolding entry-at
 entry-read set rows i row row-is start end start-is end-is v view-is =
     ap (λ (w : MessageView). w .entry) view-is
     ∙ message-entry-is set start (end - start)
+    ∙ ap (λ (a : ℕ). decode-message (part set a (end - a)) .map-entry) start-is
+    ∙ ap (λ (a : ℕ). decode-message (part set (row .start) (a - row .start)) .map-entry) end-is
+    ∙ ap (λ (x : Row). decode-message (row-bytes set x) .map-entry) row-is
+
+-- without bytes there is no record, so no option that says so
+pub no-entry : (set rows : List ℕ) (i : ℕ) (row : Row) → row ≡ row-at rows i → (start end : ℕ) → start ≡ row .start → end ≡ row .end → end ≤ start → false ≡ entry-at set rows i
+unfolding entry-at decode-message entries entries-of records scan parts joined last-from
+no-entry set rows i row row-is start end start-is end-is empty =
+    ap (λ (n : ℕ). decode-message (part set start n) .map-entry) {x = 0} {y = end - start} (omega arith)
     ∙ ap (λ (a : ℕ). decode-message (part set a (end - a)) .map-entry) start-is
     ∙ ap (λ (a : ℕ). decode-message (part set (row .start) (a - row .start)) .map-entry) end-is
     ∙ ap (λ (x : Row). decode-message (row-bytes set x) .map-entry) row-is

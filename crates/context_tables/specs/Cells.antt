@@ -1,10 +1,11 @@
 -- The numbers of the tables that the text's writers read, row by row. Assumes nothing.
-use Prim.Native.Nat.{ℕ, suc, _/_, _%_}
+use Prim.Native.Nat.{ℕ, suc, _+_, _/_, _%_, _<_, min}
+use mathlib.Core.Path.{_≡_}
 use mathlib.Core.Bool.{Bool, false, not}
 use mathlib.Core.List.{List}
 use mathlib.Core.Option.{Option, some, none}
 use lib.Dec.{eqb, ltb}
-use lib.ListN.{getD}
+use lib.ListN.{length, getD}
 use Rattle.base.specs.Choose.{choose}
 use Rattle.descriptor.specs.Decode.{decode-field, decode-message}
 use Rattle.index.specs.Tree.{row-at, row-bytes}
@@ -12,13 +13,22 @@ use Rattle.index.specs.declared.Row.{Row}
 use Rattle.message_graph.specs.Limit.{messages}
 use Rattle.message_graph.specs.Fields.{Fields, fields, message-at, type-message, label-repeated}
 use Rattle.message_graph.specs.Boxes.{boxed-by-loop}
-use Rattle.message_graph.specs.Tab.{tab}
+use Rattle.message_graph.specs.Tab.{tab, Filled}
 use Rattle.derives.specs.declared.Derive.{Derive}
 use Rattle.derives.specs.declared.Derive.the-variants.{Copy, Eq}
 use Rattle.derives.specs.Rules.{rule}
 use Rattle.derives.specs.Can.{can-message-derive}
 use Rattle.field_columns.specs.Columns.{start-at}
 use Rattle.code_generator.specs.Oneofs.{oneof-of}
+
+-- where t has what f gives below from, u has it below to
+pub record Fills (f : ℕ → ℕ) (from to : ℕ) (t u : List ℕ) : Type 0 where
+  pub further : (old : List ℕ) → Filled f old t from → Filled f old u to
+
+-- a row's eight numbers from at on, as far as t goes, make u of it: where t has what f gives below at, u has it below next
+pub record Laid (row : List ℕ) (at : ℕ) (t u : List ℕ) (next : ℕ) : Type 0 where
+  pub behind : next ≡ min (at + 8) (length t)
+  pub further : (f : ℕ → ℕ) (old : List ℕ) → ((j : ℕ) → j < 8 → getD row j 0 ≡ f (at + j)) → Filled f old t at → Filled f old u next
 
 unfoldable pub bit : Bool → ℕ
 bit b = choose b 1 0

@@ -1,15 +1,15 @@
 // The two tables that the text's writers read: four numbers for each message of a set, and eight for each field.
 ghost use mathlib.Core.Path.{_≡_};
 ghost use mathlib.Core.Bool.{false};
-ghost use Prim.Native.Nat.{_/_, _%_, _<_};
+ghost use Prim.Native.Nat.{_+_, _*_, _/_, _%_, _<_, _≤_};
 ghost use lib.ListN.{length, getD};
 ghost use Rattle.derives.specs.Rules.{rule};
 ghost use Rattle.message_graph.specs.Fields.{message-at};
 ghost use Rattle.message_graph.specs.Boxes.{boxed-by-loop};
-ghost use Rattle.message_graph.specs.Tab.{tab};
+ghost use Rattle.message_graph.specs.Tab.{tab, Filled};
 ghost use Rattle.descriptor.specs.Views.{number-of};
 ghost use Rattle.code_generator.specs.Oneofs.{oneof-of};
-ghost use Rattle.context_tables.specs.Cells.{bit, is-set-at, entry-at, message-number, message-cell, field-can, names-entry, entry-row, oneof-cell, oneof-at, place-number, field-number, field-cell, columns, message-table, field-table};
+ghost use Rattle.context_tables.specs.Cells.{Fills, Laid, bit, is-set-at, entry-at, message-number, message-cell, field-can, names-entry, entry-row, oneof-cell, oneof-at, field-number, field-cell, columns, message-table, field-table};
 use derives::Derive;
 use descriptor::Number;
 use index::Row;
@@ -65,12 +65,16 @@ pub fn fill_settings(bytes: &[u8], out: &mut [bool])
     }
 }
 
+// Is message `i` a map entry? A row without bytes is none.
 fn entry_at(set: &[u8], rows: &[u16], i: usize) -> bool
     ensures { λ r. ⌜ r ≡ entry-at (now (set .entry)) (now (rows .entry)) i ⌝ }
 {
     let row = index::row_of(rows, i);
     let start = wide(row.start);
     let end = wide(row.end);
+    if end <= start {
+        return false;
+    }
     let view = descriptor::message_view(set, start, end);
     view.entry
 }
@@ -112,17 +116,55 @@ fn message_number(
     row.after
 }
 
-// The rows of the messages: `rows` has their places, `first` where the fields of each begin, `copy` and `eq` what each can derive.
-pub fn fill_messages(t: &mut [u16], rows: &[u16], first: &[u16], copy: &[bool], eq: &[bool])
+// The four numbers of message `i`, in their place.
+fn put_message(t: &mut [u16], rows: &[u16], first: &[u16], copy: &[bool], eq: &[bool], i: usize)
+    requires { ⌜ (i + 1) * 4 ≤ length (now t) ⌝ }
+    ensures { λ _. ⌜ Fills (message-cell (now (rows .entry)) (now (first .entry)) (now (copy .entry)) (now (eq .entry))) (i * 4) ((i + 1) * 4) (now (t .entry)) (now (t .exit)) ⌝ }
+{
+    let can_copy = flag_at(copy, i);
+    let can_eq = flag_at(eq, i);
+    let start = word_at(first, i);
+    let row = index::row_of(rows, i);
+    let at = i * 4;
+    t[at] = bit(can_copy);
+    t[at + 1] = bit(can_eq);
+    t[at + 2] = start;
+    t[at + 3] = row.after;
+}
+
+// The numbers from the place `from` on, one by one.
+fn fill_message_cells(
+    t: &mut [u16],
+    rows: &[u16],
+    first: &[u16],
+    copy: &[bool],
+    eq: &[bool],
+    from: usize,
+)
+    requires { ⌜ Filled (message-cell (now rows) (now first) (now copy) (now eq)) (now t) (now t) from ⌝ }
     ensures { λ _. ⌜ now (t .exit) ≡ tab (length (now (t .entry))) (message-cell (now (rows .entry)) (now (first .entry)) (now (copy .entry)) (now (eq .entry))) ⌝ }
 {
-    let mut i = 0;
+    let mut i = from;
     while i < t.len() {
         let message = i / 4;
         let column = i % 4;
         t[i] = message_number(rows, first, copy, eq, message, column);
         i += 1;
     }
+}
+
+// The rows of the messages: `rows` has their places, `first` where the fields of each begin, `copy` and `eq` what each can derive.
+pub fn fill_messages(t: &mut [u16], rows: &[u16], first: &[u16], copy: &[bool], eq: &[bool])
+    ensures { λ _. ⌜ now (t .exit) ≡ tab (length (now (t .entry))) (message-cell (now (rows .entry)) (now (first .entry)) (now (copy .entry)) (now (eq .entry))) ⌝ }
+{
+    let whole = t.len() / 4;
+    let mut i = 0;
+    while i < whole {
+        put_message(t, rows, first, copy, eq, i);
+        i += 1;
+    }
+    let from = i * 4;
+    fill_message_cells(t, rows, first, copy, eq, from);
 }
 
 // Can field `k` derive it? `can` has the messages' answers.
@@ -213,39 +255,8 @@ fn oneof_at(set: &[u8], fields: &[u16], k: usize) -> u16
     oneof_cell(view.oneof)
 }
 
-// The number in a column from 3 on of the row of field `k`.
-fn place_number(
-    set: &[u8],
-    rows: &[u16],
-    fields: &[u16],
-    target: &[Index],
-    kind: &[u8],
-    label: &[u8],
-    entries: &[bool],
-    k: usize,
-    column: usize,
-) -> u16
-    ensures { λ r. ⌜ r ≡ place-number (now (set .entry)) (now (rows .entry)) (now (fields .entry)) (now (target .entry)) (now (kind .entry)) (now (label .entry)) (now (entries .entry)) k column ⌝ }
-{
-    let row = index::row_of(fields, k);
-    if column == 3 {
-        return row.start;
-    }
-    if column == 4 {
-        return row.end;
-    }
-    let entry = entry_row(rows, target, kind, label, entries, k);
-    if column == 5 {
-        return entry.start;
-    }
-    if column == 6 {
-        return entry.end;
-    }
-    oneof_at(set, fields, k)
-}
-
-// The number in a column of the row of field `k`.
-fn field_number(
+// The eight numbers of field `k`.
+fn field_row(
     set: &[u8],
     rows: &[u16],
     fields: &[u16],
@@ -258,23 +269,34 @@ fn field_number(
     eq: &[bool],
     entries: &[bool],
     k: usize,
-    column: usize,
-) -> u16
-    ensures { λ r. ⌜ r ≡ field-number (now (set .entry)) (now (rows .entry)) (now (fields .entry)) (now (target .entry)) (now (kind .entry)) (now (label .entry)) (now (boxed .entry)) (now (settings .entry)) (now (copy .entry)) (now (eq .entry)) (now (entries .entry)) k column ⌝ }
+) -> [u16; 8]
+    ensures { λ r. ⌜ r ≡ tab 8 (field-number (now (set .entry)) (now (rows .entry)) (now (fields .entry)) (now (target .entry)) (now (kind .entry)) (now (label .entry)) (now (boxed .entry)) (now (settings .entry)) (now (copy .entry)) (now (eq .entry)) (now (entries .entry)) k) ⌝ }
 {
-    if column == 0 {
-        let looped = flag_at(boxed, k);
-        return bit(looped);
+    let looped = bit(flag_at(boxed, k));
+    let can_copy = bit(field_can(Derive::Copy, target, kind, label, boxed, settings, copy, k));
+    let can_eq = bit(field_can(Derive::Eq, target, kind, label, boxed, settings, eq, k));
+    let row = index::row_of(fields, k);
+    let start = row.start;
+    let end = row.end;
+    let entry = entry_row(rows, target, kind, label, entries, k);
+    let first = entry.start;
+    let last = entry.end;
+    let oneof = oneof_at(set, fields, k);
+    [looped, can_copy, can_eq, start, end, first, last, oneof]
+}
+
+// Stores a row at `at`, as far as the table goes, and answers the place behind it.
+fn put_row(t: &mut [u16], at: usize, row: &[u16; 8]) -> usize
+    requires { ⌜ at < length (now t) ⌝ }
+    ensures { λ r. ⌜ Laid (now (row .entry)) at (now (t .entry)) (now (t .exit)) r ⌝ }
+{
+    let behind = writer::within(at + 8, t.len());
+    let mut i = at;
+    while i < behind {
+        t[i] = row[i - at];
+        i += 1;
     }
-    if column == 1 {
-        let can = field_can(Derive::Copy, target, kind, label, boxed, settings, copy, k);
-        return bit(can);
-    }
-    if column == 2 {
-        let can = field_can(Derive::Eq, target, kind, label, boxed, settings, eq, k);
-        return bit(can);
-    }
-    place_number(set, rows, fields, target, kind, label, entries, k, column)
+    i
 }
 
 // The rows of the fields: `rows` and `fields` have the messages' and fields' places, `boxed` has those that are boxed by a loop, `settings` those with a boxed setting, `copy` and `eq` what each
@@ -295,11 +317,10 @@ pub fn fill_fields(
 )
     ensures { λ _. ⌜ now (t .exit) ≡ tab (length (now (t .entry))) (field-cell (now (set .entry)) (now (rows .entry)) (now (fields .entry)) (now (target .entry)) (now (kind .entry)) (now (label .entry)) (now (boxed .entry)) (now (settings .entry)) (now (copy .entry)) (now (eq .entry)) (now (entries .entry))) ⌝ }
 {
-    let mut i = 0;
-    while i < t.len() {
-        let k = i / 8;
-        let column = i % 8;
-        t[i] = field_number(
+    let mut at = 0;
+    let mut k = 0;
+    while at < t.len() {
+        let row = field_row(
             set,
             rows,
             fields,
@@ -312,9 +333,9 @@ pub fn fill_fields(
             eq,
             entries,
             k,
-            column,
         );
-        i += 1;
+        at = put_row(t, at, &row);
+        k += 1;
     }
 }
 

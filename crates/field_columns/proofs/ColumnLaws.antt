@@ -6,12 +6,11 @@ use Rattle.wire.specs.Records.{part}
 use Rattle.descriptor.specs.Decode.{decode-field}
 use Rattle.descriptor.specs.Views.{number-of, field-of, field-in}
 use Rattle.descriptor.specs.declared.FieldView.{FieldView}
-use Rattle.descriptor.specs.declared.Number.{Number}
 use Rattle.descriptor.proofs.ViewTheorems.{field-view-is}
 use Rattle.name_rules.specs.Accessors.{or-else}
 use Rattle.index.specs.Tree.{row-at, row-bytes}
 use Rattle.index.specs.declared.Row.{Row}
-use Rattle.field_columns.specs.Columns.{column-of, viewed, byte-of, column-at}
+use Rattle.field_columns.specs.Columns.{column-of, viewed, byte-of, column-at, view-at}
 use Rattle.field_columns.specs.declared.Column.{Column}
 use Rattle.field_columns.specs.declared.Column.the-variants.{Kind, Label}
 
@@ -20,16 +19,19 @@ unfolding field-of
 viewed-is set Kind v = refl
 viewed-is set Label v = refl
 
-module _ (set fields : List ℕ) (column : Column) (i : ℕ) (row : Row) (row-is : row ≡ row-at fields i) (start end : ℕ) (start-is : start ≡ row .start) (end-is : end ≡ row .end)
-    (v : FieldView) (view-is : v ≡ field-in start (part set start (end - start))) (n : Number) (number-is : n ≡ viewed column v) where
-  pub column-read : (r : ℕ) → r ≡ byte-of (or-else 1 (number-of n)) → r ≡ column-at set fields column i
-  unfolding column-at
-  column-read r is =
-      is ∙ ap (λ (m : Number). byte-of (or-else 1 (number-of m))) number-is
-      ∙ ap byte-of
+module _ (set fields : List ℕ) (i : ℕ) where
+  pub view-read : (row : Row) → row ≡ row-at fields i → (start end : ℕ) → start ≡ row .start → end ≡ row .end
+      → (v : FieldView) → v ≡ field-in start (part set start (end - start)) → v ≡ view-at set fields i
+  unfolding view-at
+  view-read row row-is start end start-is end-is v is =
+      is ∙ ap (λ (a : ℕ). field-in a (part set a (end - a))) start-is
+      ∙ ap (λ (a : ℕ). field-in (row .start) (part set (row .start) (a - row .start))) end-is
+      ∙ ap (λ (x : Row). field-in (x .start) (row-bytes set x)) row-is
+
+  pub column-read : (column : Column) (v : FieldView) → v ≡ view-at set fields i → (r : ℕ) → r ≡ byte-of (or-else 1 (number-of (viewed column v))) → r ≡ column-at set fields column i
+  unfolding column-at view-at
+  column-read column v view-is r is =
+      is ∙ ap byte-of
       (viewed-is set column v
       ∙ ap (λ (w : FieldView). column-of column (field-of set w)) view-is
-      ∙ ap (column-of column) (field-view-is set start (end - start))
-      ∙ ap (λ (a : ℕ). column-of column (decode-field (part set a (end - a)))) start-is
-      ∙ ap (λ (a : ℕ). column-of column (decode-field (part set (row .start) (a - row .start)))) end-is
-      ∙ ap (λ (x : Row). column-of column (decode-field (row-bytes set x))) row-is)
+      ∙ ap (column-of column) (field-view-is set (row-at fields i .start) (row-at fields i .end - row-at fields i .start)))

@@ -3,3 +3,4 @@ pub mod ColumnLaws
 pub mod SetColumns
 pub mod EntryLaws
 pub mod NameLaws
+pub mod FilledLaws

@@ -8,6 +8,7 @@ use Rattle.base.specs.Choose.{choose}
 use Rattle.base.specs.Lists.{all-of, first-failing}
 use Rattle.descriptor.specs.Descriptor.{FieldDescriptor, MessageDescriptor}
 use Rattle.descriptor.specs.Decode.{decode-field}
+use Rattle.descriptor.specs.Views.{field-in}
 use Rattle.descriptor.specs.declared.FieldView.{FieldView}
 use Rattle.descriptor.specs.declared.Number.{Number}
 use Rattle.index.specs.Tree.{row-at, row-bytes}
@@ -34,6 +35,10 @@ column-of Label f = label f
 abbrev pub viewed : Column → FieldView → Number
 viewed Kind v = v .kind
 viewed Label v = v .label
+
+-- the view of field i
+unfoldable pub view-at : List ℕ → List ℕ → ℕ → FieldView
+view-at set fields i = field-in (row-at fields i .start) (row-bytes set (row-at fields i))
 
 -- in one byte: 0, which is no type and no label, for a number over 255
 unfoldable pub byte-of : ℕ → ℕ

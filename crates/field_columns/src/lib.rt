@@ -4,10 +4,10 @@ ghost use mathlib.Core.Path.{_≡_};
 ghost use Prim.Native.Nat.{_<_, _≤_};
 ghost use lib.ListN.{length};
 ghost use Rattle.base.specs.Lists.{first-failing};
-ghost use Rattle.message_graph.specs.Tab.{tab};
+ghost use Rattle.message_graph.specs.Tab.{tab, Filled};
 ghost use Rattle.descriptor.specs.Views.{number-of};
 ghost use Rattle.name_rules.specs.Accessors.{or-else};
-ghost use Rattle.field_columns.specs.Columns.{owner-of, owner-at, viewed, byte-of, column-at, rows-counted, first-rows, before, start-at};
+ghost use Rattle.field_columns.specs.Columns.{owner-of, owner-at, viewed, view-at, byte-of, column-at, rows-counted, first-rows, before, start-at};
 use descriptor::FieldView;
 use descriptor::Number;
 use message_graph::Index;
@@ -73,25 +73,50 @@ fn byte_of(n: Number) -> u8
     1
 }
 
-fn column_at(set: &[u8], fields: &[u16], column: Column, i: usize) -> u8
-    ensures { λ r. ⌜ r ≡ column-at (now (set .entry)) (now (fields .entry)) column i ⌝ }
+// The view of field `i`.
+fn view_at(set: &[u8], fields: &[u16], i: usize) -> FieldView
+    ensures { λ r. ⌜ r ≡ view-at (now (set .entry)) (now (fields .entry)) i ⌝ }
 {
     let row = index::row_of(fields, i);
     let start = wide(row.start);
     let end = wide(row.end);
-    let view = descriptor::field_view(set, start, end);
+    descriptor::field_view(set, start, end)
+}
+
+fn column_at(set: &[u8], fields: &[u16], column: Column, i: usize) -> u8
+    ensures { λ r. ⌜ r ≡ column-at (now (set .entry)) (now (fields .entry)) column i ⌝ }
+{
+    let view = view_at(set, fields, i);
     byte_of(number_of(view, column))
 }
 
-// For each place of `t`, the type or the label of the field there.
-pub fn fill_column(set: &[u8], fields: &[u16], column: Column, t: &mut [u8])
+// For each place of `t` from `from` on, the type or the label of the field there.
+fn fill_column(set: &[u8], fields: &[u16], column: Column, t: &mut [u8], from: usize)
+    requires { ⌜ Filled (column-at (now set) (now fields) column) (now t) (now t) from ⌝ }
     ensures { λ _. ⌜ now (t .exit) ≡ tab (length (now (t .entry))) (column-at (now (set .entry)) (now (fields .entry)) column) ⌝ }
 {
-    let mut i = 0;
+    let mut i = from;
     while i < t.len() {
         t[i] = column_at(set, fields, column, i);
         i += 1;
     }
+}
+
+// For each place of both, the type and the label of the field there, by one view where both have the place.
+pub fn fill_columns(set: &[u8], fields: &[u16], kind: &mut [u8], label: &mut [u8])
+    ensures { λ _. ⌜ now (kind .exit) ≡ tab (length (now (kind .entry))) (column-at (now (set .entry)) (now (fields .entry)) Column.Kind) ⌝ }
+    ensures { λ _. ⌜ now (label .exit) ≡ tab (length (now (label .entry))) (column-at (now (set .entry)) (now (fields .entry)) Column.Label) ⌝ }
+{
+    let both = writer::within(kind.len(), label.len());
+    let mut i = 0;
+    while i < both {
+        let view = view_at(set, fields, i);
+        kind[i] = byte_of(view.kind);
+        label[i] = byte_of(view.label);
+        i += 1;
+    }
+    fill_column(set, fields, Column::Kind, kind, i);
+    fill_column(set, fields, Column::Label, label, i);
 }
 
 fn rows_counted(count: usize) -> usize

@@ -16,7 +16,6 @@ use Rattle.path.specs.PathMap.{first-with, find-best}
 use Rattle.context.specs.Context.{has}
 use Rattle.walks.specs.Walked.{walked}
 use Rattle.boxed_settings.specs.Flags.{flag, field-flag, field-flags, stay, messages-flags, file-flags, set-flags}
-use Rattle.message_graph.specs.Tab.{tab}
 use Rattle.set_tables.specs.Filled.{most-fields, zeros, setting-bytes}
 
 pub zeros-length : (n : ℕ) → length (zeros n) ≡ n
@@ -29,15 +28,10 @@ drop-zeros zero n = rw sub-zero
 drop-zeros (suc k) zero = rw zero-sub
 drop-zeros (suc k) (suc n) = rw suc-sub-suc (drop-zeros k n)
 
-zeros-more : (n : ℕ) → zeros n ++ (0 ∷ []) ≡ 0 ∷ zeros n
+-- an array made of zeros is such a table
+pub fresh-zeros : (n : ℕ) → replicate n 0 ≡ zeros (length {A = ℕ} (replicate n 0))
 unfolding zeros
-zeros-more zero = refl
-zeros-more (suc n) = ap (λ (l : List ℕ). 0 ∷ l) (zeros-more n)
-
-pub tab-zeros : (n : ℕ) → tab n (λ (i : ℕ). 0) ≡ zeros n
-unfolding tab zeros
-tab-zeros zero = refl
-tab-zeros (suc n) = ap (λ (l : List ℕ). l ++ (0 ∷ [])) (tab-zeros n) ∙ zeros-more n
+fresh-zeros n = ap (λ (m : ℕ). replicate m 0) (sym (length-replicate {A = ℕ} n 0))
 
 -- ---- a text of zeros
 

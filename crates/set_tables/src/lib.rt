@@ -4,7 +4,6 @@ ghost use lib.ListN.{length, replicate};
 ghost use Rattle.message_graph.specs.Tab.{tab};
 ghost use Rattle.context_tables.specs.Cells.{is-set-at, message-table, field-table};
 ghost use Rattle.set_tables.specs.Filled.{zeros, target-in, setting-bytes, columns-at, settings-to, entries-by, Long, message-numbers, field-numbers};
-use field_columns::Column;
 use message_graph::Index;
 use message_graph::MESSAGES;
 
@@ -48,16 +47,6 @@ fn fill_settings(set: &[u8], o: &[u8], settings: &mut [bool])
     context_tables::fill_settings(&bytes, settings);
 }
 
-fn clear(t: &mut [u16])
-    ensures { λ _. ⌜ now (t .exit) ≡ zeros (length (now (t .entry))) ⌝ }
-{
-    let mut i = 0;
-    while i < t.len() {
-        t[i] = 0;
-        i += 1;
-    }
-}
-
 // Both tables, of a set whose `n` fields have their places in `fields`; the columns are as long as there are fields that they go by.
 fn fill_rows(
     messages: &mut [u16],
@@ -82,8 +71,7 @@ fn fill_rows(
     context_tables::fill_entries(set, rows, &mut entries);
     field_columns::fill_owners(fields, owner);
     fill_targets(set, fields, target);
-    field_columns::fill_column(set, fields, Column::Kind, kind);
-    field_columns::fill_column(set, fields, Column::Label, label);
+    field_columns::fill_columns(set, fields, kind, label);
     fill_settings(set, o, settings);
     context_tables::fill_rows(
         messages,
@@ -102,8 +90,9 @@ fn fill_rows(
     );
 }
 
-// Both tables of a set, with the options `o`.
+// Both tables of a set, with the options `o`. The fields' table holds zeros so far, which stay behind its rows.
 pub fn fill_tables(set: &[u8], o: &[u8], messages: &mut [u16], t: &mut [u16])
+    requires { ⌜ now t ≡ zeros (length (now t)) ⌝ }
     ensures { λ _. ⌜ now (messages .exit) ≡ message-numbers (length (now (messages .entry))) (now (set .entry)) (now (o .entry)) ⌝ }
     ensures { λ _. ⌜ now (t .exit) ≡ field-numbers (length (now (t .entry))) (now (set .entry)) (now (o .entry)) ⌝ }
 {
@@ -120,7 +109,6 @@ pub fn fill_tables(set: &[u8], o: &[u8], messages: &mut [u16], t: &mut [u16])
     let k = writer::within(n, FIELDS);
     let cells = k * 8;
     let used = writer::within(cells, t.len());
-    clear(t);
     fill_rows(
         messages,
         &mut t[0..used],

@@ -57,7 +57,7 @@ module _ (set rows : List ℕ) (count : ℕ) (table : MessageTable set rows coun
   limits : Within set
   limits = within-limits set passed
 
-  -- the columns as `fill_owners`, `fill_column` and `fill_settings` fill them, each with n places
+  -- the columns as `fill_owners`, `fill_columns` and `fill_settings` fill them, each with n places
   abbrev pub over-fields : Fields
   over-fields = columns (tab n (owner-at fields-table)) target (tab n (column-at set fields-table Kind)) (tab n (column-at set fields-table Label))
 

@@ -1,18 +1,18 @@
 -- A text in a buffer, whole or not at all: refusal 10. Assumes nothing.
 use mathlib.Core.Path.{_≡_, refl, sym, ap, _∙_}
 use mathlib.Core.Bool.{false, _&&_}
-use mathlib.Core.List.{List, _++_, append-nil}
+use mathlib.Core.List.{List, _++_}
 use Prim.Native.Nat.{ℕ, _-_, _^_, _≤_, _<_, min}
 use native.Mathlib.Decide.{decLe}
 use native.Mathlib.Omega.{arith}
 use lib.Dec.{eqb, leb}
-use lib.ListN.{length, drop, drop-of-length-le}
-use lib.Seq.{length-take-le}
+use lib.ListN.{length, take, drop}
+use lib.Seq.{take-all}
 use borrow.Author.Tests.{le-leb, lt-leb}
-use borrow.Rule.Slice.PartMut.{midOf, putMid}
 use Rattle.base.specs.Choose.{choose}
-use Rattle.writer.specs.Wrote.{Wrote}
+use Rattle.writer.specs.Wrote.{Wrote, named, kept}
 use Rattle.writer.specs.Answer.{needs-room, rendered}
+use Rattle.joined.specs.Joined.{used, sliced}
 use Rattle.calls.specs.TextCall.{Outcome, given, refused, max-text, by-room}
 use Rattle.text_call.specs.Answer.{outcome-of, left-by, Answers, Whole}
 use Rattle.text_call.specs.declared.TextAnswer.{TextAnswer}
@@ -39,39 +39,36 @@ module _ (t p : List ℕ) (short : length p < 2 ^ 63) where
   unfolding by-room
   by-least = rw (fits-both (length p) (length t) max-text)
 
-  module _ {s s' t' : List ℕ} {n : ℕ} (w : Wrote s 0 p s' n) (same : t' ≡ t) (room : ℕ) (least : room ≡ min (length t') max-text) where
+  -- the text was made in a buffer s of its own, of which n bytes are used
+  module _ {s s' : List ℕ} {n : ℕ} (w : Wrote s 0 p s' n) (room : ℕ) (least : room ≡ min (length t) max-text) where
     size : n ≡ length p
     size = measures w
 
-    as-long : length t' ≡ length t
-    as-long = ap length same
-
-    pub no-room : room < n → Whole p t t' (Room n)
+    pub no-room : room < n → Whole p t t (Room n)
     unfolding choose
     no-room h =
         let e = size in
-        let l = as-long in
-        refuses (Room n) _ p t t' (sym (by-least ∙ rw (lt-leb (length p) (min (length t) max-text) (omega arith)) (ap (refused 10) (sym e)))) same refl
+        refuses (Room n) _ p t t (sym (by-least ∙ rw (lt-leb (length p) (min (length t) max-text) (omega arith)) (ap (refused 10) (sym e)))) refl refl
 
-    module _ (fits : n ≤ room) {u : List ℕ} {m : ℕ} (v : Wrote (midOf 0 (n - 0) t') 0 p u m) where
-      part-long : length (midOf 0 (n - 0) t') ≡ length p
-      part-long = let e = size in length-take-le (n - 0) t' (omega arith) ∙ omega arith
-
-      part-is : u ≡ p
+    module _ (apart : length s ≡ max-text) (fits : n ≤ room) {t' : List ℕ} {m : ℕ} (v : Wrote t 0 (take (n - 0) (drop 0 s')) t' m) where
+      part-is : take (n - 0) (drop 0 s') ≡ p
       part-is =
-          (rw (le-leb (length p) (length (midOf 0 (n - 0) t')) (let e = part-long in omega arith)) at (rendered refl w (let e = size in let l = part-long in omega arith) v .text))
-          ∙ rw (drop-of-length-le (midOf 0 (n - 0) t') {i = length p} (let e = part-long in omega arith)) (append-nil p)
+          let e = size in
+          let k = kept w in
+          sliced s' _ n (used {n = n} w (omega arith) .1) ∙ take-all (length s) p (omega arith)
 
-      text-is : putMid 0 (n - 0) t' u ≡ p ++ drop (length p) t
+      copied : Wrote t 0 p t' m
+      copied = named part-is v
+
+      text-is : t' ≡ p ++ drop (length p) t
       text-is =
-          ap (λ (l : List ℕ). l ++ drop (n - 0) t') part-is
-          ∙ ap (λ (k : ℕ). p ++ drop k t') (let e = size in let z : n - 0 ≡ length p = omega arith in z)
-          ∙ ap (λ (l : List ℕ). p ++ drop (length p) l) same
+          let e = size in
+          rw (le-leb (length p) (length t) (omega arith)) at (rendered refl w (omega arith) copied .text)
 
       given-is : by-room (length t) (length p) ≡ given (length p)
       unfolding choose
-      given-is = by-least ∙ rw (le-leb (length p) (min (length t) max-text) (let e = size in let l = as-long in omega arith))
+      given-is = by-least ∙ rw (le-leb (length p) (min (length t) max-text) (let e = size in omega arith))
 
-      pub written : Whole p t (putMid 0 (n - 0) t' u) (Length m)
+      pub written : Whole p t t' (Length m)
       unfolding left-by choose
-      written = record { outcome = ap given (measures v) ∙ sym given-is; left = rw given-is text-is }
+      written = record { outcome = ap given (measures copied) ∙ sym given-is; left = rw given-is text-is }

@@ -40,7 +40,7 @@ fn narrow(n: usize) -> u32
     n as u32
 }
 
-// The text of the file whose part p is, measured first: it is written whole, or not at all.
+// The text of the file whose part p is, made apart: it is copied whole, or not at all.
 fn put_whole(
     t: &mut [u8],
     o: &[u8],
@@ -53,12 +53,13 @@ fn put_whole(
     requires { ⌜ length (text-of-file (settings (now o)) (now set) (now messages) (now fields) i (now p)) < 2 ^ 63 ⌝ }
     ensures { λ r. ⌜ Whole (text-of-file (settings (now (o .entry))) (now (set .entry)) (now (messages .entry)) (now (fields .entry)) i (now (p .entry))) (now (t .entry)) (now (t .exit)) r ⌝ }
 {
-    let n = message_text::append_file(&mut t[0..0], o, set, messages, fields, i, p);
+    let mut text = [0u8; MAX_TEXT];
+    let n = message_text::append_file(&mut text, o, set, messages, fields, i, p);
     let room = writer::within(t.len(), MAX_TEXT);
     if room < n {
         return TextAnswer::Room(n);
     }
-    let written = message_text::append_file(&mut t[0..n], o, set, messages, fields, i, p);
+    let written = writer::put(t, 0, &text[0..n]);
     TextAnswer::Length(written)
 }
 

@@ -3,19 +3,19 @@ use mathlib.Core.Path.{refl}
 use native.Mathlib.Omega.{arith}
 use Prim.Native.Nat.{_-_}
 use lib.ListN.{length}
-use Rattle.message_graph.specs.Tab.{Filled, filled-none, filled-more, filled-all}
+use Rattle.message_graph.specs.Tab.{Filled, filled-more, filled-all}
 use Rattle.field_columns.specs.Columns.{column-at}
 use Rattle.field_columns.proofs.fill_column.Statement.{statement}
 use Rattle.field_columns.proofs.fill_column.Tie as tie
 
 abbrev Inv-loop : tie.InvT-loop
-Inv-loop set fields column t₀ i₀ t i = Filled (column-at set fields column) t₀ t i
+Inv-loop set fields column t₀ from i₀ t i = Filled (column-at set fields column) t₀ t i
 
 abbrev μ-loop : tie.MeasureT-loop
-μ-loop set fields column t₀ i₀ t i = length t₀ - i
+μ-loop set fields column t₀ from i₀ t i = length t₀ - i
 
 loop-holds : tie.Need-loop-holds Inv-loop μ-loop
-loop-holds c = filled-none
+loop-holds c = c .before .before .before .pre
 
 column-at-requires : tie.Need-column-at-requires Inv-loop μ-loop
 column-at-requires c κs = search needs

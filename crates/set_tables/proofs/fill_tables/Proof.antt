@@ -31,9 +31,6 @@ mul-cells c = search needs
 within-requires-2 : tie.Need-within-requires-2
 within-requires-2 c κs = search needs
 
-clear-requires : tie.Need-clear-requires
-clear-requires c κs = search needs
-
 sub-fill-rows : tie.Need-sub-fill-rows
 sub-fill-rows c = search needs
 
@@ -104,13 +101,13 @@ part-boxed-end : tie.Need-part-boxed-end
 part-boxed-end c = search needs
 
 fill-rows-requires : tie.Need-fill-rows-requires
-fill-rows-requires c κs = parts-long _ _ (c .before .before .before .before .before .before .before .before .before .before .before .before .before .before .before .within .ensures) _ _ _ _ _ _ (length-replicate {A = ℕ} 2048 0) (record { targets = length-replicate {A = ℕ} 2048 0; kinds = length-replicate {A = ℕ} 2048 0; labels = length-replicate {A = ℕ} 2048 0; flags = length-replicate {A = Bool} 2048 false; boxes = length-replicate {A = Bool} 2048 false })
+fill-rows-requires c κs = parts-long _ _ (c .before .before .before .before .before .before .before .before .before .before .before .within .ensures) _ _ _ _ _ _ (length-replicate {A = ℕ} 2048 0) (record { targets = length-replicate {A = ℕ} 2048 0; kinds = length-replicate {A = ℕ} 2048 0; labels = length-replicate {A = ℕ} 2048 0; flags = length-replicate {A = Bool} 2048 false; boxes = length-replicate {A = Bool} 2048 false })
 
 same-length : tie.Need-same-length
 same-length c = search needs
 
 returns : tie.Need-returns
-returns c = (message-numbers-are _ _ _ _ _ _ (c .before .before .before .before .before .before .before .before .before .before .before .before .before .before .before .before .before .before .before .before .before .before .before .before .before .before .before .before .before .before .before .before .index-files .ensures) (c .before .before .before .before .before .before .before .before .before .before .before .before .before .before .before .before .before .before .before .before .before .before .before .before .before .before .before .before .index-members .ensures) _ _ (length-replicate {A = ℕ} 2048 0) (c .before .before .before .before .before .before .before .before .before .before .before .before .before .before .before .before .before .before .before .before .before .before .before .before .before .before .within .ensures) _ _ (c .before .before .before .before .before .before .before .before .before .before .fill-rows .ensures .0), field-numbers-are _ _ _ _ _ _ (c .before .before .before .before .before .before .before .before .before .before .before .before .before .before .before .before .before .before .before .before .before .before .before .before .before .before .before .before .before .before .before .before .index-files .ensures) (c .before .before .before .before .before .before .before .before .before .before .before .before .before .before .before .before .before .before .before .before .before .before .before .before .before .before .before .before .index-members .ensures) _ _ (length-replicate {A = ℕ} 2048 0) (c .before .before .before .before .before .before .before .before .before .before .before .before .before .before .before .before .before .before .before .before .before .before .before .before .before .before .within .ensures) _ _ _ refl (c .before .before .before .before .before .before .before .before .before .before .before .before .before .before .before .before .before .before .before .before .before .before .before .before .before .within2 .ensures) _ (c .before .before .before .before .before .before .before .before .before .before .before .before .before .before .before .before .before .before .before .before .before .before .before .clear .ensures) _ (c .before .before .before .before .before .before .before .before .before .before .fill-rows .ensures .1))
+returns c = (message-numbers-are _ _ _ _ _ _ (c .before .before .before .before .before .before .before .before .before .before .before .before .before .before .before .before .before .before .before .before .before .before .before .before .before .before .before .before .index-files .ensures) (c .before .before .before .before .before .before .before .before .before .before .before .before .before .before .before .before .before .before .before .before .before .before .before .before .index-members .ensures) _ _ (length-replicate {A = ℕ} 2048 0) (c .before .before .before .before .before .before .before .before .before .before .before .before .before .before .before .before .before .before .before .before .before .before .within .ensures) _ _ (c .before .before .before .before .before .before .before .before .before .before .fill-rows .ensures .0), field-numbers-are _ _ _ _ _ _ (c .before .before .before .before .before .before .before .before .before .before .before .before .before .before .before .before .before .before .before .before .before .before .before .before .before .before .before .before .index-files .ensures) (c .before .before .before .before .before .before .before .before .before .before .before .before .before .before .before .before .before .before .before .before .before .before .before .before .index-members .ensures) _ _ (length-replicate {A = ℕ} 2048 0) (c .before .before .before .before .before .before .before .before .before .before .before .before .before .before .before .before .before .before .before .before .before .before .within .ensures) _ _ _ refl (c .before .before .before .before .before .before .before .before .before .before .before .before .before .before .before .before .before .before .before .before .before .within2 .ensures) _ (c .before .before .before .before .before .before .before .before .before .before .before .before .before .before .before .before .before .before .before .before .before .before .before .before .before .before .before .before .before .before .before .before .before .before .pre) _ (c .before .before .before .before .before .before .before .before .before .before .fill-rows .ensures .1))
 
 same-length-2 : tie.Need-same-length-2
 same-length-2 c = ap length (returns c .1) ∙ field-numbers-length _ _ _
@@ -127,7 +124,6 @@ fill-tables-spec =
     within-requires
     mul-cells
     within-requires-2
-    clear-requires
     sub-fill-rows
     part-fill-rows-start
     part-fill-rows-end

@@ -1,3 +1,4 @@
+use Rattle.set_tables.proofs.ZeroLaws.{fresh-zeros}
 use Rattle.text_call.proofs.FileLaws.{number-fits, text-short, overlaps, default-fails, fault-free}
 use mathlib.Core.Path.{_∙_}
 use lib.ListN.{length-replicate}
@@ -13,7 +14,7 @@ slice-aggregate-fill-tables-2 : tie.Need-slice-aggregate-fill-tables-2
 slice-aggregate-fill-tables-2 c = search needs
 
 fill-tables-requires : tie.Need-fill-tables-requires
-fill-tables-requires c κs = search needs
+fill-tables-requires c κs = fresh-zeros 16384
 
 slice-aggregate-first-number : tie.Need-slice-aggregate-first-number
 slice-aggregate-first-number c = search needs
