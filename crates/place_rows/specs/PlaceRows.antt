@@ -6,7 +6,6 @@ use lib.Dec.{eqb}
 use lib.ListN.{length, take}
 use Rattle.base.specs.Lists.{is-empty}
 use Rattle.writer.specs.Text.{pick}
-use Rattle.writer.specs.Wrote.{Wrote}
 use Rattle.ident.specs.Ident.{to-snake, to-upper-camel}
 use Rattle.descriptor.specs.Descriptor.{Bytes}
 use Rattle.descriptor.specs.Decode.{entries, parts, decode-file}
@@ -31,22 +30,6 @@ same-count x q = x
 
 unfoldable pub enum-rows : List Setting → Bytes → List Bytes → Bytes
 enum-rows rs home qs = walked (enum-row rs home) same-count 0 qs
-
--- ---- the types that a oneof's enum may not be called like: their camel names, in no home
-unfoldable pub name-row : ℕ → Bytes → Bytes
-name-row x q = row [] (to-upper-camel (name-in q))
-
-unfoldable pub name-rows : List Bytes → Bytes
-name-rows qs = walked name-row same-count 0 qs
-
--- of the nested messages, where they are read, and of the enums
-unfoldable pub type-rows : Bool → Bytes → Bytes
-type-rows deeper p = pick deeper (name-rows (parts 3 (entries p))) [] ++ name-rows (parts 4 (entries p))
-
--- t has these rows, as far as it goes; `end` is the place behind them
-pub record Listed (deeper : Bool) (p : Bytes) (t : List ℕ) (end : ℕ) : Type 0 where
-  pub before : List ℕ
-  pub wrote : Wrote before 0 (type-rows deeper p) t end
 
 -- ---- by the tables; t: the table of fields
 module _ (messages t : List ℕ) where

@@ -9,17 +9,14 @@ ghost use Rattle.writer.specs.Wrote.{Wrote};
 ghost use Rattle.writer.specs.Text.{pick};
 ghost use Rattle.descriptor.specs.Decode.{entries, parts};
 ghost use Rattle.options.specs.Settings.{settings};
-ghost use Rattle.members.specs.Members.{name-in, numbers-with, conflict};
+ghost use Rattle.checksums.specs.SumLaws.{Stored};
+ghost use Rattle.members.specs.Members.{name-in, numbers-with, conflict, camel-sums};
 ghost use Rattle.code_generator.specs.Piece.{spelt, oneof-type};
 ghost use Rattle.name_rows.specs.Rows.{row};
-ghost use Rattle.place_rows.specs.PlaceRows.{enum-row, enum-rows, name-rows, type-rows, Listed, oneof-rows, module-rows, message-rows, messages-rows, file-rows, set-rows};
+ghost use Rattle.place_rows.specs.PlaceRows.{enum-row, enum-rows, oneof-rows, module-rows, message-rows, messages-rows, file-rows, set-rows};
 use joined::MAX_PATH;
+use members::NAMES;
 use wire::Step;
-
-const ROW: usize = 384;
-
-// Room for the rows of 256 messages and 256 enums.
-const TYPES: usize = 196608;
 
 // The enum whose part q is, unless an extern path takes it.
 fn put_enum(t: &mut [u8], at: usize, o: &[u8], home: &[u8], q: &[u8]) -> usize
@@ -55,63 +52,14 @@ fn put_enums(t: &mut [u8], at: usize, o: &[u8], home: &[u8], s: &[u8], number: u
     }
 }
 
-// The camel names of the declarations with this field number.
-fn put_names(t: &mut [u8], at: usize, s: &[u8], number: u64) -> usize
-    ensures { λ r. ⌜ Wrote (now (t .entry)) at (name-rows (parts number (entries (now (s .entry))))) (now (t .exit)) r ⌝ }
-{
-    let mut a = at;
-    let mut place: usize = 0;
-    loop {
-        match wire::read_step(s, place) {
-            Step::End => return a,
-            Step::Fault(_) => return a,
-            Step::Found(f) => {
-                place = f.next;
-                if f.number == number {
-                    let name = joined::name_of(parts::embedded(s, f));
-                    a = name_rows::put_camel_row(t, a, &s[0..0], name);
-                }
-            }
-        }
-    }
-}
-
-// The types that a oneof's enum may not be called like. deeper: are nested messages read?
-fn put_types(t: &mut [u8], p: &[u8], deeper: bool) -> usize
-    ensures { λ r. ⌜ Wrote (now (t .entry)) 0 (type-rows deeper (now (p .entry))) (now (t .exit)) r ⌝ }
-{
-    if deeper {
-        let a = put_names(t, 0, p, 3);
-        return put_names(t, a, p, 4);
-    }
-    put_names(t, 0, p, 4)
-}
-
-// has_type_name_conflict: by the rows of the types, if all are there and the name is whole in its row.
-fn conflict(types: &[u8], end: usize, p: &[u8], deeper: bool, name: &[u8]) -> bool
-    requires { ⌜ Listed deeper (now p) (now types) end ⌝ }
-    ensures { λ r. ⌜ r ≡ conflict deeper (now (p .entry)) (now (name .entry)) ⌝ }
-{
-    if types.len() < end {
-        return members::conflict(p, deeper, name);
-    }
-    if name.len() > 360 {
-        return members::conflict(p, deeper, name);
-    }
-    let mut row = [0u8; ROW];
-    name_rows::put_camel_row(&mut row, 0, &name[0..0], name);
-    let n = end / ROW;
-    name_rows::row_among(types, n, &row)
-}
-
 // The enum of the oneof whose part q is, of the message whose part p is: one left without fields is left out.
 fn put_oneof(
     t: &mut [u8],
     at: usize,
     fields: &[u16],
     full: &[u8],
-    types: &[u8],
-    end: usize,
+    sums: &[u64],
+    n: usize,
     deeper: bool,
     p: &[u8],
     q: &[u8],
@@ -119,7 +67,7 @@ fn put_oneof(
     first: usize,
     last: usize,
 ) -> usize
-    requires { ⌜ Listed deeper (now p) (now types) end ⌝ }
+    requires { ⌜ Stored (now sums) n (camel-sums deeper (now p)) ⌝ }
     ensures { λ r. ⌜ Wrote (now (t .entry)) at (pick (is-empty (numbers-with (now (fields .entry)) c (last - first) first)) [] (row (now (full .entry)) (spelt (oneof-type (conflict deeper (now (p .entry)) (name-in (now (q .entry)))) (name-in (now (q .entry))))))) (now (t .exit)) r ⌝ }
 {
     let there = members::has_members(fields, c, first, last);
@@ -127,7 +75,7 @@ fn put_oneof(
         return at;
     }
     let name = joined::name_of(q);
-    let meets = conflict(types, end, p, deeper, name);
+    let meets = members::conflict_by(sums, n, p, deeper, name);
     name_rows::put_oneof_row(t, at, full, name, meets)
 }
 
@@ -138,13 +86,13 @@ fn oneofs_by(
     messages: &[u16],
     fields: &[u16],
     full: &[u8],
-    types: &[u8],
-    end: usize,
+    sums: &[u64],
+    n: usize,
     deeper: bool,
     i: usize,
     p: &[u8],
 ) -> usize
-    requires { ⌜ Listed deeper (now p) (now types) end ⌝ }
+    requires { ⌜ Stored (now sums) n (camel-sums deeper (now p)) ⌝ }
     ensures { λ r. ⌜ Wrote (now (t .entry)) at (oneof-rows (now (messages .entry)) (now (fields .entry)) (now (full .entry)) deeper i (now (p .entry))) (now (t .exit)) r ⌝ }
 {
     let range = members::fields_of(messages, i, p);
@@ -162,14 +110,14 @@ fn oneofs_by(
                 if f.number == 8 {
                     x = x + 1;
                     let q = parts::embedded(p, f);
-                    a = put_oneof(t, a, fields, full, types, end, deeper, p, q, x, first, last);
+                    a = put_oneof(t, a, fields, full, sums, n, deeper, p, q, x, first, last);
                 }
             }
         }
     }
 }
 
-// The same, where the types aren't listed yet.
+// The same, where the checksums of the types that a oneof's enum may not be called like aren't there yet.
 fn put_oneofs(
     t: &mut [u8],
     at: usize,
@@ -182,9 +130,9 @@ fn put_oneofs(
 ) -> usize
     ensures { λ r. ⌜ Wrote (now (t .entry)) at (oneof-rows (now (messages .entry)) (now (fields .entry)) (now (full .entry)) deeper i (now (p .entry))) (now (t .exit)) r ⌝ }
 {
-    let mut types = [0u8; TYPES];
-    let end = put_types(&mut types, p, deeper);
-    oneofs_by(t, at, messages, fields, full, &types, end, deeper, i, p)
+    let mut sums = [0u64; NAMES];
+    let n = members::camel_sums(&mut sums, deeper, p);
+    oneofs_by(t, at, messages, fields, full, &sums, n, deeper, i, p)
 }
 
 // The module of message i, whose part p is, with so many levels of messages in it.

@@ -12,10 +12,10 @@ use Rattle.place_rows.proofs.oneofs_by.Statement.{statement}
 use Rattle.place_rows.proofs.oneofs_by.Tie as tie
 
 abbrev Inv-loop : tie.InvT-loop
-Inv-loop t₀ at messages fields full types end deeper i p first last a₀ place₀ x₀ t a place x = Going (oneof-row messages fields full deeper i p) (next-index messages fields) 0 8 p t₀ at t place a x × (x ≤ place) × (place ≤ length p)
+Inv-loop t₀ at messages fields full sums n deeper i p first last a₀ place₀ x₀ t a place x = Going (oneof-row messages fields full deeper i p) (next-index messages fields) 0 8 p t₀ at t place a x × (x ≤ place) × (place ≤ length p)
 
 abbrev μ-loop : tie.MeasureT-loop
-μ-loop t₀ at messages fields full types end deeper i p first last a₀ place₀ x₀ t a place x = length p - place
+μ-loop t₀ at messages fields full sums n deeper i p first last a₀ place₀ x₀ t a place x = length p - place
 
 fields-of-requires : tie.Need-fields-of-requires Inv-loop μ-loop
 fields-of-requires c κs = search needs

@@ -15,8 +15,8 @@ returns c = named (left-out (numbers-with (c .before .before .before .before .be
 name-of-requires : tie.Need-name-of-requires
 name-of-requires c κs = search needs
 
-conflict-requires : tie.Need-conflict-requires
-conflict-requires c κs = search needs
+conflict-by-requires : tie.Need-conflict-by-requires
+conflict-by-requires c κs = search needs
 
 put-oneof-row-requires : tie.Need-put-oneof-row-requires
 put-oneof-row-requires c κs = search needs
@@ -25,7 +25,7 @@ same-length : tie.Need-same-length
 same-length c = search needs
 
 returns-2 : tie.Need-returns-2
-returns-2 c = named (not-left-out (numbers-with (c .before .before .before .before .before .before .before .before .before .before .before .before .before .before .args .fields .now) (c .before .before .before .before .before .before .before .before .before .before .before .before .before .before .args .c) (c .before .before .before .before .before .before .before .before .before .before .before .before .before .before .args .last - c .before .before .before .before .before .before .before .before .before .before .before .before .before .before .args .first) (c .before .before .before .before .before .before .before .before .before .before .before .before .before .before .args .first)) _ (c .before .before .before .before .before .before .before .has-members .ensures) (c .before .before .before .before .before .before .if1 .left)) (rw (← c .before .before .before .before .before .name-of .ensures, ← c .before .before .before .before .conflict .ensures) (c .before .before .put-oneof-row .ensures))
+returns-2 c = named (not-left-out (numbers-with (c .before .before .before .before .before .before .before .before .before .before .before .before .before .before .args .fields .now) (c .before .before .before .before .before .before .before .before .before .before .before .before .before .before .args .c) (c .before .before .before .before .before .before .before .before .before .before .before .before .before .before .args .last - c .before .before .before .before .before .before .before .before .before .before .before .before .before .before .args .first) (c .before .before .before .before .before .before .before .before .before .before .before .before .before .before .args .first)) _ (c .before .before .before .before .before .before .before .has-members .ensures) (c .before .before .before .before .before .before .if1 .left)) (rw (← c .before .before .before .before .before .name-of .ensures, ← c .before .before .before .before .conflict-by .ensures (c .before .before .before .before .before .before .before .before .before .before .before .before .before .before .pre)) (c .before .before .put-oneof-row .ensures))
 
 pub put-oneof-spec : {M : Type 1} → statement M
 put-oneof-spec =
@@ -34,7 +34,7 @@ put-oneof-spec =
     has-members-requires
     returns
     name-of-requires
-    conflict-requires
+    conflict-by-requires
     put-oneof-row-requires
     same-length
     returns-2)
