@@ -28,6 +28,10 @@ lay-length : (vs t : List ℕ) (a : ℕ) → length (lay t a vs) ≡ length t
 lay-length [] t a = refl
 lay-length (v ∷ vs) t a = lay-length vs (set t a v) (a + 1) ∙ length-set t a v
 
+-- a position in a table is one after numbers are laid over it too
+pub still-within : (vs t : List ℕ) (a n : ℕ) → n < length t → n < length (lay t a vs)
+still-within vs t a n h = rw (lay-length vs t a) h
+
 pub put-length : (t : List ℕ) (i : ℕ) (r : Row) → length (put t i r) ≡ length t
 unfolding put
 put-length t i r = lay-length (cells r) t (i * 7)

@@ -18,6 +18,8 @@ use Rattle.descriptor.specs.Latest.{note, latest, latest-of, no-records,
 use Rattle.descriptor.specs.Views.{given-at, text-at, number-at, flag-at, field-in}
 use Rattle.descriptor.specs.Passes.{text-in, number-in, flag-in, on, fold, flag-step, inside, no-text, no-number, texts-step, no-texts, value-step, no-value, field-step, no-field}
 use Rattle.descriptor.specs.declared.Latest.{Latest}
+use Rattle.descriptor.specs.declared.Text.{Text}
+use Rattle.descriptor.specs.declared.Number.{Number}
 use Rattle.descriptor.specs.declared.Texts.{Texts}
 use Rattle.descriptor.specs.declared.ValueView.{ValueView}
 use Rattle.descriptor.specs.declared.FieldView.{FieldView}
@@ -171,6 +173,53 @@ pub field-skips : (base : ℕ) (s : List ℕ) (f : Record) (v : FieldView) → (
 unfolding field-step choose
 field-skips base s f v a b c d e g h i j =
     rw (ne-eqb (f .number) 1 a, ne-eqb (f .number) 3 b, ne-eqb (f .number) 4 c, ne-eqb (f .number) 5 d, ne-eqb (f .number) 6 e, ne-eqb (f .number) 7 g, ne-eqb (f .number) 8 h, ne-eqb (f .number) 9 i, ne-eqb (f .number) 17 j)
+
+-- a record with a field number that a field has
+module _ (base : ℕ) (s : List ℕ) (f : Record) (v : FieldView) where
+  pub field-name : {x : Text} → f .number ≡ 1 → x ≡ text-in base f
+      → record { name = x; number = v .number; label = v .label; kind = v .kind; typename = v .typename; default = v .default; options = v .options; packed = v .packed; deprecated = v .deprecated; oneof = v .oneof; optional = v .optional } ≡ field-step base s f v
+  unfolding field-step choose
+  field-name is ex = rw (ex, is)
+
+  pub field-number : {x : Number} → f .number ≡ 3 → x ≡ number-in f
+      → record { name = v .name; number = x; label = v .label; kind = v .kind; typename = v .typename; default = v .default; options = v .options; packed = v .packed; deprecated = v .deprecated; oneof = v .oneof; optional = v .optional } ≡ field-step base s f v
+  unfolding field-step choose
+  field-number is ex = rw (ex, is)
+
+  pub field-label : {x : Number} → f .number ≡ 4 → x ≡ number-in f
+      → record { name = v .name; number = v .number; label = x; kind = v .kind; typename = v .typename; default = v .default; options = v .options; packed = v .packed; deprecated = v .deprecated; oneof = v .oneof; optional = v .optional } ≡ field-step base s f v
+  unfolding field-step choose
+  field-label is ex = rw (ex, is)
+
+  pub field-kind : {x : Number} → f .number ≡ 5 → x ≡ number-in f
+      → record { name = v .name; number = v .number; label = v .label; kind = x; typename = v .typename; default = v .default; options = v .options; packed = v .packed; deprecated = v .deprecated; oneof = v .oneof; optional = v .optional } ≡ field-step base s f v
+  unfolding field-step choose
+  field-kind is ex = rw (ex, is)
+
+  pub field-typename : {x : Text} → f .number ≡ 6 → x ≡ text-in base f
+      → record { name = v .name; number = v .number; label = v .label; kind = v .kind; typename = x; default = v .default; options = v .options; packed = v .packed; deprecated = v .deprecated; oneof = v .oneof; optional = v .optional } ≡ field-step base s f v
+  unfolding field-step choose
+  field-typename is ex = rw (ex, is)
+
+  pub field-default : {x : Text} → f .number ≡ 7 → x ≡ text-in base f
+      → record { name = v .name; number = v .number; label = v .label; kind = v .kind; typename = v .typename; default = x; options = v .options; packed = v .packed; deprecated = v .deprecated; oneof = v .oneof; optional = v .optional } ≡ field-step base s f v
+  unfolding field-step choose
+  field-default is ex = rw (ex, is)
+
+  pub field-options : {x : Bool} {y : Bool} → f .number ≡ 8 → x ≡ inside 2 s f (v .packed) → y ≡ inside 3 s f (v .deprecated)
+      → record { name = v .name; number = v .number; label = v .label; kind = v .kind; typename = v .typename; default = v .default; options = true; packed = x; deprecated = y; oneof = v .oneof; optional = v .optional } ≡ field-step base s f v
+  unfolding field-step choose
+  field-options is ex ey = rw (ex, ey, is)
+
+  pub field-oneof : {x : Number} → f .number ≡ 9 → x ≡ number-in f
+      → record { name = v .name; number = v .number; label = v .label; kind = v .kind; typename = v .typename; default = v .default; options = v .options; packed = v .packed; deprecated = v .deprecated; oneof = x; optional = v .optional } ≡ field-step base s f v
+  unfolding field-step choose
+  field-oneof is ex = rw (ex, is)
+
+  pub field-optional : {x : Bool} → f .number ≡ 17 → x ≡ flag-in f
+      → record { name = v .name; number = v .number; label = v .label; kind = v .kind; typename = v .typename; default = v .default; options = v .options; packed = v .packed; deprecated = v .deprecated; oneof = v .oneof; optional = x } ≡ field-step base s f v
+  unfolding field-step choose
+  field-optional is ex = rw (ex, is)
 
 module _ (base : ℕ) (s : List ℕ) (outer n : ℕ) (large : 2 < outer) (f : Record) (v : ValueView) where
   pub value-name : f .number ≡ 1 → record { name = text-in base f; number = v .number; deprecated = v .deprecated } ≡ value-step base s outer n f v

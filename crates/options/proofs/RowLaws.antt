@@ -28,6 +28,10 @@ pub row-lies : (o : List ℕ) (i at : ℕ) → Lies o (row o i at)
 unfolding row
 row-lies o i at = record { path = omega arith; value = omega arith; end = omega arith }
 
+-- the place behind m bytes from p, where both count as the end if they lie past it
+pub place-behind : (at x x' l p m : ℕ) → p ≡ min at l → x' ≡ x → m ≡ min x' (l - p) → p + m ≡ min (at + x) l
+place-behind at x x' l p m pp xx mm = omega arith
+
 pub row-is : (o : List ℕ) (i at k p v e : ℕ) → k ≡ kind-at o i → p ≡ min at (length o) → v ≡ min (at + path-length o i) (length o) → e ≡ min (at + path-length o i + value-length o i) (length o) → record { kind = k; path = p; value = v; end = e } ≡ row o i at
 unfolding row
 row-is o i at k p v e kk pp vv ee = rw (kk, pp, vv, ee)

@@ -26,7 +26,7 @@ cell-requires-7 c κs = search needs
 
 returns : tie.Need-returns
 unfolding row-at
-returns c = let a = c .before .before .before .before .before .before .cell .ensures in cc
+returns c = rw (c .cell7 .ensures, c .before .cell6 .ensures, c .before .before .cell5 .ensures, c .before .before .before .cell4 .ensures, c .before .before .before .before .cell3 .ensures, c .before .before .before .before .before .cell2 .ensures, c .before .before .before .before .before .before .cell .ensures)
 
 pub row-of-spec : {M : Type 1} → statement M
 row-of-spec =

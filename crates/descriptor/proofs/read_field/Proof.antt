@@ -4,7 +4,7 @@ use lib.ListN.{length}
 use Prim.Native.Nat.{_-_}
 use mathlib.Core.Path.{_≡_}
 use Rattle.descriptor.specs.Passes.{fold, field-step}
-use Rattle.descriptor.proofs.PassLaws.{goes-on, field-is, field-skips}
+use Rattle.descriptor.proofs.PassLaws.{goes-on, field-is, field-skips, field-name, field-number, field-label, field-kind, field-typename, field-default, field-options, field-oneof, field-optional}
 use Rattle.wire.proofs.StepLaws.{lies}
 use native.Mathlib.Omega.{arith}
 use Rattle.descriptor.specs.Views.{field-in}
@@ -49,8 +49,12 @@ loop-less : tie.Need-loop-less Inv-loop μ-loop
 loop-less c = search places
 
 loop-again : tie.Need-loop-again Inv-loop μ-loop
-unfolding field-step choose
-loop-again c = goes-on _ _ _ _ _ _ _ _ (c .before .before .before .before .before .read-step .ensures) (c .before .before .before .f .given .1) (rw (c .record-text .ensures, c .before .if1 .taken)) (c .before .before .before .before .before .before .loop .inv)
+loop-again c =
+    let a = c .before .before .before .before .before .before .before .before .before .args in
+    let l = c .before .before .before .before .before .before .loop in
+    let r = c .before .before .before .before .before .read-step in
+    let g = c .before .before .before .f .given in
+    goes-on (field-step (a .base) (a .s .now)) (a .s .now) (l .at) (r .result) (g .0 .0) (l .v) _ _ (r .ensures) (g .1) (field-name (a .base) (a .s .now) (g .0 .0) (l .v) (c .before .if1 .taken) (c .record-text .ensures)) (l .inv)
 
 record-number-requires : tie.Need-record-number-requires Inv-loop μ-loop
 record-number-requires c κs = search needs
@@ -59,8 +63,12 @@ loop-less-2 : tie.Need-loop-less-2 Inv-loop μ-loop
 loop-less-2 c = search places
 
 loop-again-2 : tie.Need-loop-again-2 Inv-loop μ-loop
-unfolding field-step choose
-loop-again-2 c = goes-on _ _ _ _ _ _ _ _ (c .before .before .before .before .before .before .read-step .ensures) (c .before .before .before .before .f .given .1) (rw (c .record-number .ensures, c .before .if2 .taken)) (c .before .before .before .before .before .before .before .loop .inv)
+loop-again-2 c =
+    let a = c .before .before .before .before .before .before .before .before .before .before .args in
+    let l = c .before .before .before .before .before .before .before .loop in
+    let r = c .before .before .before .before .before .before .read-step in
+    let g = c .before .before .before .before .f .given in
+    goes-on (field-step (a .base) (a .s .now)) (a .s .now) (l .at) (r .result) (g .0 .0) (l .v) _ _ (r .ensures) (g .1) (field-number (a .base) (a .s .now) (g .0 .0) (l .v) (c .before .if2 .taken) (c .record-number .ensures)) (l .inv)
 
 record-number-requires-2 : tie.Need-record-number-requires-2 Inv-loop μ-loop
 record-number-requires-2 c κs = search needs
@@ -69,8 +77,12 @@ loop-less-3 : tie.Need-loop-less-3 Inv-loop μ-loop
 loop-less-3 c = search places
 
 loop-again-3 : tie.Need-loop-again-3 Inv-loop μ-loop
-unfolding field-step choose
-loop-again-3 c = goes-on _ _ _ _ _ _ _ _ (c .before .before .before .before .before .before .before .read-step .ensures) (c .before .before .before .before .before .f .given .1) (rw (c .record-number2 .ensures, c .before .if3 .taken)) (c .before .before .before .before .before .before .before .before .loop .inv)
+loop-again-3 c =
+    let a = c .before .before .before .before .before .before .before .before .before .before .before .args in
+    let l = c .before .before .before .before .before .before .before .before .loop in
+    let r = c .before .before .before .before .before .before .before .read-step in
+    let g = c .before .before .before .before .before .f .given in
+    goes-on (field-step (a .base) (a .s .now)) (a .s .now) (l .at) (r .result) (g .0 .0) (l .v) _ _ (r .ensures) (g .1) (field-label (a .base) (a .s .now) (g .0 .0) (l .v) (c .before .if3 .taken) (c .record-number2 .ensures)) (l .inv)
 
 record-number-requires-3 : tie.Need-record-number-requires-3 Inv-loop μ-loop
 record-number-requires-3 c κs = search needs
@@ -79,8 +91,12 @@ loop-less-4 : tie.Need-loop-less-4 Inv-loop μ-loop
 loop-less-4 c = search places
 
 loop-again-4 : tie.Need-loop-again-4 Inv-loop μ-loop
-unfolding field-step choose
-loop-again-4 c = goes-on _ _ _ _ _ _ _ _ (c .before .before .before .before .before .before .before .before .read-step .ensures) (c .before .before .before .before .before .before .f .given .1) (rw (c .record-number3 .ensures, c .before .if4 .taken)) (c .before .before .before .before .before .before .before .before .before .loop .inv)
+loop-again-4 c =
+    let a = c .before .before .before .before .before .before .before .before .before .before .before .before .args in
+    let l = c .before .before .before .before .before .before .before .before .before .loop in
+    let r = c .before .before .before .before .before .before .before .before .read-step in
+    let g = c .before .before .before .before .before .before .f .given in
+    goes-on (field-step (a .base) (a .s .now)) (a .s .now) (l .at) (r .result) (g .0 .0) (l .v) _ _ (r .ensures) (g .1) (field-kind (a .base) (a .s .now) (g .0 .0) (l .v) (c .before .if4 .taken) (c .record-number3 .ensures)) (l .inv)
 
 record-text-requires-2 : tie.Need-record-text-requires-2 Inv-loop μ-loop
 record-text-requires-2 c κs = let l = lies _ _ _ _ (c .before .before .before .before .before .before .before .before .read-step .ensures) (c .before .before .before .before .before .before .f .given .1) in (l .from, omega arith)
@@ -89,8 +105,12 @@ loop-less-5 : tie.Need-loop-less-5 Inv-loop μ-loop
 loop-less-5 c = search places
 
 loop-again-5 : tie.Need-loop-again-5 Inv-loop μ-loop
-unfolding field-step choose
-loop-again-5 c = goes-on _ _ _ _ _ _ _ _ (c .before .before .before .before .before .before .before .before .before .read-step .ensures) (c .before .before .before .before .before .before .before .f .given .1) (rw (c .record-text2 .ensures, c .before .if5 .taken)) (c .before .before .before .before .before .before .before .before .before .before .loop .inv)
+loop-again-5 c =
+    let a = c .before .before .before .before .before .before .before .before .before .before .before .before .before .args in
+    let l = c .before .before .before .before .before .before .before .before .before .before .loop in
+    let r = c .before .before .before .before .before .before .before .before .before .read-step in
+    let g = c .before .before .before .before .before .before .before .f .given in
+    goes-on (field-step (a .base) (a .s .now)) (a .s .now) (l .at) (r .result) (g .0 .0) (l .v) _ _ (r .ensures) (g .1) (field-typename (a .base) (a .s .now) (g .0 .0) (l .v) (c .before .if5 .taken) (c .record-text2 .ensures)) (l .inv)
 
 record-text-requires-3 : tie.Need-record-text-requires-3 Inv-loop μ-loop
 record-text-requires-3 c κs = let l = lies _ _ _ _ (c .before .before .before .before .before .before .before .before .before .read-step .ensures) (c .before .before .before .before .before .before .before .f .given .1) in (l .from, omega arith)
@@ -99,8 +119,12 @@ loop-less-6 : tie.Need-loop-less-6 Inv-loop μ-loop
 loop-less-6 c = search places
 
 loop-again-6 : tie.Need-loop-again-6 Inv-loop μ-loop
-unfolding field-step choose
-loop-again-6 c = goes-on _ _ _ _ _ _ _ _ (c .before .before .before .before .before .before .before .before .before .before .read-step .ensures) (c .before .before .before .before .before .before .before .before .f .given .1) (rw (c .record-text3 .ensures, c .before .if6 .taken)) (c .before .before .before .before .before .before .before .before .before .before .before .loop .inv)
+loop-again-6 c =
+    let a = c .before .before .before .before .before .before .before .before .before .before .before .before .before .before .args in
+    let l = c .before .before .before .before .before .before .before .before .before .before .before .loop in
+    let r = c .before .before .before .before .before .before .before .before .before .before .read-step in
+    let g = c .before .before .before .before .before .before .before .before .f .given in
+    goes-on (field-step (a .base) (a .s .now)) (a .s .now) (l .at) (r .result) (g .0 .0) (l .v) _ _ (r .ensures) (g .1) (field-default (a .base) (a .s .now) (g .0 .0) (l .v) (c .before .if6 .taken) (c .record-text3 .ensures)) (l .inv)
 
 flag-inside-requires : tie.Need-flag-inside-requires Inv-loop μ-loop
 flag-inside-requires c κs = let l = lies _ _ _ _ (c .before .before .before .before .before .before .before .before .before .before .read-step .ensures) (c .before .before .before .before .before .before .before .before .f .given .1) in (l .from, l .to)
@@ -112,8 +136,12 @@ loop-less-7 : tie.Need-loop-less-7 Inv-loop μ-loop
 loop-less-7 c = search places
 
 loop-again-7 : tie.Need-loop-again-7 Inv-loop μ-loop
-unfolding field-step choose
-loop-again-7 c = goes-on _ _ _ _ _ _ _ _ (c .before .before .before .before .before .before .before .before .before .before .before .before .read-step .ensures) (c .before .before .before .before .before .before .before .before .before .before .f .given .1) (rw (c .before .flag-inside .ensures, c .flag-inside2 .ensures, c .before .before .if7 .taken)) (c .before .before .before .before .before .before .before .before .before .before .before .before .before .loop .inv)
+loop-again-7 c =
+    let a = c .before .before .before .before .before .before .before .before .before .before .before .before .before .before .before .before .args in
+    let l = c .before .before .before .before .before .before .before .before .before .before .before .before .before .loop in
+    let r = c .before .before .before .before .before .before .before .before .before .before .before .before .read-step in
+    let g = c .before .before .before .before .before .before .before .before .before .before .f .given in
+    goes-on (field-step (a .base) (a .s .now)) (a .s .now) (l .at) (r .result) (g .0 .0) (l .v) _ _ (r .ensures) (g .1) (field-options (a .base) (a .s .now) (g .0 .0) (l .v) (c .before .before .if7 .taken) (c .before .flag-inside .ensures) (c .flag-inside2 .ensures)) (l .inv)
 
 record-number-requires-4 : tie.Need-record-number-requires-4 Inv-loop μ-loop
 record-number-requires-4 c κs = search needs
@@ -122,8 +150,12 @@ loop-less-8 : tie.Need-loop-less-8 Inv-loop μ-loop
 loop-less-8 c = search places
 
 loop-again-8 : tie.Need-loop-again-8 Inv-loop μ-loop
-unfolding field-step choose
-loop-again-8 c = goes-on _ _ _ _ _ _ _ _ (c .before .before .before .before .before .before .before .before .before .before .before .before .read-step .ensures) (c .before .before .before .before .before .before .before .before .before .before .f .given .1) (rw (c .record-number4 .ensures, c .before .if8 .taken)) (c .before .before .before .before .before .before .before .before .before .before .before .before .before .loop .inv)
+loop-again-8 c =
+    let a = c .before .before .before .before .before .before .before .before .before .before .before .before .before .before .before .before .args in
+    let l = c .before .before .before .before .before .before .before .before .before .before .before .before .before .loop in
+    let r = c .before .before .before .before .before .before .before .before .before .before .before .before .read-step in
+    let g = c .before .before .before .before .before .before .before .before .before .before .f .given in
+    goes-on (field-step (a .base) (a .s .now)) (a .s .now) (l .at) (r .result) (g .0 .0) (l .v) _ _ (r .ensures) (g .1) (field-oneof (a .base) (a .s .now) (g .0 .0) (l .v) (c .before .if8 .taken) (c .record-number4 .ensures)) (l .inv)
 
 record-flag-requires : tie.Need-record-flag-requires Inv-loop μ-loop
 record-flag-requires c κs = search needs
@@ -132,14 +164,23 @@ loop-less-9 : tie.Need-loop-less-9 Inv-loop μ-loop
 loop-less-9 c = search places
 
 loop-again-9 : tie.Need-loop-again-9 Inv-loop μ-loop
-unfolding field-step choose
-loop-again-9 c = goes-on _ _ _ _ _ _ _ _ (c .before .before .before .before .before .before .before .before .before .before .before .before .before .read-step .ensures) (c .before .before .before .before .before .before .before .before .before .before .before .f .given .1) (rw (c .record-flag .ensures, c .before .if9 .taken)) (c .before .before .before .before .before .before .before .before .before .before .before .before .before .before .loop .inv)
+loop-again-9 c =
+    let a = c .before .before .before .before .before .before .before .before .before .before .before .before .before .before .before .before .before .args in
+    let l = c .before .before .before .before .before .before .before .before .before .before .before .before .before .before .loop in
+    let r = c .before .before .before .before .before .before .before .before .before .before .before .before .before .read-step in
+    let g = c .before .before .before .before .before .before .before .before .before .before .before .f .given in
+    goes-on (field-step (a .base) (a .s .now)) (a .s .now) (l .at) (r .result) (g .0 .0) (l .v) _ _ (r .ensures) (g .1) (field-optional (a .base) (a .s .now) (g .0 .0) (l .v) (c .before .if9 .taken) (c .record-flag .ensures)) (l .inv)
 
 loop-less-10 : tie.Need-loop-less-10 Inv-loop μ-loop
 loop-less-10 c = search places
 
 loop-again-10 : tie.Need-loop-again-10 Inv-loop μ-loop
-loop-again-10 c = goes-on _ _ _ _ _ _ _ _ (c .before .before .before .before .before .before .before .before .before .before .before .before .read-step .ensures) (c .before .before .before .before .before .before .before .before .before .before .f .given .1) (field-skips _ _ _ _ (c .before .before .before .before .before .before .before .before .if1 .left) (c .before .before .before .before .before .before .before .if2 .left) (c .before .before .before .before .before .before .if3 .left) (c .before .before .before .before .before .if4 .left) (c .before .before .before .before .if5 .left) (c .before .before .before .if6 .left) (c .before .before .if7 .left) (c .before .if8 .left) (c .if9 .left)) (c .before .before .before .before .before .before .before .before .before .before .before .before .before .loop .inv)
+loop-again-10 c =
+    let a = c .before .before .before .before .before .before .before .before .before .before .before .before .before .before .before .before .args in
+    let l = c .before .before .before .before .before .before .before .before .before .before .before .before .before .loop in
+    let r = c .before .before .before .before .before .before .before .before .before .before .before .before .read-step in
+    let g = c .before .before .before .before .before .before .before .before .before .before .f .given in
+    goes-on (field-step (a .base) (a .s .now)) (a .s .now) (l .at) (r .result) (g .0 .0) (l .v) _ _ (r .ensures) (g .1) (field-skips (a .base) (a .s .now) (g .0 .0) (l .v) (c .before .before .before .before .before .before .before .before .if1 .left) (c .before .before .before .before .before .before .before .if2 .left) (c .before .before .before .before .before .before .if3 .left) (c .before .before .before .before .before .if4 .left) (c .before .before .before .before .if5 .left) (c .before .before .before .if6 .left) (c .before .before .if7 .left) (c .before .if8 .left) (c .if9 .left)) (l .inv)
 
 pub read-field-spec : {M : Type 1} → statement M
 read-field-spec =

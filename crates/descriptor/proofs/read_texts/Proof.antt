@@ -50,7 +50,12 @@ loop-less : tie.Need-loop-less Inv-loop μ-loop
 loop-less c = search places
 
 loop-again : tie.Need-loop-again Inv-loop μ-loop
-loop-again c = goes-on _ _ _ _ _ _ _ _ (c .before .before .before .before .before .read-step .ensures) (c .before .before .before .f .given .1) (rw (c .record-text .ensures) (texts-first _ _ _ (c .before .before .before .before .before .before .before .before .before .before .pre .1) _ _ (c .before .if1 .taken))) (c .before .before .before .before .before .before .loop .inv)
+loop-again c =
+    let a = c .before .before .before .before .before .before .before .before .before .before .args in
+    let l = c .before .before .before .before .before .before .loop in
+    let r = c .before .before .before .before .before .read-step in
+    let g = c .before .before .before .f .given in
+    goes-on (texts-step (a .base) (a .m) (a .n)) (a .s .now) (l .at) (r .result) (g .0 .0) (record { first = l .first; second = l .second }) _ _ (r .ensures) (g .1) (rw (c .record-text .ensures) (texts-first (a .base) (a .m) (a .n) (c .before .before .before .before .before .before .before .before .before .before .pre .1) (g .0 .0) (record { first = l .first; second = l .second }) (c .before .if1 .taken))) (l .inv)
 
 record-text-requires-2 : tie.Need-record-text-requires-2 Inv-loop μ-loop
 record-text-requires-2 c κs = let l = lies _ _ _ _ (c .before .before .before .before .before .read-step .ensures) (c .before .before .before .f .given .1) in (l .from, omega arith)
@@ -59,13 +64,23 @@ loop-less-2 : tie.Need-loop-less-2 Inv-loop μ-loop
 loop-less-2 c = search places
 
 loop-again-2 : tie.Need-loop-again-2 Inv-loop μ-loop
-loop-again-2 c = goes-on _ _ _ _ _ _ _ _ (c .before .before .before .before .before .before .read-step .ensures) (c .before .before .before .before .f .given .1) (rw (c .record-text2 .ensures) (texts-second _ _ _ (c .before .before .before .before .before .before .before .before .before .before .before .pre .1) _ _ (c .before .if2 .taken))) (c .before .before .before .before .before .before .before .loop .inv)
+loop-again-2 c =
+    let a = c .before .before .before .before .before .before .before .before .before .before .before .args in
+    let l = c .before .before .before .before .before .before .before .loop in
+    let r = c .before .before .before .before .before .before .read-step in
+    let g = c .before .before .before .before .f .given in
+    goes-on (texts-step (a .base) (a .m) (a .n)) (a .s .now) (l .at) (r .result) (g .0 .0) (record { first = l .first; second = l .second }) _ _ (r .ensures) (g .1) (rw (c .record-text2 .ensures) (texts-second (a .base) (a .m) (a .n) (c .before .before .before .before .before .before .before .before .before .before .before .pre .1) (g .0 .0) (record { first = l .first; second = l .second }) (c .before .if2 .taken))) (l .inv)
 
 loop-less-3 : tie.Need-loop-less-3 Inv-loop μ-loop
 loop-less-3 c = search places
 
 loop-again-3 : tie.Need-loop-again-3 Inv-loop μ-loop
-loop-again-3 c = goes-on _ _ _ _ _ _ _ _ (c .before .before .before .before .before .read-step .ensures) (c .before .before .before .f .given .1) (texts-skip _ _ _ (c .before .before .before .before .before .before .before .before .before .before .pre .1) _ _ (c .before .if1 .left) (c .if2 .left)) (c .before .before .before .before .before .before .loop .inv)
+loop-again-3 c =
+    let a = c .before .before .before .before .before .before .before .before .before .before .args in
+    let l = c .before .before .before .before .before .before .loop in
+    let r = c .before .before .before .before .before .read-step in
+    let g = c .before .before .before .f .given in
+    goes-on (texts-step (a .base) (a .m) (a .n)) (a .s .now) (l .at) (r .result) (g .0 .0) (record { first = l .first; second = l .second }) _ _ (r .ensures) (g .1) (texts-skip (a .base) (a .m) (a .n) (c .before .before .before .before .before .before .before .before .before .before .pre .1) (g .0 .0) (record { first = l .first; second = l .second }) (c .before .if1 .left) (c .if2 .left)) (l .inv)
 
 pub read-texts-spec : {M : Type 1} → statement M
 read-texts-spec =

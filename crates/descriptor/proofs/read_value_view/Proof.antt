@@ -47,7 +47,12 @@ loop-less : tie.Need-loop-less Inv-loop μ-loop
 loop-less c = search places
 
 loop-again : tie.Need-loop-again Inv-loop μ-loop
-loop-again c = goes-on _ _ _ _ _ _ _ _ (c .before .before .before .before .before .read-step .ensures) (c .before .before .before .f .given .1) (rw (c .record-text .ensures) (value-name _ _ _ _ (c .before .before .before .before .before .before .before .before .before .pre .1) _ _ (c .before .if1 .taken))) (c .before .before .before .before .before .before .loop .inv)
+loop-again c =
+    let a = c .before .before .before .before .before .before .before .before .before .args in
+    let l = c .before .before .before .before .before .before .loop in
+    let r = c .before .before .before .before .before .read-step in
+    let g = c .before .before .before .f .given in
+    goes-on (value-step (a .base) (a .s .now) (a .outer) (a .n)) (a .s .now) (l .at) (r .result) (g .0 .0) (l .v) _ _ (r .ensures) (g .1) (rw (c .record-text .ensures) (value-name (a .base) (a .s .now) (a .outer) (a .n) (c .before .before .before .before .before .before .before .before .before .pre .1) (g .0 .0) (l .v) (c .before .if1 .taken))) (l .inv)
 
 record-number-requires : tie.Need-record-number-requires Inv-loop μ-loop
 record-number-requires c κs = search needs
@@ -56,7 +61,12 @@ loop-less-2 : tie.Need-loop-less-2 Inv-loop μ-loop
 loop-less-2 c = search places
 
 loop-again-2 : tie.Need-loop-again-2 Inv-loop μ-loop
-loop-again-2 c = goes-on _ _ _ _ _ _ _ _ (c .before .before .before .before .before .before .read-step .ensures) (c .before .before .before .before .f .given .1) (rw (c .record-number .ensures) (value-number _ _ _ _ (c .before .before .before .before .before .before .before .before .before .before .pre .1) _ _ (c .before .if2 .taken))) (c .before .before .before .before .before .before .before .loop .inv)
+loop-again-2 c =
+    let a = c .before .before .before .before .before .before .before .before .before .before .args in
+    let l = c .before .before .before .before .before .before .before .loop in
+    let r = c .before .before .before .before .before .before .read-step in
+    let g = c .before .before .before .before .f .given in
+    goes-on (value-step (a .base) (a .s .now) (a .outer) (a .n)) (a .s .now) (l .at) (r .result) (g .0 .0) (l .v) _ _ (r .ensures) (g .1) (rw (c .record-number .ensures) (value-number (a .base) (a .s .now) (a .outer) (a .n) (c .before .before .before .before .before .before .before .before .before .before .pre .1) (g .0 .0) (l .v) (c .before .if2 .taken))) (l .inv)
 
 flag-inside-requires : tie.Need-flag-inside-requires Inv-loop μ-loop
 flag-inside-requires c κs = let l = lies _ _ _ _ (c .before .before .before .before .before .before .read-step .ensures) (c .before .before .before .before .f .given .1) in (l .from, l .to)
@@ -65,13 +75,23 @@ loop-less-3 : tie.Need-loop-less-3 Inv-loop μ-loop
 loop-less-3 c = search places
 
 loop-again-3 : tie.Need-loop-again-3 Inv-loop μ-loop
-loop-again-3 c = goes-on _ _ _ _ _ _ _ _ (c .before .before .before .before .before .before .before .read-step .ensures) (c .before .before .before .before .before .f .given .1) (rw (c .flag-inside .ensures) (value-option _ _ _ _ (c .before .before .before .before .before .before .before .before .before .before .before .pre .1) _ _ (c .before .if3 .taken))) (c .before .before .before .before .before .before .before .before .loop .inv)
+loop-again-3 c =
+    let a = c .before .before .before .before .before .before .before .before .before .before .before .args in
+    let l = c .before .before .before .before .before .before .before .before .loop in
+    let r = c .before .before .before .before .before .before .before .read-step in
+    let g = c .before .before .before .before .before .f .given in
+    goes-on (value-step (a .base) (a .s .now) (a .outer) (a .n)) (a .s .now) (l .at) (r .result) (g .0 .0) (l .v) _ _ (r .ensures) (g .1) (rw (c .flag-inside .ensures) (value-option (a .base) (a .s .now) (a .outer) (a .n) (c .before .before .before .before .before .before .before .before .before .before .before .pre .1) (g .0 .0) (l .v) (c .before .if3 .taken))) (l .inv)
 
 loop-less-4 : tie.Need-loop-less-4 Inv-loop μ-loop
 loop-less-4 c = search places
 
 loop-again-4 : tie.Need-loop-again-4 Inv-loop μ-loop
-loop-again-4 c = goes-on _ _ _ _ _ _ _ _ (c .before .before .before .before .before .before .read-step .ensures) (c .before .before .before .before .f .given .1) (value-skips _ _ _ _ (c .before .before .before .before .before .before .before .before .before .before .pre .1) _ _ (c .before .before .if1 .left) (c .before .if2 .left) (c .if3 .left)) (c .before .before .before .before .before .before .before .loop .inv)
+loop-again-4 c =
+    let a = c .before .before .before .before .before .before .before .before .before .before .args in
+    let l = c .before .before .before .before .before .before .before .loop in
+    let r = c .before .before .before .before .before .before .read-step in
+    let g = c .before .before .before .before .f .given in
+    goes-on (value-step (a .base) (a .s .now) (a .outer) (a .n)) (a .s .now) (l .at) (r .result) (g .0 .0) (l .v) _ _ (r .ensures) (g .1) (value-skips (a .base) (a .s .now) (a .outer) (a .n) (c .before .before .before .before .before .before .before .before .before .before .pre .1) (g .0 .0) (l .v) (c .before .before .if1 .left) (c .before .if2 .left) (c .if3 .left)) (l .inv)
 
 pub read-value-view-spec : {M : Type 1} → statement M
 read-value-view-spec =

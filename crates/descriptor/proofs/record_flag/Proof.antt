@@ -6,7 +6,7 @@ read-value-requires : tie.Need-read-value-requires
 read-value-requires c κs = search needs
 
 returns : tie.Need-returns
-returns c = cc
+returns c = rw (c .read-value .ensures)
 
 pub record-flag-spec : {M : Type 1} → statement M
 record-flag-spec = tie.close (tie.spec read-value-requires returns)

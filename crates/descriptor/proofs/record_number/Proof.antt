@@ -9,7 +9,7 @@ cast-t4 : tie.Need-cast-t4
 cast-t4 c = search needs
 
 returns : tie.Need-returns
-returns c = cc
+returns c = rw (c .read-value .ensures)
 
 pub record-number-spec : {M : Type 1} → statement M
 record-number-spec = tie.close (tie.spec read-value-requires cast-t4 returns)

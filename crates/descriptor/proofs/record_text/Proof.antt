@@ -9,7 +9,7 @@ read-length-requires : tie.Need-read-length-requires
 read-length-requires c κs = search needs
 
 returns : tie.Need-returns
-returns c = cc
+returns c = rw (c .read-length .ensures)
 
 pub record-text-spec : {M : Type 1} → statement M
 record-text-spec = tie.close (tie.spec add-start read-length-requires returns)

@@ -1,4 +1,4 @@
-use Rattle.options.proofs.RowLaws.{row-is}
+use Rattle.options.proofs.RowLaws.{place-behind, row-is}
 use native.Mathlib.Omega.{arith}
 use borrow.Author.Needs.{needs}
 use Rattle.options.proofs.row_from.Statement.{statement}
@@ -8,7 +8,7 @@ within-requires : tie.Need-within-requires
 within-requires c κs = search needs
 
 sub-room : tie.Need-sub-room
-sub-room c = search needs
+sub-room c = omega (arith, c .within .ensures)
 
 path-length-requires : tie.Need-path-length-requires
 path-length-requires c κs = search needs
@@ -17,10 +17,10 @@ within-requires-2 : tie.Need-within-requires-2
 within-requires-2 c κs = search needs
 
 add-value : tie.Need-add-value
-add-value c = search needs
+add-value c = omega arith
 
 sub-rest : tie.Need-sub-rest
-sub-rest c = search needs
+sub-rest c = omega (arith, c .within2 .ensures, c .before .before .within .ensures)
 
 value-length-requires : tie.Need-value-length-requires
 value-length-requires c κs = search needs
@@ -35,7 +35,9 @@ add-t10 : tie.Need-add-t10
 add-t10 c = search needs
 
 returns : tie.Need-returns
-returns c = row-is _ _ _ _ _ _ _ (c .kind-at .ensures) (c .before .before .before .before .before .within .ensures) (omega (arith, c .before .before .before .before .before .within .ensures, c .before .before .before .within2 .ensures, c .before .before .before .before .path-length .ensures .0)) (omega (arith, c .before .before .before .before .before .within .ensures, c .before .before .before .within2 .ensures, c .before .before .before .before .path-length .ensures .0, c .before .within3 .ensures, c .before .before .value-length .ensures .0))
+returns c =
+    let value = place-behind _ _ _ _ _ _ (c .before .before .before .before .before .within .ensures) (c .before .before .before .before .path-length .ensures .0) (c .before .before .before .within2 .ensures) in
+    row-is _ _ _ _ _ _ _ (c .kind-at .ensures) (c .before .before .before .before .before .within .ensures) value (place-behind _ _ _ _ _ _ value (c .before .before .value-length .ensures .0) (c .before .within3 .ensures))
 
 pub row-from-spec : {M : Type 1} → statement M
 row-from-spec =
