@@ -7,7 +7,7 @@ use native.Mathlib.Omega.{arith}
 use native.Mathlib.Decide.{decLt}
 use lib.Dec.{ltb, leb, eqb}
 use lib.ListN.{length, getD}
-use borrow.Author.Tests.{le-ltb, lt-ltb, lt-leb, ne-eqb}
+use borrow.Author.Tests.{le-ltb, lt-ltb, lt-leb, ne-eqb, not-true}
 use Rattle.base.specs.Choose.{choose}
 use Rattle.base.specs.Bytes.{b, same, same-sound}
 use Rattle.base.specs.Tests.{and-left, and-right}
@@ -72,10 +72,6 @@ in-its-table k = choose (ltb k 47) (among (word k) raw-words) (not (among (word 
 each-in-its-table : below in-its-table 53 ≡ true
 unfolding below in-its-table choose among raw-words kept-words places sizes front-of same
 each-in-its-table = refl
-
-not-true : (t : Bool) → not t ≡ true → t ≡ false
-not-true true h = sym h
-not-true false h = refl
 
 numbered-word : (k : ℕ) → k < 53 → numbered k (word k) ≡ addition (word k)
 unfolding numbered addition choose in-its-table
