@@ -6,3 +6,4 @@ pub mod SumLaws
 pub mod DecodedTallies
 pub mod LimitLaws
 pub mod AnswerLaws
+pub mod Sizes

@@ -16,7 +16,7 @@ use Rattle.limits.proofs.SumLaws.{sum-same, sum-plus}
 use Rattle.limits.proofs.TallyLaws.{tally-none}
 
 -- ---- a sum over fields by their numbers
-abbrev at-number : ℕ → (Bytes → ℕ) → Field → ℕ
+abbrev pub at-number : ℕ → (Bytes → ℕ) → Field → ℕ
 at-number n w f = choose (eqb (f .number) n) (w (bytes-in (f .value))) 0
 
 one-part : (t : Bool) (w : Bytes → ℕ) (b : Bytes) (ps : List Bytes) (k : ℕ) → k ≡ sum w ps → choose t (w b) 0 + k ≡ sum w (choose t (b ∷ ps) ps)
@@ -24,7 +24,7 @@ unfolding sum choose
 one-part true w b ps k h = omega arith
 one-part false w b ps k h = omega arith
 
-sum-parts : (n : ℕ) (w : Bytes → ℕ) (fs : List Field) → sum (at-number n w) fs ≡ sum w (parts n fs)
+pub sum-parts : (n : ℕ) (w : Bytes → ℕ) (fs : List Field) → sum (at-number n w) fs ≡ sum w (parts n fs)
 unfolding sum parts
 sum-parts n w [] = refl
 sum-parts n w (f ∷ fs) = one-part (eqb (f .number) n) w (bytes-in (f .value)) (parts n fs) (sum (at-number n w) fs) (sum-parts n w fs)

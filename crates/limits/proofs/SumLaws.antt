@@ -2,7 +2,7 @@
 use mathlib.Core.Path.{_≡_, refl, sym, ap, ap₂, _∙_}
 use mathlib.Core.Bool.{Bool, true, false, _||_}
 use mathlib.Core.List.{List, [], _∷_, _++_, map}
-use Prim.Native.Nat.{ℕ, zero, suc, _+_}
+use Prim.Native.Nat.{ℕ, zero, suc, _+_, _≤_}
 use native.Mathlib.Omega.{arith}
 use lib.ListN.{length}
 use lib.Dec.{ltb}
@@ -21,6 +21,11 @@ module _ {ℓ} {A : Type ℓ} where
   unfolding sum
   sum-same v w h [] = refl
   sum-same v w h (x ∷ xs) = let a = h x in let b = sum-same v w h xs in omega arith
+
+  pub sum-below : (v w : A → ℕ) → ((x : A) → v x ≤ w x) → (xs : List A) → sum v xs ≤ sum w xs
+  unfolding sum
+  sum-below v w h [] = omega arith
+  sum-below v w h (x ∷ xs) = let a = h x in let b = sum-below v w h xs in omega arith
 
   pub sum-zero : (w : A → ℕ) → ((x : A) → w x ≡ 0) → (xs : List A) → sum w xs ≡ 0
   unfolding sum

@@ -71,7 +71,7 @@ module _ (n : ℕ) (s : Bytes) (at : ℕ) (r : Step) (e : r ≡ stepAt s at) (b 
     bytes-found q = ap (bytes-from n s (f .next)) (then-eq _ _ (bytes-in (value-of s f)) (f .number) n q refl) ∙ sym bytes-step
 
 -- how long an embedded message is
-part-length : (s : Bytes) (a m : ℕ) → (length (part s a m) ≤ m) × (length (part s a m) ≤ length s)
+pub part-length : (s : Bytes) (a m : ℕ) → (length (part s a m) ≤ m) × (length (part s a m) ≤ length s)
 part-length s a m =
     let l : length (part s a m) ≤ m = rw (length-take m (drop a s)) (min-le-left m (length (drop a s))) in
     let k : length (part s a m) ≤ length (drop a s) = rw (length-take m (drop a s)) (min-le-right m (length (drop a s))) in

@@ -2,3 +2,4 @@ pub mod Sums
 pub mod Weights
 pub mod Fits
 pub mod Answer
+pub mod Short

@@ -33,6 +33,9 @@ struct Totals {
     fine: bool,
 }
 
+// A set of at most so many bytes is short: it has at most half as many files, messages, fields and enums.
+pub const SHORT: usize = 300;
+
 const MAX_SET: usize = 32768;
 
 const MAX_FILES: usize = 32;
