@@ -7,12 +7,14 @@ use Prim.Native.Nat.{ℕ, _+_, _*_, _≤_, _<_}
 use native.Mathlib.Nat.{le-refl}
 use native.Mathlib.Omega.{arith}
 use native.Mathlib.Decide.{ℕ-discrete}
-use borrow.Author.Count.{below-more}
+use borrow.Author.Count.{below-none, below-more}
 use borrow.Author.Tests.{ne-eqb}
-use lib.ListN.{length, getD, set, replicate, length-set, length-replicate}
+use lib.ListN.{length, getD, set, replicate, length-set, length-replicate, getD-replicate}
+use lib.Seq.{getD-set-same, getD-set-other, ext-getD}
 use Rattle.base.specs.Tests.{bool-cases, both-ways}
 use Rattle.message_graph.specs.Limit.{messages}
-use Rattle.message_graph.specs.Fields.{Fields, size, owner-of, target-of, kind-of, label-of, link}
+use Rattle.message_graph.specs.Fields.{Fields, size, owner-of, target-of, kind-of, label-of, link, message-at-below}
+use Rattle.message_graph.specs.Tab.{tab, length-tab, tab-at}
 use Rattle.message_graph.specs.Leads.{Link, Leads, leadsb}
 use Rattle.message_graph.specs.Leads.Leads.{here, step}
 use Rattle.message_graph.specs.Decided.{join, leads-sound, leads-complete}
@@ -35,12 +37,9 @@ scan-not d f boxes x i lt own cannot =
     by-entries d f boxes x ∙ every-not (size f) (entry-can d f boxes (can-message-derive d f boxes) x) i lt (own-is d f boxes x i false own cannot)
 
 -- a message without fields can
-pub none-can : (d : Derive) (f : Fields) (boxes : List Bool) (x : ℕ) (ranges : List ℕ) → Ranged (f .owner) ranges → (end : ℕ) → end ≡ getD ranges (2 * x + 1) 0 → end ≡ 0 → can-message-derive d f boxes x ≡ true
-none-can d f boxes x ranges r end is none =
-    by-entries d f boxes x ∙ every-all (size f) (entry-can d f boxes (can-message-derive d f boxes) x) (λ k h.
-    entry-other d f boxes (can-message-derive d f boxes) x k (λ own.
-    let high : k < getD ranges (2 * x + 1) 0 = subst (λ (z : ℕ). k < getD ranges (2 * z + 1) 0) own (r .high k h) in
-    omega arith))
+none-can : (d : Derive) (f : Fields) (boxes : List Bool) (x : ℕ) → ((k : ℕ) → k < size f → owner-of f k ≡ x → ⊥) → can-message-derive d f boxes x ≡ true
+none-can d f boxes x none =
+    by-entries d f boxes x ∙ every-all (size f) (entry-can d f boxes (can-message-derive d f boxes) x) (λ k h. entry-other d f boxes (can-message-derive d f boxes) x k (none k h))
 
 -- ---- in a loop no message can, so that a field's answer needs no test for one
 
@@ -252,3 +251,37 @@ module _ {d : Derive} {f : Fields} {boxes : List Bool} {old ms : List ℕ} {x i 
         | yes own ↦ let high = subst (λ (z : ℕ). k < getD ranges (2 * z + 1) 0) own (r .high k h) in s .so-far k (omega arith)
         | no other ↦ entry-other d f boxes (can-message-derive d f boxes) x k other
       ])
+
+-- ---- the fields' messages, asked for up to the field i: what a message without fields so far has is true
+
+pub record Asked (d : Derive) (f : Fields) (boxes out : List Bool) (i : ℕ) : Type 0 where
+  pub long : length out ≡ messages
+  pub is : (x : ℕ) → x < messages → (getD out x true ≡ can-message-derive d f boxes x) ⊎ ((getD out x true ≡ true) × ((k : ℕ) → k < i → owner-of f k ≡ x → ⊥))
+
+module _ {d : Derive} {f : Fields} {boxes : List Bool} where
+  pub asked-none : Asked d f boxes (replicate messages true) 0
+  asked-none = record { long = length-replicate messages true; is = λ x h. inr (getD-replicate messages x true true h, below-none _) }
+
+  pub asked-more : {out : List Bool} {i : ℕ} → Asked d f boxes out i → (x : ℕ) → x ≡ owner-of f i → (r : Bool) → r ≡ can-message-derive d f boxes x → Asked d f boxes (set out x r) (i + 1)
+  asked-more {out} {i} a x own r can =
+      let long = a .long in
+      let below = message-at-below (f .owner) i in
+      record {
+        long = length-set out x r ∙ long;
+        is = λ y h.
+            elim (ℕ-discrete y x) [
+              | yes same ↦ inl (rw same (getD-set-same out x r true (omega arith) ∙ can))
+              | no other ↦
+                  let kept = getD-set-other out x y r true other in
+                  ⊎-elim (λ e. inl (kept ∙ e)) (λ free. inr (kept ∙ free .0, below-more _ i (free .1) (λ e. other (sym e ∙ sym own)))) (a .is y h)
+            ];
+      }
+
+  pub asked-all : {out : List Bool} {i : ℕ} → Asked d f boxes out i → size f ≤ i → out ≡ tab messages (can-message-derive d f boxes)
+  asked-all {out} {i} a end =
+      let long = a .long in
+      let can = can-message-derive d f boxes in
+      ext-getD true out (tab messages can) (long ∙ sym (length-tab messages can)) (λ x h.
+      let lt : x < messages = omega arith in
+      ⊎-elim (λ e. e) (λ free. free .0 ∙ sym (none-can d f boxes x (λ k l. free .1 k (omega arith)))) (a .is x lt)
+      ∙ sym (tab-at messages can true x lt))

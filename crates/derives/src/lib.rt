@@ -278,7 +278,7 @@ fn field_can(
     message_can(d, owner, target, kind, label, set, ranges, memo, t, left)
 }
 
-// For each message, whether it can. One without fields can.
+// For each message, whether it can. One without fields can, so only the fields' messages are asked for.
 fn answers(
     d: Derive,
     owner: &[Index],
@@ -292,29 +292,23 @@ fn answers(
     ensures { λ r. ⌜ r ≡ tab messages (can-message-derive d (fields (now (owner .entry)) (now (target .entry)) (now (kind .entry)) (now (label .entry))) (now (set .entry))) ⌝ }
 {
     let mut memo = [0u8; MESSAGES];
-    let mut out = [false; MESSAGES];
-    let mut x = 0;
-    while x < MESSAGES {
-        let next = x + 1;
-        let begin = 2 * x;
-        let end = begin + 1;
-        if place_at(ranges, end) == 0 {
-            out[x] = true;
-        } else {
-            out[x] = message_can(
-                d,
-                owner,
-                target,
-                kind,
-                label,
-                set,
-                ranges,
-                &mut memo,
-                x,
-                MESSAGES,
-            );
-        }
-        x = next;
+    let mut out = [true; MESSAGES];
+    let mut i = 0;
+    while i < owner.len() {
+        let x = message_graph::message_at(owner, i);
+        out[x] = message_can(
+            d,
+            owner,
+            target,
+            kind,
+            label,
+            set,
+            ranges,
+            &mut memo,
+            x,
+            MESSAGES,
+        );
+        i += 1;
     }
     out
 }
