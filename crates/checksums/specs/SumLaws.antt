@@ -1,5 +1,5 @@
 -- What checksums tell of strings, and a table that is filled with them. Assumes nothing.
-use Prim.Native.Nat.{ℕ, suc, _+_, _≤_}
+use Prim.Native.Nat.{ℕ, suc, _+_, _*_, _%_, _^_, _≤_, _<_}
 use mathlib.Core.Path.{_≡_, refl, sym, ap, _∙_}
 use mathlib.Core.Bool.{Bool, true, false, _||_}
 use mathlib.Core.List.{List, [], _∷_, _++_, map}
@@ -14,7 +14,18 @@ use Rattle.base.specs.Bytes.{same, same-sound}
 use Rattle.base.specs.Choose.{choose}
 use Rattle.base.specs.Lists.{any}
 use Rattle.base.specs.Tests.{or-false-left, or-false-right}
-use Rattle.checksums.specs.Sums.{sum-of, holds, Put}
+use Rattle.checksums.specs.Sums.{sum-from, sum-of, holds, Put}
+
+-- of one string behind another
+pub sum-append : (h : ℕ) (a c : List ℕ) → sum-from h (a ++ c) ≡ sum-from (sum-from h a) c
+unfolding sum-from
+sum-append h [] c = refl
+sum-append h (x ∷ a) c = sum-append ((h * 1000003 + x) % 2 ^ 32) a c
+
+pub sum-small : (h : ℕ) (s : List ℕ) → h < 2 ^ 32 → sum-from h s < 2 ^ 32
+unfolding sum-from
+sum-small h [] l = l
+sum-small h (x ∷ s) l = sum-small ((h * 1000003 + x) % 2 ^ 32) s (omega arith)
 
 -- other checksums are those of other strings
 pub other-sum : (x y : List ℕ) → eqb (sum-of x) (sum-of y) ≡ false → (x ≡ y → ⊥)

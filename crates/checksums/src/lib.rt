@@ -1,7 +1,7 @@
 // Checksums of byte strings, and tables of them: the same strings have the same checksum.
 ghost use mathlib.Core.Path.{_≡_};
-ghost use Prim.Native.Nat.{_<_};
-ghost use Rattle.checksums.specs.Sums.{sum-of, holds, repeats, Put};
+ghost use Prim.Native.Nat.{_<_, _^_};
+ghost use Rattle.checksums.specs.Sums.{sum-from, sum-of, holds, repeats, Put};
 
 fn wide(x: u8) -> u64
     ensures { λ r. ⌜ (r ≡ x) × (r < 256) ⌝ }
@@ -9,17 +9,26 @@ fn wide(x: u8) -> u64
     x as u64
 }
 
-pub fn checksum(s: &[u8]) -> u64
-    ensures { λ r. ⌜ r ≡ sum-of (now (s .entry)) ⌝ }
+// Of bytes behind those whose checksum is h.
+pub fn checksum_from(h: u64, s: &[u8]) -> u64
+    requires { ⌜ h < 2 ^ 32 ⌝ }
+    ensures { λ r. ⌜ r ≡ sum-from h (now (s .entry)) ⌝ }
+    ensures { λ r. ⌜ r < 2 ^ 32 ⌝ }
 {
-    let mut h: u64 = 0;
+    let mut sum = h;
     let mut i: usize = 0;
     while i < s.len() {
         let x = wide(s[i]);
-        h = (h * 1000003 + x) % 4294967296;
+        sum = (sum * 1000003 + x) % 4294967296;
         i += 1;
     }
-    h
+    sum
+}
+
+pub fn checksum(s: &[u8]) -> u64
+    ensures { λ r. ⌜ r ≡ sum-of (now (s .entry)) ⌝ }
+{
+    checksum_from(0, s)
 }
 
 // Is x one of the numbers of t?

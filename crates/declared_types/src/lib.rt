@@ -3,11 +3,12 @@ ghost use mathlib.Core.Path.{_≡_};
 ghost use mathlib.Core.Bool.{true, false};
 ghost use Prim.Native.Nat.{ℕ};
 ghost use lib.Dec.{ltb};
+ghost use lib.ListN.{length};
 ghost use Rattle.base.specs.Lists.{all};
 ghost use Rattle.name_rules.specs.Accessors.{or-else, text};
 ghost use Rattle.descriptor.specs.Views.{text-of, number-of};
 ghost use Rattle.descriptor.specs.Decode.{entries, parts};
-ghost use Rattle.type_names.specs.LookUp.{find-row};
+ghost use Rattle.type_names.specs.LookUp.{find-row, row-sums};
 ghost use Rattle.declared_types.specs.Undeclared.{type-known, row-good, first-undeclared-row};
 use descriptor::Number;
 use descriptor::Text;
@@ -33,16 +34,18 @@ fn given_bytes(s: &[u8], x: Text) -> &[u8]
     &s[0..0]
 }
 
-fn is_found(set: &[u8], t: &[usize], count: usize, name: &[u8], sort: usize) -> bool
+fn is_found(set: &[u8], t: &[usize], count: usize, sums: &[u64], name: &[u8], sort: usize) -> bool
+    requires { ⌜ now sums ≡ row-sums (now set) (now t) (length (now sums)) ⌝ }
     ensures { λ r. ⌜ r ≡ ltb (find-row (now (set .entry)) (now (t .entry)) (now (name .entry)) sort count) count ⌝ }
 {
-    let row = type_names::find_row(set, t, count, name, sort);
+    let row = type_names::find_row(set, t, count, sums, name, sort);
     row < count
 }
 
 // Is the type name of the field with these bytes declared, where it needs one: of a message (11) or group (10) as a message,
 // of an enum (14) as an enum?
-fn type_good(s: &[u8], set: &[u8], t: &[usize], count: usize) -> bool
+fn type_good(s: &[u8], set: &[u8], t: &[usize], count: usize, sums: &[u64]) -> bool
+    requires { ⌜ now sums ≡ row-sums (now set) (now t) (length (now sums)) ⌝ }
     ensures { λ r. ⌜ r ≡ type-known (now (set .entry)) (now (t .entry)) count (now (s .entry)) ⌝ }
 {
     let end = s.len();
@@ -50,19 +53,20 @@ fn type_good(s: &[u8], set: &[u8], t: &[usize], count: usize) -> bool
     let kind = type_of(v.kind);
     let name = given_bytes(s, v.typename);
     if kind == 11 {
-        return is_found(set, t, count, name, 2);
+        return is_found(set, t, count, sums, name, 2);
     }
     if kind == 10 {
-        return is_found(set, t, count, name, 2);
+        return is_found(set, t, count, sums, name, 2);
     }
     if kind == 14 {
-        return is_found(set, t, count, name, 1);
+        return is_found(set, t, count, sums, name, 1);
     }
     true
 }
 
 // Those of all fields of the message with these bytes?
-fn types_good(s: &[u8], set: &[u8], t: &[usize], count: usize) -> bool
+fn types_good(s: &[u8], set: &[u8], t: &[usize], count: usize, sums: &[u64]) -> bool
+    requires { ⌜ now sums ≡ row-sums (now set) (now t) (length (now sums)) ⌝ }
     ensures { λ r. ⌜ r ≡ all (type-known (now (set .entry)) (now (t .entry)) count) (parts 2 (entries (now (s .entry)))) ⌝ }
 {
     let mut at: usize = 0;
@@ -73,7 +77,7 @@ fn types_good(s: &[u8], set: &[u8], t: &[usize], count: usize) -> bool
             Step::Found(f) => {
                 at = f.next;
                 if f.number == 2 {
-                    if !type_good(parts::embedded(s, f), set, t, count) {
+                    if !type_good(parts::embedded(s, f), set, t, count, sums) {
                         return false;
                     }
                 }
@@ -83,14 +87,15 @@ fn types_good(s: &[u8], set: &[u8], t: &[usize], count: usize) -> bool
 }
 
 // Is a row without refusal 7?
-fn is_row_good(set: &[u8], t: &[usize], count: usize, row: usize) -> bool
+fn is_row_good(set: &[u8], t: &[usize], count: usize, sums: &[u64], row: usize) -> bool
+    requires { ⌜ now sums ≡ row-sums (now set) (now t) (length (now sums)) ⌝ }
     ensures { λ r. ⌜ r ≡ row-good (now (set .entry)) (now (t .entry)) count row ⌝ }
 {
     let kind = declarations::cell(t, row, 4);
     if kind == 0 {
         return true;
     }
-    if type_names::declared_before(set, t, row) {
+    if type_names::declared_before(set, t, sums, row) {
         return false;
     }
     if kind == 1 {
@@ -98,17 +103,18 @@ fn is_row_good(set: &[u8], t: &[usize], count: usize, row: usize) -> bool
     }
     let start = declarations::cell(t, row, 5);
     let end = declarations::cell(t, row, 6);
-    types_good(descriptor::part_of(set, start, end), set, t, count)
+    types_good(descriptor::part_of(set, start, end), set, t, count, sums)
 }
 
-// The file of the first of so many rows with refusal 7; the count of files where there is none.
-pub fn first_undeclared(set: &[u8], t: &[usize], count: usize) -> usize
+// The file of the first of so many rows with refusal 7; the count of files where there is none. `sums` has the checksums of the rows.
+pub fn first_undeclared(set: &[u8], t: &[usize], count: usize, sums: &[u64]) -> usize
+    requires { ⌜ now sums ≡ row-sums (now set) (now t) (length (now sums)) ⌝ }
     ensures { λ r. ⌜ r ≡ first-undeclared-row (now (set .entry)) (now (t .entry)) count ⌝ }
 {
     let files = parts::count_parts(set, 1);
     let mut i: usize = 0;
     while i < count {
-        if !is_row_good(set, t, count, i) {
+        if !is_row_good(set, t, count, sums, i) {
             return declarations::cell(t, i, 3);
         }
         i = i + 1;

@@ -34,7 +34,7 @@ pub record Listed {A : Type 0} (decode : Bytes → A) (set : List ℕ) (rs : Lis
 
 -- ---- the files' declarations
 
-rows-of-length : (Fs : List (Forest Place)) (file i : ℕ) → length (rows-of file i Fs) ≡ total Fs
+pub rows-of-length : (Fs : List (Forest Place)) (file i : ℕ) → length (rows-of file i Fs) ≡ total Fs
 unfolding rows-of total
 rows-of-length [] file i = refl
 rows-of-length (F ∷ Fs) file i =

@@ -96,6 +96,16 @@ unfolding fill
 fill-kept [] t i j h = refl
 fill-kept (r ∷ rs) t i j h = fill-kept rs (put t i r) (i + 1) j (omega arith) ∙ row-other t i j r (λ e. omega arith)
 
+-- and rows behind them
+fill-behind : (rs : List Row) (t : List ℕ) (i j : ℕ) → i + length rs ≤ j → row-in (fill t i rs) j ≡ row-in t j
+unfolding fill
+fill-behind [] t i j h = refl
+fill-behind (r ∷ rs) t i j h = fill-behind rs (put t i r) (i + 1) j (omega arith) ∙ row-other t i j r (λ e. omega arith)
+
+pub row-behind : (rs : List Row) (t : List ℕ) (i j : ℕ) → i + length rs ≤ j → row-at (fill t i rs) j ≡ row-at t j
+unfolding row-at
+row-behind rs t i j h = rw (fill-behind rs t i j h)
+
 abbrev pub no-row : Row
 no-row = record { start = 0; end = 0; file = 0; up = 0; after = 0 }
 

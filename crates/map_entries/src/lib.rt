@@ -8,6 +8,7 @@ ghost use Rattle.base.specs.Lists.{all-of};
 ghost use Rattle.descriptor.specs.Descriptor.{Bytes};
 ghost use Rattle.descriptor.specs.Decode.{entries, parts};
 ghost use Rattle.descriptor.specs.Views.{field-of};
+ghost use Rattle.type_names.specs.LookUp.{row-sums};
 ghost use Rattle.map_entries.specs.Named.{is-mapping, part-use, row-uses, joined, noted, noted-rows, tally, naming, parent-kind, is-entry-row, row-named, first-unnamed};
 use descriptor::FieldView;
 use wire::Step;
@@ -64,13 +65,23 @@ fn note(who: &mut [usize], i: usize, v: usize)
 }
 
 // A field that says `v` names the rows with this full name.
-fn note_rows(set: &[u8], t: &[usize], count: usize, name: &[u8], v: usize, who: &mut [usize])
+fn note_rows(
+    set: &[u8],
+    t: &[usize],
+    count: usize,
+    sums: &[u64],
+    name: &[u8],
+    v: usize,
+    who: &mut [usize],
+)
+    requires { ⌜ now sums ≡ row-sums (now set) (now t) (length (now sums)) ⌝ }
     ensures { λ _. ⌜ now (who .exit) ≡ noted-rows (now (set .entry)) (now (t .entry)) (now (name .entry)) v count (now (who .entry)) ⌝ }
 {
+    let sum = checksums::checksum(name);
     let mut i: usize = 0;
     while i < count {
         let next = i + 1;
-        if type_names::is_named(set, t, name, i) {
+        if type_names::is_named(set, t, sums, name, sum, i) {
             note(who, i, v);
         }
         i = next;
@@ -78,8 +89,17 @@ fn note_rows(set: &[u8], t: &[usize], count: usize, name: &[u8], v: usize, who: 
 }
 
 // A field in a message of this kind.
-fn note_field(set: &[u8], t: &[usize], count: usize, s: &[u8], kind: usize, who: &mut [usize])
+fn note_field(
+    set: &[u8],
+    t: &[usize],
+    count: usize,
+    sums: &[u64],
+    s: &[u8],
+    kind: usize,
+    who: &mut [usize],
+)
     requires { ⌜ 2 ≤ kind ⌝ }
+    requires { ⌜ now sums ≡ row-sums (now set) (now t) (length (now sums)) ⌝ }
     ensures { λ _. ⌜ now (who .exit) ≡ tally (now (set .entry)) (now (t .entry)) count (part-use (kind - 2) (now (s .entry))) (now (who .entry)) ⌝ }
 {
     let end = s.len();
@@ -89,12 +109,21 @@ fn note_field(set: &[u8], t: &[usize], count: usize, s: &[u8], kind: usize, who:
         return;
     }
     let v = vote_of(kind, maps(view));
-    note_rows(set, t, count, name_rules::text_bytes(s, name), v, who);
+    note_rows(set, t, count, sums, name_rules::text_bytes(s, name), v, who);
 }
 
 // The fields of a message.
-fn note_fields(set: &[u8], t: &[usize], count: usize, s: &[u8], kind: usize, who: &mut [usize])
+fn note_fields(
+    set: &[u8],
+    t: &[usize],
+    count: usize,
+    sums: &[u64],
+    s: &[u8],
+    kind: usize,
+    who: &mut [usize],
+)
     requires { ⌜ 2 ≤ kind ⌝ }
+    requires { ⌜ now sums ≡ row-sums (now set) (now t) (length (now sums)) ⌝ }
     ensures { λ _. ⌜ now (who .exit) ≡ tally (now (set .entry)) (now (t .entry)) count (all-of (part-use (kind - 2)) (parts 2 (entries (now (s .entry))))) (now (who .entry)) ⌝ }
 {
     let mut at: usize = 0;
@@ -105,7 +134,7 @@ fn note_fields(set: &[u8], t: &[usize], count: usize, s: &[u8], kind: usize, who
             Step::Found(f) => {
                 at = f.next;
                 if f.number == 2 {
-                    note_field(set, t, count, parts::embedded(s, f), kind, who);
+                    note_field(set, t, count, sums, parts::embedded(s, f), kind, who);
                 }
             }
         }
@@ -113,7 +142,8 @@ fn note_fields(set: &[u8], t: &[usize], count: usize, s: &[u8], kind: usize, who
 }
 
 // The fields of the message in row `i`, where it is one.
-fn note_row(set: &[u8], t: &[usize], count: usize, i: usize, who: &mut [usize])
+fn note_row(set: &[u8], t: &[usize], count: usize, sums: &[u64], i: usize, who: &mut [usize])
+    requires { ⌜ now sums ≡ row-sums (now set) (now t) (length (now sums)) ⌝ }
     ensures { λ _. ⌜ now (who .exit) ≡ tally (now (set .entry)) (now (t .entry)) count (row-uses (now (set .entry)) (now (t .entry)) i) (now (who .entry)) ⌝ }
 {
     let kind = declarations::cell(t, i, 4);
@@ -123,7 +153,7 @@ fn note_row(set: &[u8], t: &[usize], count: usize, i: usize, who: &mut [usize])
     let start = declarations::cell(t, i, 5);
     let end = declarations::cell(t, i, 6);
     let s = descriptor::part_of(set, start, end);
-    note_fields(set, t, count, s, kind, who);
+    note_fields(set, t, count, sums, s, kind, who);
 }
 
 fn clear(who: &mut [usize])
@@ -137,14 +167,15 @@ fn clear(who: &mut [usize])
 }
 
 // For each of so many rows: 0 where no field names it, a message's kind where all that do are repeated message fields of that
-// message, and 1 where there are others.
-pub fn note_set(set: &[u8], t: &[usize], count: usize, who: &mut [usize])
+// message, and 1 where there are others. `sums` has the checksums of the rows.
+pub fn note_set(set: &[u8], t: &[usize], count: usize, sums: &[u64], who: &mut [usize])
+    requires { ⌜ now sums ≡ row-sums (now set) (now t) (length (now sums)) ⌝ }
     ensures { λ _. ⌜ now (who .exit) ≡ naming (now (set .entry)) (now (t .entry)) count (length (now (who .entry))) ⌝ }
 {
     clear(who);
     let mut i: usize = 0;
     while i < count {
-        note_row(set, t, count, i, who);
+        note_row(set, t, count, sums, i, who);
         i = i + 1;
     }
 }

@@ -13,7 +13,7 @@ use Rattle.options.specs.Settings.{Setting, settings}
 use Rattle.joined.specs.Joined.{used, sliced}
 use Rattle.table_says.specs.Says.{Says}
 use Rattle.set_tables.specs.Filled.{message-numbers, field-numbers}
-use Rattle.set_tables.proofs.TablesSay.{tables-say}
+use Rattle.set_tables.proofs.TablesSay.{tables-say, all-messages, all-fields}
 use Rattle.place_rows.specs.PlaceRows.{set-rows}
 use Rattle.package_names.specs.Packages.{packages-meet, packages-stand}
 use Rattle.member_rows.specs.MemberRows.{rows-overlap, set-meets}
@@ -53,7 +53,7 @@ module _ (rs : List Setting) (room : ℕ) (set messages t : List ℕ) (a : Bool)
 module _ (set o : Bytes) (accepted : Accepted set) (messages fields : List ℕ) (m n : ℕ) (messages-are : messages ≡ message-numbers m set o) (fields-are : fields ≡ field-numbers n set o) (wide : m ≡ 1024) (long : n ≡ 16384)
     (room : ℕ) (rows : room ≡ 1081344) (d : Bool) (is : d ≡ names-differ (settings o) room set messages fields) where
   says : Says (settings o) set messages fields
-  says = rw (messages-are, fields-are) (tables-say set o (accepted .limits) (accepted .named) m n (omega arith) (omega arith))
+  says = rw (messages-are, fields-are) (tables-say set o (accepted .limits) (accepted .named) m n (let few = all-messages set (accepted .limits) in omega arith) (let room = all-fields set (accepted .limits) (accepted .named) in omega arith))
 
   pub answered : given (choose d 1 0) ≡ checked set o
   unfolding checked yes-or-no

@@ -1,8 +1,8 @@
--- Refusals 6 and 7 of a set within the limits, by the table of its declarations. Assumes nothing.
+-- Refusals 6 and 7 of a set, by a table that has room for its declarations. Assumes nothing.
 use mathlib.Core.Path.{_≡_, refl, sym, ap, _∙_}
 use mathlib.Core.Bool.{Bool, true, false}
 use mathlib.Core.List.{List}
-use Prim.Native.Nat.{ℕ, _+_, _≤_, _<_, min}
+use Prim.Native.Nat.{ℕ, _+_, _*_, _≤_, _<_, min}
 use native.Mathlib.Omega.{arith}
 use lib.Dec.{ltb}
 use lib.ListN.{length}
@@ -11,7 +11,6 @@ use Rattle.base.specs.Choose.{choose}
 use Rattle.base.specs.Lists.{first-failing, map-length}
 use Rattle.descriptor.specs.Descriptor.{Bytes, FileDescriptor}
 use Rattle.descriptor.specs.Decode.{entries, parts, decode-file, decode-set}
-use Rattle.descriptor.specs.Limits.{limit-passed}
 use Rattle.name_rules.specs.Rules.{file-good}
 use Rattle.name_rules.specs.Answer.{first-six, first-seven, names}
 use Rattle.name_rules.specs.declared.Names.{Names}
@@ -25,27 +24,30 @@ use Rattle.declared_types.proofs.SevenLaws.{first-undeclared-is}
 use Rattle.map_entries.specs.Named.{naming, first-unnamed}
 use Rattle.map_entries.proofs.FailingLaws.{first-six-is}
 use Rattle.map_entries.proofs.UnnamedTheorem.{table-unnamed}
-use Rattle.set_rules.proofs.RowCounts.{few-rows}
+use Rattle.set_rules.specs.Room.{Room, row-count}
 
-module _ (bytes : Bytes) (limit : limit-passed bytes ≡ 0) where
-  module _ (t u : List ℕ) (c : Count) (became : Became (declared bytes t) u c) (wide : length t ≡ 3815) where
+module _ (bytes : Bytes) where
+  module _ (t column u : List ℕ) (there : Room bytes t column) (c : Count) (became : Became (declared bytes t) u c) where
+    fewer : (row-count bytes ≤ 65536) × (row-count bytes * 7 ≤ length t)
+    fewer = let s = there .small in let w = there .wide in (omega arith, omega arith)
+
     lists : listed bytes u (c .rows) ≡ listed-files 0 0 (decode-set bytes)
-    lists = ap (λ (x : State). listed bytes (x .table) (x .rows)) (became .is) ∙ set-listed bytes t 544 (omega arith) (omega arith) (few-rows bytes limit)
+    lists = ap (λ (x : State). listed bytes (x .table) (x .rows)) (became .is) ∙ set-listed bytes t (row-count bytes) (fewer .0) (fewer .1) (omega arith)
 
-    room : (has-room u (c .rows) ≡ true) × (c .rows ≤ 544)
+    room : (has-room u (c .rows) ≡ true) × (c .rows ≤ row-count bytes)
     room =
-        let r = set-room bytes t 544 (omega arith) (omega arith) (few-rows bytes limit) in
+        let r = set-room bytes t (row-count bytes) (there .small) (there .wide) (omega arith) in
         (ap (λ (x : State). has-room (x .table) (x .rows)) (became .is) ∙ r .0, (let e = ap (λ (x : State). x .rows) (became .is) in let q = r .1 in omega arith))
 
-    pub six-is : (named : List ℕ) (size bad unnamed six : ℕ) → size ≡ 545 → named ≡ naming bytes u (c .rows) size → bad ≡ first-failing file-good (decode-set bytes)
+    pub six-is : (named : List ℕ) (bad unnamed six : ℕ) → named ≡ naming bytes u (c .rows) (length column) → bad ≡ first-failing file-good (decode-set bytes)
         → unnamed ≡ first-unnamed bytes u (c .rows) named → six ≡ min bad unnamed → six ≡ first-six (decode-set bytes)
-    six-is named size bad unnamed six long n b u-is s =
-        let fit : c .rows ≤ size = (let r = room .1 in omega arith) in
-        let e = u-is ∙ ap (first-unnamed bytes u (c .rows)) n ∙ table-unnamed bytes t u c size became (room .0) lists fit in
+    six-is named bad unnamed six n b u-is s =
+        let fit : c .rows ≤ length column = (let r = room .1 in let l = there .long in omega arith) in
+        let e = u-is ∙ ap (first-unnamed bytes u (c .rows)) n ∙ table-unnamed bytes t u c (length column) became (room .0) lists fit in
         s ∙ rw (b, e) (sym (first-six-is (decode-set bytes)))
 
     pub seven-is : (seven : ℕ) → seven ≡ first-undeclared-row bytes u (c .rows) → seven ≡ first-seven (decode-set bytes)
-    seven-is seven s = s ∙ ap (λ (x : State). first-undeclared-row bytes (x .table) (x .rows)) (became .is) ∙ first-undeclared-is bytes t 544 (omega arith) (omega arith) (few-rows bytes limit)
+    seven-is seven s = s ∙ ap (λ (x : State). first-undeclared-row bytes (x .table) (x .rows)) (became .is) ∙ first-undeclared-is bytes t (row-count bytes) (fewer .0) (fewer .1) (omega arith)
 
   files-are : (files : ℕ) → files ≡ length (parts 1 (entries bytes)) → files ≡ length (decode-set bytes)
   unfolding decode-set

@@ -1,8 +1,8 @@
--- A set within the limits has 544 files and declarations at most. Assumes nothing.
+-- A set within the limits has 544 files and declarations at most, and one of 300 bytes 150. Assumes nothing.
 use mathlib.Core.Path.{_≡_, refl, sym, ap, _∙_}
 use mathlib.Core.Bool.{Bool, true, false}
 use mathlib.Core.List.{List, [], _∷_, _++_, map, append-assoc}
-use Prim.Native.Nat.{ℕ, suc, _+_, _≤_}
+use Prim.Native.Nat.{ℕ, suc, _+_, _*_, _≤_}
 use native.Mathlib.Omega.{arith}
 use lib.Dec.{ltb}
 use lib.ListN.{length, length-append}
@@ -15,6 +15,9 @@ use Rattle.descriptor.specs.Limits.{max-files, max-messages, max-enums, message
 use Rattle.name_rules.specs.FullNames.{Entry, set-entries, package-scope}
 use Rattle.declarations.specs.Listed.{Listed, file-entries, listed-enums, listed-entries, listed-file, listed-files}
 use Rattle.field_columns.proofs.EntryLaws.{set-messages}
+use Rattle.limits.specs.Short.{short}
+use Rattle.limits.proofs.Sizes.{declarations-short}
+use Rattle.set_rules.specs.Room.{Room, row-count}
 
 all-of-append {ℓ κ} : {A : Type ℓ} {B : Type κ} (g : A → List B) (xs ys : List A) → all-of g (xs ++ ys) ≡ all-of g xs ++ all-of g ys
 unfolding all-of
@@ -76,7 +79,7 @@ unfolding choose
 not-passed true k n e = absurd (omega arith)
 not-passed false k n e = (refl, e)
 
-pub few-rows : (set : Bytes) → limit-passed set ≡ 0 → length (decode-set set) + length (listed-files 0 0 (decode-set set)) ≤ 544
+pub few-rows : (set : Bytes) → limit-passed set ≡ 0 → row-count set ≤ 544
 unfolding limit-passed limit-of-files
 few-rows set e =
     let one = not-passed (passes-1 set) 0 _ e in
@@ -89,3 +92,13 @@ few-rows set e =
     let enums = ltb-false max-enums (length (enums-in (decode-set set))) (five .0) in
     let count = declarations-counted (decode-set set) in
     omega arith
+
+pub short-rows : (set : Bytes) → row-count set * 2 ≤ length set
+short-rows set = let all = declarations-short set in let count = declarations-counted (decode-set set) in omega arith
+
+-- so these tables have room
+pub room-within : (set : Bytes) (t column : List ℕ) → limit-passed set ≡ 0 → 545 * 7 ≤ length t → 544 ≤ length column → Room set t column
+room-within set t column e wide long = let few = few-rows set e in record { small = omega arith; wide = omega arith; long = omega arith }
+
+pub room-short : (set : Bytes) (t column : List ℕ) → length set ≤ short → 151 * 7 ≤ length t → 150 ≤ length column → Room set t column
+room-short set t column short wide long = let few = short-rows set in record { small = omega arith; wide = omega arith; long = omega arith }

@@ -1,1 +1,2 @@
 pub mod Judge
+pub mod Room

@@ -1,3 +1,4 @@
 pub mod ZeroLaws
 pub mod FillLaws
+pub mod EntryLaws
 pub mod TablesSay

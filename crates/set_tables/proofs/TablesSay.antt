@@ -4,12 +4,15 @@ use mathlib.Core.Bool.{true, false, _||_}
 use mathlib.Core.List.{List, [], _++_}
 use Prim.Native.Nat.{ℕ, _+_, _*_, _-_, _≤_, _<_, min}
 use native.Mathlib.Omega.{arith}
+use lib.Dec.{ltb}
 use lib.ListN.{length, getD, List·getD-append}
+use borrow.Author.Tests.{ltb-false}
+use Rattle.base.specs.Choose.{choose-case}
 use Rattle.base.specs.Lists.{map-length}
 use Rattle.writer.specs.Wrote.{Wrote, after}
 use Rattle.descriptor.specs.Descriptor.{FileDescriptor}
 use Rattle.descriptor.specs.Decode.{decode-field, decode-set}
-use Rattle.descriptor.specs.Limits.{fields-in, limit-passed}
+use Rattle.descriptor.specs.Limits.{messages-in, fields-in, limit-passed}
 use Rattle.options.specs.Settings.{Setting, settings}
 use Rattle.name_rules.specs.Accessors.{is-repeated, is-message, is-group}
 use Rattle.name_rules.specs.FullNames.{Entry, set-entries}
@@ -19,13 +22,17 @@ use Rattle.index.specs.Tree.{Holds, all-members, row-at, row-bytes}
 use Rattle.index.specs.declared.Row as index-row
 use Rattle.index.proofs.SetLaws.{MessageTable, messages-counted, messages-there, fields-hold}
 use Rattle.message_graph.specs.Tab.{tab, length-tab, tab-at}
+use Rattle.declarations.specs.Rows.{declared}
 use Rattle.declarations.specs.Listed.{listed, listed-files}
 use Rattle.declarations.proofs.SetLaws.{set-listed, set-room}
 use Rattle.boxed_settings.specs.Flags.{set-flags}
 use Rattle.context_laws.specs.At.{At, at-within}
 use Rattle.context_laws.specs.Tables.{Row, rows-of, number-of, type-name-of, Sound}
 use Rattle.context_laws.specs.SoundSets.{sound-set}
-use Rattle.set_rules.proofs.RowCounts.{few-rows}
+use Rattle.field_columns.proofs.EntryLaws.{set-messages}
+use Rattle.limits.proofs.Sizes.{declarations-short}
+use Rattle.set_rules.specs.Room.{row-count}
+use Rattle.set_rules.proofs.RowCounts.{few-rows, short-rows}
 use Rattle.text_tables.specs.Rows.{field-row}
 use Rattle.table_says.specs.Says.{PlaceSays, Says}
 use Rattle.context_tables.specs.Cells.{message-table, field-table}
@@ -35,8 +42,10 @@ use Rattle.table_laws.specs.AfterLaws.{set-afters}
 use Rattle.table_laws.specs.NodeLaws.{MapField, entry-typed, nodes-say}
 use Rattle.table_laws.specs.TableTheorems.{message-table-says, message-table-after, field-table-says, field-table-place, field-table-no-place, field-table-lies}
 use Rattle.targets.proofs.TargetTheorem.{target-is}
-use Rattle.set_tables.specs.Filled.{most-fields, zeros, message-places, message-count, field-places, field-count, declarations-in, target-in, setting-bytes, columns-at, columns-to, settings-to, columned, entries-by, message-numbers, field-numbers}
+use Rattle.limits.specs.Short.{short}
+use Rattle.set_tables.specs.Filled.{most-fields, declaration-cells, zeros, message-places, message-count, field-places, field-count, target-by, target-in, setting-bytes, columns-at, columns-to, settings-to, columned, entries-by, message-numbers, field-numbers}
 use Rattle.set_tables.proofs.ZeroLaws.{zeros-length}
+use Rattle.set_tables.proofs.FillLaws.{few-there, fields-few}
 
 -- a row of a table is that of its front
 row-before : (a b : List ℕ) (k : ℕ) → k * 8 + 7 < length a → field-row (a ++ b) k ≡ field-row a k
@@ -44,6 +53,22 @@ unfolding field-row
 row-before a b k h =
     let at : (j : ℕ) → j < 8 → getD (a ++ b) (k * 8 + j) 0 ≡ getD a (k * 8 + j) 0 = λ j l. List·getD-append a b 0 (k * 8 + j) (omega arith) in
     rw (List·getD-append a b 0 (k * 8) (omega arith), at 1 (omega arith), at 2 (omega arith), at 3 (omega arith), at 4 (omega arith), at 5 (omega arith), at 6 (omega arith), at 7 (omega arith))
+
+-- ---- what is filled has room
+
+fields-fit : (set : List ℕ) → limit-passed set ≡ 0 → length (fields-in (decode-set set)) ≤ most-fields set
+unfolding most-fields
+fields-fit set passed =
+    choose-case (λ (k : ℕ). length (fields-in (decode-set set)) ≤ k) (ltb short (length set))
+    (λ h. within-limits set passed .fields)
+    (λ h. let few = declarations-short set in let size = ltb-false short (length set) h in omega arith)
+
+rows-fit : (set : List ℕ) → limit-passed set ≡ 0 → (row-count set + 1) * 7 ≤ declaration-cells set
+unfolding declaration-cells
+rows-fit set passed =
+    choose-case (λ (k : ℕ). (row-count set + 1) * 7 ≤ k) (ltb short (length set))
+    (λ h. let few = few-rows set passed in omega arith)
+    (λ h. let few = short-rows set in let size = ltb-false short (length set) h in omega arith)
 
 module _ (set o : List ℕ) (passed : limit-passed set ≡ 0) (good : names (decode-set set) ≡ Good) where
   abbrev ds : List FileDescriptor
@@ -77,7 +102,7 @@ module _ (set o : List ℕ) (passed : limit-passed set ≡ 0) (good : names (dec
       let size = zeros-length 1280 in
       messages-there set (zeros 1280) _ _ (limits .small) (omega arith) (omega arith) (record { table = refl; counted = refl })
 
-  field-rows : Holds (all-members set 2 rows (message-count set) 0) (zeros 10240) 0 fields n
+  field-rows : Holds (all-members set 2 rows (message-count set) 0) (zeros (most-fields set * 5)) 0 fields n
   unfolding field-places field-count
   field-rows = record { table = refl; counted = omega arith }
 
@@ -87,47 +112,54 @@ module _ (set o : List ℕ) (passed : limit-passed set ≡ 0) (good : names (dec
       sym (map-length (λ (r : index-row.Row). decode-field (row-bytes set r)) (all-members set 2 rows (message-count set) 0))
       ∙ ap length (fields-hold set rows (message-count set) message-table-is .decoded)
 
-  few-fields : n ≤ most-fields
-  few-fields = let counted = fields-counted in let few = limits .fields in omega arith
+  few-fields : n ≤ most-fields set
+  few-fields = rw fields-counted (fields-fit set passed)
 
-  field-room : n * 5 ≤ length (zeros 10240)
-  field-room = let few = few-fields in let size = zeros-length 10240 in omega arith
+  field-room : n * 5 ≤ length (zeros (most-fields set * 5))
+  field-room = let few = few-fields in let size = zeros-length (most-fields set * 5) in omega arith
 
   below : {r : Row} {k : ℕ} → At r (rows-of es) k → k < n
   below p = let within = at-within p in let counted = fields-counted in let rows-are = rows-counted ds in omega arith
 
   -- ---- the columns
 
-  lists : listed set (declarations-in set .table) (declarations-in set .rows) ≡ listed-files 0 0 ds
-  unfolding declarations-in
-  lists = let size = zeros-length 3815 in set-listed set (zeros 3815) 544 (omega arith) (omega arith) (few-rows set passed)
+  abbrev table : List ℕ
+  table = zeros (declaration-cells set)
 
-  few-declarations : declarations-in set .rows ≤ 65536
-  unfolding declarations-in
+  table-wide : (row-count set + 1) * 7 ≤ length table
+  table-wide = let size = zeros-length (declaration-cells set) in let fit = rows-fit set passed in omega arith
+
+  lists : listed set (declared set table .table) (declared set table .rows) ≡ listed-files 0 0 ds
+  lists = let wide = table-wide in let few = few-rows set passed in set-listed set table (row-count set) (omega arith) (omega arith) (omega arith)
+
+  few-declarations : declared set table .rows ≤ 65536
   few-declarations =
-      let size = zeros-length 3815 in
-      let few = set-room set (zeros 3815) 544 (omega arith) (omega arith) (few-rows set passed) .1 in
+      let few = few-rows set passed in
+      let rows-are = set-room set table (row-count set) (omega arith) table-wide (omega arith) .1 in
       omega arith
 
   targets : (r : Row) (k : ℕ) → At r (rows-of es) k → (is-message (r .field) || is-group (r .field)) ≡ true → getD (tab n (target-in set fields)) k 0 ≡ number-of es (type-name-of r)
-  unfolding target-in
+  unfolding target-by
   targets r k p is =
       tab-at n (target-in set fields) 0 k (below p)
-      ∙ target-is set (declarations-in set .table) (declarations-in set .rows) few-declarations lists rows (message-count set) message-table-is (zeros 10240) fields n field-rows field-room (limits .messages) good r k p is
+      ∙ target-is set (declared set table .table) (declared set table .rows) few-declarations lists rows (message-count set) message-table-is (zeros (most-fields set * 5)) fields n field-rows field-room (limits .messages) good r k p is
 
-  wrote : Wrote (zeros most-fields) 0 (set-flags rs set) (setting-bytes set o) (after 0 (length (set-flags rs set)))
+  wrote : Wrote (zeros (most-fields set)) 0 (set-flags rs set) (setting-bytes set o) (after 0 (length (set-flags rs set)))
   unfolding setting-bytes
-  wrote = record { room = (let size = zeros-length most-fields in omega arith); text = refl; next = refl }
+  wrote = record { room = (let size = zeros-length (most-fields set) in let few = fields-few set in omega arith); text = refl; next = refl }
 
-  space : n ≤ length (zeros most-fields)
-  space = let few = few-fields in let size = zeros-length most-fields in omega arith
+  space : n ≤ length (zeros (most-fields set))
+  space = let few = few-fields in let size = zeros-length (most-fields set) in omega arith
 
   -- ---- the rows
 
   sound : Sound es
   sound = sound-set ds (limits .messages) good
 
-  module _ (message-size field-size : ℕ) (message-room : 1024 ≤ message-size) (numbers-room : 16384 ≤ field-size) where
+  entries-counted : length es ≡ length (messages-in ds)
+  entries-counted = sym (map-length (λ (e : Entry). e .message) es) ∙ ap length (set-messages ds)
+
+  module _ (message-size field-size : ℕ) (message-room : length (messages-in ds) * 4 ≤ message-size) (numbers-room : n * 8 ≤ field-size) where
     abbrev messages-to : ℕ → List ℕ
     messages-to k = message-table message-size rows fields n (columns-to k set) (settings-to k set o)
 
@@ -139,10 +171,10 @@ module _ (set o : List ℕ) (passed : limit-passed set ≡ 0) (good : names (dec
     fields-to k = rows-to k ++ zeros (field-size - min (k * 8) field-size)
 
     message-fits : {e : Entry} {i : ℕ} → At e es i → i * 4 + 3 < message-size
-    message-fits p = let within = at-within p in let few = sound .few in omega arith
+    message-fits p = let within = at-within p in let counted = entries-counted in omega arith
 
     field-fits : {r : Row} {k : ℕ} → At r (rows-of es) k → k * 8 + 7 < min (n * 8) field-size
-    field-fits p = let less = below p in let few = few-fields in omega arith
+    field-fits p = let less = below p in omega arith
 
     row-is : {r : Row} {k : ℕ} → At r (rows-of es) k → field-row (fields-to n) k ≡ field-row (rows-to n) k
     unfolding field-table
@@ -153,32 +185,32 @@ module _ (set o : List ℕ) (passed : limit-passed set ≡ 0) (good : names (dec
     unfolding columns-at settings-to
     place r k p is e j q typed =
         rw (row-is p)
-        (field-table-place set rows (message-count set) message-table-is (zeros 10240) fields n field-rows field-room passed good (tab n (target-in set fields)) targets rs (zeros most-fields) (setting-bytes set o) _ wrote space p is q typed (min (n * 8) field-size) n (field-fits p))
+        (field-table-place set rows (message-count set) message-table-is (zeros (most-fields set * 5)) fields n field-rows field-room passed good (tab n (target-in set fields)) targets rs (zeros (most-fields set)) (setting-bytes set o) _ wrote space p is q typed (min (n * 8) field-size) n (field-fits p))
 
     no-place : (r : Row) (k : ℕ) → At r (rows-of es) k → is-message (r .field) ≡ false → (field-row (fields-to n) k .entry ≡ 0) × (field-row (fields-to n) k .entryend ≡ 0)
     unfolding columns-at settings-to
     no-place r k p is =
         rw (row-is p)
-        (field-table-no-place set rows (message-count set) message-table-is (zeros 10240) fields n field-rows field-room passed good (tab n (target-in set fields)) targets rs (zeros most-fields) (setting-bytes set o) _ wrote space p is (min (n * 8) field-size) n (field-fits p))
+        (field-table-no-place set rows (message-count set) message-table-is (zeros (most-fields set * 5)) fields n field-rows field-room passed good (tab n (target-in set fields)) targets rs (zeros (most-fields set)) (setting-bytes set o) _ wrote space p is (min (n * 8) field-size) n (field-fits p))
 
     all-say : Says rs set (messages-to n) (fields-to n)
     unfolding columns-at settings-to
     all-say =
         record {
-          message = λ e i p. message-table-says set rows (message-count set) message-table-is (zeros 10240) fields n field-rows field-room passed good (tab n (target-in set fields)) targets rs (zeros most-fields) (setting-bytes set o) _ wrote space p message-size (message-fits p);
-          field = λ r k p. rw (row-is p) (field-table-says set rows (message-count set) message-table-is (zeros 10240) fields n field-rows field-room passed good (tab n (target-in set fields)) targets rs (zeros most-fields) (setting-bytes set o) _ wrote space p (min (n * 8) field-size) n (field-fits p) (below p) (entries-by set rows));
-          lies = λ r k p. rw (row-is p) (field-table-lies set rows (message-count set) message-table-is (zeros 10240) fields n field-rows field-room passed good (tab n (target-in set fields)) targets rs (zeros most-fields) (setting-bytes set o) _ wrote space p (min (n * 8) field-size) n (field-fits p) (entries-by set rows));
+          message = λ e i p. message-table-says set rows (message-count set) message-table-is (zeros (most-fields set * 5)) fields n field-rows field-room passed good (tab n (target-in set fields)) targets rs (zeros (most-fields set)) (setting-bytes set o) _ wrote space p message-size (message-fits p);
+          field = λ r k p. rw (row-is p) (field-table-says set rows (message-count set) message-table-is (zeros (most-fields set * 5)) fields n field-rows field-room passed good (tab n (target-in set fields)) targets rs (zeros (most-fields set)) (setting-bytes set o) _ wrote space p (min (n * 8) field-size) n (field-fits p) (below p) (entries-by set rows));
+          lies = λ r k p. rw (row-is p) (field-table-lies set rows (message-count set) message-table-is (zeros (most-fields set * 5)) fields n field-rows field-room passed good (tab n (target-in set fields)) targets rs (zeros (most-fields set)) (setting-bytes set o) _ wrote space p (min (n * 8) field-size) n (field-fits p) (entries-by set rows));
           place = place;
           no-place = no-place;
           nodes = nodes-say set (messages-to n) (fields-to n) sound good (λ j. row-at rows j .after) (set-afters set rows (message-count set) message-table-is)
-              (λ e i p. message-table-after set rows (message-count set) message-table-is (zeros 10240) fields n field-rows field-room passed good (tab n (target-in set fields)) targets rs (zeros most-fields) (setting-bytes set o) _ wrote space p message-size (message-fits p))
+              (λ e i p. message-table-after set rows (message-count set) message-table-is (zeros (most-fields set * 5)) fields n field-rows field-room passed good (tab n (target-in set fields)) targets rs (zeros (most-fields set)) (setting-bytes set o) _ wrote space p message-size (message-fits p))
               place no-place;
         }
 
     whole : columned set ≡ n
     whole = let few = few-fields in omega arith
 
-    -- with room for 256 messages and 2,048 fields
+    -- with room for the messages and fields there are
     pub tables-say : Says rs set (message-numbers message-size set o) (field-numbers field-size set o)
     unfolding message-numbers field-numbers
     tables-say = subst (λ (k : ℕ). Says rs set (messages-to k) (fields-to k)) (sym whole) all-say
@@ -189,3 +221,14 @@ pub only-map-fields : (set : List ℕ) → limit-passed set ≡ 0 → names (dec
 only-map-fields set passed good =
     entry-typed (decode-set set) (sound set [] passed good) good (λ j. row-at (message-places set) j .after)
     (set-afters set (message-places set) (message-count set) (message-table-is set [] passed good))
+
+-- the numbers that the rows of the messages take
+pub all-messages : (set : List ℕ) → limit-passed set ≡ 0 → length (messages-in (decode-set set)) * 4 ≤ min (length set * 2) 1024
+all-messages set passed = let few = within-limits set passed .messages in let short = declarations-short set in omega arith
+
+-- and those of the fields
+pub all-fields : (set : List ℕ) → limit-passed set ≡ 0 → names (decode-set set) ≡ Good → field-count set * 8 ≤ 16384
+all-fields set passed good = let counted = fields-counted set [] passed good in let few = within-limits set passed .fields in omega arith
+
+pub short-fields : (set : List ℕ) → limit-passed set ≡ 0 → names (decode-set set) ≡ Good → length set ≤ short → field-count set * 8 ≤ 1200
+short-fields set passed good h = let few = few-fields set [] passed good in let most = few-there set h in omega arith

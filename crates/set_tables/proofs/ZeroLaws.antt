@@ -1,11 +1,11 @@
 -- Tables of zeros; and without a row of kind 4 no field has a boxed setting. Assumes nothing.
-use mathlib.Core.Path.{_≡_, refl, sym, ap, _∙_}
+use mathlib.Core.Path.{_≡_, refl, sym, ap}
 use mathlib.Core.Bool.{Bool, true, false, _&&_}
 use mathlib.Core.List.{List, [], _∷_, _++_}
 use Prim.Native.Nat.{ℕ, zero, suc, _+_, _-_}
 use native.Mathlib.Nat.{sub-zero, zero-sub, suc-sub-suc}
 use lib.Dec.{eqb}
-use lib.ListN.{length, length-replicate, set, drop, replicate}
+use lib.ListN.{length, length-replicate, getD, set, drop, replicate}
 use Rattle.base.specs.Choose.{choose}
 use Rattle.writer.specs.Wrote.{over}
 use Rattle.descriptor.specs.Descriptor.{Bytes}
@@ -32,6 +32,12 @@ drop-zeros (suc k) (suc n) = rw suc-sub-suc (drop-zeros k n)
 pub fresh-zeros : (n : ℕ) → replicate n 0 ≡ zeros (length {A = ℕ} (replicate n 0))
 unfolding zeros
 fresh-zeros n = ap (λ (m : ℕ). replicate m 0) (sym (length-replicate {A = ℕ} n 0))
+
+pub zeros-at : (n x : ℕ) → getD (zeros n) x 0 ≡ 0
+unfolding zeros
+zeros-at zero x = refl
+zeros-at (suc n) zero = refl
+zeros-at (suc n) (suc x) = zeros-at n x
 
 -- ---- a text of zeros
 
@@ -95,6 +101,6 @@ module _ (rs : List Setting) (unset : (first-of-kind 4 0 rs) .found ≡ false) w
   unfolding set-flags file-flags
   set-blank set = blank-walked (file-flags rs) stay (λ x p. messages-blank 16 _ _) 0 _
 
-pub unset-bytes : (set o : Bytes) → (first-of-kind 4 0 (settings o)) .found ≡ false → zeros most-fields ≡ setting-bytes set o
+pub unset-bytes : (set o : Bytes) → (first-of-kind 4 0 (settings o)) .found ≡ false → zeros (most-fields set) ≡ setting-bytes set o
 unfolding setting-bytes
-unset-bytes set o unset = sym (blank-over most-fields 0 (set-blank (settings o) unset set))
+unset-bytes set o unset = sym (blank-over (most-fields set) 0 (set-blank (settings o) unset set))

@@ -1,35 +1,77 @@
 // The two tables that the text's writers read, from the bytes of a set and of the options.
 ghost use mathlib.Core.Path.{_≡_};
-ghost use lib.ListN.{length, replicate};
+ghost use Prim.Native.Nat.{_≤_, _<_};
+ghost use lib.ListN.{length};
+ghost use Rattle.limits.specs.Short.{short};
 ghost use Rattle.message_graph.specs.Tab.{tab};
 ghost use Rattle.context_tables.specs.Cells.{is-set-at, message-table, field-table};
-ghost use Rattle.set_tables.specs.Filled.{zeros, target-in, setting-bytes, columns-at, settings-to, entries-by, Long, message-numbers, field-numbers};
+ghost use Rattle.field_columns.specs.Columns.{owner-at, column-at};
+ghost use Rattle.field_columns.specs.declared.Column.the-variants.{Kind, Label};
+ghost use Rattle.targets.specs.Targets.{target-at};
+ghost use Rattle.set_tables.specs.Filled.{most-fields, zeros, message-places, message-count, target-by, target-in, Ready, setting-bytes, columns-at, settings-to, Long, no-flags, EntriesBelow, entries-by, message-numbers, field-numbers};
+use limits::SHORT;
 use message_graph::Index;
 use message_graph::MESSAGES;
+use set_rules::CELLS;
+use set_rules::ROWS;
+use set_rules::SHORT_CELLS;
+use set_rules::SHORT_ROWS;
 
-// Limit 4.
+// Limit 4, and what a short set has at most.
 const FIELDS: usize = 2048;
 
-// Five numbers for each message, and for each field; seven for each file and each declaration, and for one more.
+const SHORT_FIELDS: usize = 150;
+
+// Five numbers for each message, and for each field.
 const MESSAGE_CELLS: usize = 1280;
 
 const FIELD_CELLS: usize = 10240;
 
-const DECLARATION_CELLS: usize = 3815;
+const SHORT_FIELD_CELLS: usize = 750;
+
+// The messages that the fields' types are, by a table of declarations; the checksums of its rows go into `sums`.
+fn targets_in(
+    set: &[u8],
+    fields: &[u16],
+    t: &[usize],
+    rows: usize,
+    sums: &mut [u64],
+    target: &mut [Index],
+)
+    ensures { λ _. ⌜ now (target .exit) ≡ tab (length (now (target .entry))) (target-at (now (set .entry)) (now (fields .entry)) (now (t .entry)) rows) ⌝ }
+{
+    type_names::fill_sums(set, t, sums);
+    targets::fill_targets(set, fields, t, rows, sums, target);
+}
+
+// The messages that the fields' types are, with a table for the declarations, and for the checksums of their names.
+fn targets_by(set: &[u8], fields: &[u16], t: &mut [usize], sums: &mut [u64], target: &mut [Index])
+    ensures { λ _. ⌜ now (target .exit) ≡ tab (length (now (target .entry))) (target-by (now (set .entry)) (now (fields .entry)) (now (t .entry))) ⌝ }
+{
+    let count = declarations::declare_set(set, t);
+    let rows = count.rows;
+    let n = writer::within(rows, sums.len());
+    targets_in(set, fields, t, rows, &mut sums[0..n], target);
+}
 
 // The messages that the fields' types are.
 fn fill_targets(set: &[u8], fields: &[u16], target: &mut [Index])
     ensures { λ _. ⌜ now (target .exit) ≡ tab (length (now (target .entry))) (target-in (now (set .entry)) (now (fields .entry))) ⌝ }
 {
-    let mut t = [0usize; DECLARATION_CELLS];
-    let count = declarations::declare_set(set, &mut t);
-    let rows = count.rows;
-    targets::fill_targets(set, fields, &t, rows, target);
+    if set.len() <= SHORT {
+        let mut t = [0usize; SHORT_CELLS];
+        let mut sums = [0u64; SHORT_ROWS];
+        targets_by(set, fields, &mut t, &mut sums, target);
+        return;
+    }
+    let mut t = [0usize; CELLS];
+    let mut sums = [0u64; ROWS];
+    targets_by(set, fields, &mut t, &mut sums, target);
 }
 
 // Its bytes, which are 0 so far, become those that have the boxed settings: without a row of kind 4 they stay as they are.
 fn put_settings(bytes: &mut [u8], set: &[u8], o: &[u8])
-    requires { ⌜ now bytes ≡ replicate 2048 0 ⌝ }
+    requires { ⌜ now bytes ≡ zeros (most-fields (now set)) ⌝ }
     ensures { λ _. ⌜ now (bytes .exit) ≡ setting-bytes (now (set .entry)) (now (o .entry)) ⌝ }
 {
     let row = options::find_kind(o, 4);
@@ -38,22 +80,69 @@ fn put_settings(bytes: &mut [u8], set: &[u8], o: &[u8])
     }
 }
 
+// The fields with a boxed setting, by bytes that are 0 so far.
+fn settings_by(bytes: &mut [u8], set: &[u8], o: &[u8], settings: &mut [bool])
+    requires { ⌜ now bytes ≡ zeros (most-fields (now set)) ⌝ }
+    ensures { λ _. ⌜ now (settings .exit) ≡ tab (length (now (settings .entry))) (is-set-at (setting-bytes (now (set .entry)) (now (o .entry)))) ⌝ }
+{
+    put_settings(bytes, set, o);
+    context_tables::fill_settings(bytes, settings);
+}
+
 // The fields with a boxed setting.
 fn fill_settings(set: &[u8], o: &[u8], settings: &mut [bool])
     ensures { λ _. ⌜ now (settings .exit) ≡ tab (length (now (settings .entry))) (is-set-at (setting-bytes (now (set .entry)) (now (o .entry)))) ⌝ }
 {
+    if set.len() <= SHORT {
+        let mut bytes = [0u8; SHORT_FIELDS];
+        settings_by(&mut bytes, set, o, settings);
+        return;
+    }
     let mut bytes = [0u8; FIELDS];
-    put_settings(&mut bytes, set, o);
-    context_tables::fill_settings(&bytes, settings);
+    settings_by(&mut bytes, set, o, settings);
 }
 
-// Both tables, of a set whose `n` fields have their places in `fields`; the columns are as long as there are fields that they go by.
+// The columns over the fields: the message of each, the message that its type is, its type, its label, and whether it has a boxed setting.
+fn fill_fields(
+    set: &[u8],
+    o: &[u8],
+    fields: &[u16],
+    owner: &mut [Index],
+    target: &mut [Index],
+    kind: &mut [u8],
+    label: &mut [u8],
+    settings: &mut [bool],
+)
+    ensures { λ _. ⌜ now (owner .exit) ≡ tab (length (now (owner .entry))) (owner-at (now (fields .entry))) ⌝ }
+    ensures { λ _. ⌜ now (target .exit) ≡ tab (length (now (target .entry))) (target-in (now (set .entry)) (now (fields .entry))) ⌝ }
+    ensures { λ _. ⌜ now (kind .exit) ≡ tab (length (now (kind .entry))) (column-at (now (set .entry)) (now (fields .entry)) Kind) ⌝ }
+    ensures { λ _. ⌜ now (label .exit) ≡ tab (length (now (label .entry))) (column-at (now (set .entry)) (now (fields .entry)) Label) ⌝ }
+    ensures { λ _. ⌜ now (settings .exit) ≡ tab (length (now (settings .entry))) (is-set-at (setting-bytes (now (set .entry)) (now (o .entry)))) ⌝ }
+{
+    field_columns::fill_owners(fields, owner);
+    fill_targets(set, fields, target);
+    field_columns::fill_columns(set, fields, kind, label);
+    fill_settings(set, o, settings);
+}
+
+// Which messages are map entries, in a table that has none so far: only the first `count` may be.
+fn fill_entries(set: &[u8], rows: &[u16], count: usize, entries: &mut [bool])
+    requires { ⌜ now entries ≡ no-flags ⌝ }
+    requires { ⌜ EntriesBelow count (now set) (now rows) ⌝ }
+    ensures { λ _. ⌜ now (entries .exit) ≡ entries-by (now (set .entry)) (now (rows .entry)) ⌝ }
+{
+    let n = writer::within(count, entries.len());
+    context_tables::fill_entries(set, rows, &mut entries[0..n]);
+}
+
+// Both tables, of a set with `count` messages, whose `n` fields have their places in `fields`; the columns are as long as there are fields that they go by.
 fn fill_rows(
     messages: &mut [u16],
     t: &mut [u16],
     set: &[u8],
     o: &[u8],
     rows: &[u16],
+    count: usize,
     fields: &[u16],
     n: usize,
     owner: &mut [Index],
@@ -63,16 +152,13 @@ fn fill_rows(
     settings: &mut [bool],
     boxed: &mut [bool],
 )
-    requires { ⌜ Long (length (now owner)) (now target) (now kind) (now label) (now settings) (now boxed) ⌝ }
+    requires { ⌜ Long (length (now owner)) (now target) (now kind) (now label) (now settings) (now boxed) × EntriesBelow count (now set) (now rows) ⌝ }
     ensures { λ _. ⌜ now (messages .exit) ≡ message-table (length (now (messages .entry))) (now (rows .entry)) (now (fields .entry)) n (columns-at (length (now (owner .entry))) (now (set .entry)) (now (fields .entry))) (settings-to (length (now (owner .entry))) (now (set .entry)) (now (o .entry))) ⌝ }
     ensures { λ _. ⌜ now (t .exit) ≡ field-table (length (now (t .entry))) (length (now (owner .entry))) (now (set .entry)) (now (rows .entry)) (now (fields .entry)) (columns-at (length (now (owner .entry))) (now (set .entry)) (now (fields .entry))) (settings-to (length (now (owner .entry))) (now (set .entry)) (now (o .entry))) (entries-by (now (set .entry)) (now (rows .entry))) ⌝ }
 {
     let mut entries = [false; MESSAGES];
-    context_tables::fill_entries(set, rows, &mut entries);
-    field_columns::fill_owners(fields, owner);
-    fill_targets(set, fields, target);
-    field_columns::fill_columns(set, fields, kind, label);
-    fill_settings(set, o, settings);
+    fill_entries(set, rows, count, &mut entries);
+    fill_fields(set, o, fields, owner, target, kind, label, settings);
     context_tables::fill_rows(
         messages,
         t,
@@ -90,32 +176,38 @@ fn fill_rows(
     );
 }
 
-// Both tables of a set, with the options `o`. The fields' table holds zeros so far, which stay behind its rows.
-pub fn fill_tables(set: &[u8], o: &[u8], messages: &mut [u16], t: &mut [u16])
-    requires { ⌜ now t ≡ zeros (length (now t)) ⌝ }
+// Both tables of a set, with the options `o`, given the places of its messages and what its fields are laid in. The fields' table
+// holds zeros so far, which stay behind its rows.
+fn fill_by(
+    set: &[u8],
+    o: &[u8],
+    messages: &mut [u16],
+    t: &mut [u16],
+    rows: &[u16],
+    count: usize,
+    fields: &mut [u16],
+    owner: &mut [Index],
+    target: &mut [Index],
+    kind: &mut [u8],
+    label: &mut [u8],
+    settings: &mut [bool],
+    boxed: &mut [bool],
+)
+    requires { ⌜ (now t ≡ zeros (length (now t))) × Ready (now set) (now rows) count (now fields) (now owner) (now target) (now kind) (now label) (now settings) (now boxed) ⌝ }
     ensures { λ _. ⌜ now (messages .exit) ≡ message-numbers (length (now (messages .entry))) (now (set .entry)) (now (o .entry)) ⌝ }
     ensures { λ _. ⌜ now (t .exit) ≡ field-numbers (length (now (t .entry))) (now (set .entry)) (now (o .entry)) ⌝ }
 {
-    let mut rows = [0u16; MESSAGE_CELLS];
-    let mut fields = [0u16; FIELD_CELLS];
-    let mut owner = [0u8; FIELDS];
-    let mut target = [0u8; FIELDS];
-    let mut kind = [0u8; FIELDS];
-    let mut label = [0u8; FIELDS];
-    let mut settings = [false; FIELDS];
-    let mut boxed = [false; FIELDS];
-    let count = index::index_files(set, 4, 16, &mut rows);
-    let n = index::index_members(set, &rows, count, 2, &mut fields, 0);
-    let k = writer::within(n, FIELDS);
-    let cells = k * 8;
-    let used = writer::within(cells, t.len());
+    let n = index::index_members(set, rows, count, 2, fields, 0);
+    let k = writer::within(n, owner.len());
+    let used = writer::within(k * 8, t.len());
     fill_rows(
         messages,
         &mut t[0..used],
         set,
         o,
-        &rows,
-        &fields,
+        rows,
+        count,
+        fields,
         n,
         &mut owner[0..k],
         &mut target[0..k],
@@ -124,4 +216,85 @@ pub fn fill_tables(set: &[u8], o: &[u8], messages: &mut [u16], t: &mut [u16])
         &mut settings[0..k],
         &mut boxed[0..k],
     );
+}
+
+// The tables of a short set.
+fn fill_short(set: &[u8], o: &[u8], messages: &mut [u16], t: &mut [u16], rows: &[u16], count: usize)
+    requires { ⌜ now t ≡ zeros (length (now t)) ⌝ }
+    requires { ⌜ length (now set) ≤ short ⌝ }
+    requires { ⌜ now rows ≡ message-places (now set) ⌝ }
+    requires { ⌜ count ≡ message-count (now set) ⌝ }
+    ensures { λ _. ⌜ now (messages .exit) ≡ message-numbers (length (now (messages .entry))) (now (set .entry)) (now (o .entry)) ⌝ }
+    ensures { λ _. ⌜ now (t .exit) ≡ field-numbers (length (now (t .entry))) (now (set .entry)) (now (o .entry)) ⌝ }
+{
+    let mut fields = [0u16; SHORT_FIELD_CELLS];
+    let mut owner = [0u8; SHORT_FIELDS];
+    let mut target = [0u8; SHORT_FIELDS];
+    let mut kind = [0u8; SHORT_FIELDS];
+    let mut label = [0u8; SHORT_FIELDS];
+    let mut settings = [false; SHORT_FIELDS];
+    let mut boxed = [false; SHORT_FIELDS];
+    fill_by(
+        set,
+        o,
+        messages,
+        t,
+        rows,
+        count,
+        &mut fields,
+        &mut owner,
+        &mut target,
+        &mut kind,
+        &mut label,
+        &mut settings,
+        &mut boxed,
+    );
+}
+
+// The tables of a set that is not short.
+fn fill_large(set: &[u8], o: &[u8], messages: &mut [u16], t: &mut [u16], rows: &[u16], count: usize)
+    requires { ⌜ now t ≡ zeros (length (now t)) ⌝ }
+    requires { ⌜ short < length (now set) ⌝ }
+    requires { ⌜ now rows ≡ message-places (now set) ⌝ }
+    requires { ⌜ count ≡ message-count (now set) ⌝ }
+    ensures { λ _. ⌜ now (messages .exit) ≡ message-numbers (length (now (messages .entry))) (now (set .entry)) (now (o .entry)) ⌝ }
+    ensures { λ _. ⌜ now (t .exit) ≡ field-numbers (length (now (t .entry))) (now (set .entry)) (now (o .entry)) ⌝ }
+{
+    let mut fields = [0u16; FIELD_CELLS];
+    let mut owner = [0u8; FIELDS];
+    let mut target = [0u8; FIELDS];
+    let mut kind = [0u8; FIELDS];
+    let mut label = [0u8; FIELDS];
+    let mut settings = [false; FIELDS];
+    let mut boxed = [false; FIELDS];
+    fill_by(
+        set,
+        o,
+        messages,
+        t,
+        rows,
+        count,
+        &mut fields,
+        &mut owner,
+        &mut target,
+        &mut kind,
+        &mut label,
+        &mut settings,
+        &mut boxed,
+    );
+}
+
+// Both tables of a set, with the options `o`. The fields' table holds zeros so far, which stay behind its rows.
+pub fn fill_tables(set: &[u8], o: &[u8], messages: &mut [u16], t: &mut [u16])
+    requires { ⌜ now t ≡ zeros (length (now t)) ⌝ }
+    ensures { λ _. ⌜ now (messages .exit) ≡ message-numbers (length (now (messages .entry))) (now (set .entry)) (now (o .entry)) ⌝ }
+    ensures { λ _. ⌜ now (t .exit) ≡ field-numbers (length (now (t .entry))) (now (set .entry)) (now (o .entry)) ⌝ }
+{
+    let mut rows = [0u16; MESSAGE_CELLS];
+    let count = index::index_files(set, 4, 16, &mut rows);
+    if set.len() <= SHORT {
+        fill_short(set, o, messages, t, &rows, count);
+        return;
+    }
+    fill_large(set, o, messages, t, &rows, count);
 }

@@ -35,7 +35,7 @@ use Rattle.table_laws.specs.RowLaws.{field-row-is}
 use Rattle.table_laws.specs.SetTables.{sound}
 use Rattle.table_laws.specs.NamedRows.{columns, kind-at, label-at, target-at}
 
-no-bytes : decode-message [] .map-entry ≡ false
+pub no-bytes : decode-message [] .map-entry ≡ false
 unfolding decode-message entries entries-of records scan parts joined last-from choose
 no-bytes = refl
 

@@ -2,17 +2,21 @@
 use mathlib.Core.Path.{_≡_, refl, sym, ap, _∙_, subst}
 use mathlib.Core.Bool.{true, false}
 use mathlib.Core.List.{List}
-use Prim.Native.Nat.{ℕ, _^_, _<_}
+use Prim.Native.Nat.{ℕ, _*_, _-_, _^_, _≤_, _<_, min}
 use native.Mathlib.Omega.{arith}
-use lib.ListN.{length}
+use lib.ListN.{length, length-replicate, replicate, take, drop}
 use Rattle.base.specs.Choose.{choose}
 use Rattle.base.specs.Lists.{map-length}
 use Rattle.descriptor.specs.Descriptor.{Bytes, FileDescriptor}
 use Rattle.descriptor.specs.Decode.{entries, parts, decode-file, decode-set}
+use Rattle.descriptor.specs.Limits.{messages-in}
+use Rattle.limits.specs.Short.{short}
 use Rattle.options.specs.Settings.{settings}
 use Rattle.table_says.specs.Says.{Says}
-use Rattle.set_tables.specs.Filled.{message-numbers, field-numbers}
-use Rattle.set_tables.proofs.TablesSay.{tables-say}
+use Rattle.set_tables.specs.Filled.{field-count, message-numbers, field-numbers}
+use Rattle.set_tables.proofs.ZeroLaws.{fresh-zeros}
+use Rattle.set_tables.proofs.TablesSay.{tables-say, all-messages, all-fields, short-fields}
+use Rattle.set_tables.proofs.FillLaws.{front-length}
 use Rattle.message_text.specs.MessageText.{text-of-file}
 use Rattle.file_faults.specs.FileFaults.{faults-of-file}
 use Rattle.file_faults.specs.declared.Faults.{Faults}
@@ -20,7 +24,7 @@ use Rattle.file_parts.specs.FileParts.{part-at, first-number}
 use Rattle.code_generator.specs.Refusals.{variants-overlap, defaults-fail}
 use Rattle.calls.specs.TextCall.{Outcome, by-room, by-text, file-at, call-text}
 use Rattle.call_laws.specs.CallLaws.{call-number-within, call-text-is, call-faults-are, call-bounded}
-use Rattle.text_call.specs.Answer.{Accepted, Answers, Whole}
+use Rattle.text_call.specs.Answer.{Accepted, Roomy, Answers, Whole}
 use Rattle.text_call.specs.declared.TextAnswer.{TextAnswer}
 use Rattle.text_call.specs.declared.TextAnswer.the-variants.{Variants, Defaults}
 use Rattle.text_call.proofs.RoomLaws.{refuses}
@@ -29,10 +33,28 @@ pub files-counted : (set : Bytes) → length (parts 1 (entries set)) ≡ length 
 unfolding decode-set
 files-counted set = sym (map-length decode-file (parts 1 (entries set)))
 
+-- fresh tables, as long as the set needs
+fresh : (set o : Bytes) (file k n : ℕ) → Accepted set o file → k ≡ min (length set * 2) 1024 → field-count set * 8 ≤ n
+    → Roomy set (take (k - 0) (drop 0 (replicate 1024 0))) (replicate n 0)
+fresh set o file k n accepted k-is h =
+    let all = length-replicate {A = ℕ} 1024 0 in
+    let cells : List ℕ = replicate 1024 0 in
+    let wide = front-length k cells (omega arith) in
+    let long = length-replicate {A = ℕ} n 0 in
+    let few = all-messages set (accepted .limits) in
+    record { messages-room = omega arith; fields-room = omega arith; clear = fresh-zeros n }
+
+module _ (set o : Bytes) (file k : ℕ) (accepted : Accepted set o file) (k-is : k ≡ min (length set * 2) 1024) where
+  pub short-tables : length set ≤ short → Roomy set (take (k - 0) (drop 0 (replicate 1024 0))) (replicate 1200 0)
+  short-tables h = fresh set o file k 1200 accepted k-is (short-fields set (accepted .limits) (accepted .named) h)
+
+  pub all-tables : Roomy set (take (k - 0) (drop 0 (replicate 1024 0))) (replicate 16384 0)
+  all-tables = fresh set o file k 16384 accepted k-is (all-fields set (accepted .limits) (accepted .named))
+
 module _ (set o : Bytes) (file : ℕ) (accepted : Accepted set o file) (messages fields : List ℕ) (m n : ℕ)
-    (messages-are : messages ≡ message-numbers m set o) (fields-are : fields ≡ field-numbers n set o) (wide : m ≡ 1024) (long : n ≡ 16384) where
+    (messages-are : messages ≡ message-numbers m set o) (fields-are : fields ≡ field-numbers n set o) (wide : length (messages-in (decode-set set)) * 4 ≤ m) (long : field-count set * 8 ≤ n) where
   says : Says (settings o) set messages fields
-  says = rw (messages-are, fields-are) (tables-say set o (accepted .limits) (accepted .named) m n (omega arith) (omega arith))
+  says = rw (messages-are, fields-are) (tables-say set o (accepted .limits) (accepted .named) m n wide long)
 
   there : file < length (parts 1 (entries set))
   there = let a = files-counted set in let h = accepted .there in omega arith

@@ -1,5 +1,5 @@
 -- The text call's answers: document 01's number and place for each, and what the parts of the call say of them. Assumes nothing.
-use Prim.Native.Nat.{ℕ, _<_}
+use Prim.Native.Nat.{ℕ, _*_, _≤_, _<_}
 use mathlib.Core.Path.{_≡_}
 use mathlib.Core.List.{List, _++_}
 use lib.Dec.{eqb}
@@ -7,12 +7,13 @@ use lib.ListN.{length, drop}
 use Rattle.base.specs.Choose.{choose}
 use Rattle.descriptor.specs.Descriptor.{Bytes}
 use Rattle.descriptor.specs.Decode.{decode-set}
-use Rattle.descriptor.specs.Limits.{limit-passed}
+use Rattle.descriptor.specs.Limits.{messages-in, limit-passed}
 use Rattle.limits.specs.Answer.{read-set}
 use Rattle.options.specs.Layout.{layout}
 use Rattle.options.specs.declared.check.Layout.the-variants as row
 use Rattle.name_rules.specs.Answer.{names}
 use Rattle.name_rules.specs.declared.Names.the-variants as name
+use Rattle.set_tables.specs.Filled.{zeros, field-count}
 use Rattle.calls.specs.TextCall.{Outcome, given, refused, by-reading, by-index, by-names, by-room}
 use Rattle.text_call.specs.declared.TextAnswer.{TextAnswer}
 use Rattle.text_call.specs.declared.TextAnswer.the-variants.{Length, Layout, Externs, Unreadable, Limit, Index, Names, Types, Variants, Defaults, Room}
@@ -59,3 +60,9 @@ pub record Accepted (set o : Bytes) (file : ℕ) : Type 0 where
   pub limits : limit-passed set ≡ 0
   pub named : names (decode-set set) ≡ name.Good
   pub there : file < length (decode-set set)
+
+-- tables with room for the messages and the fields of a set; that of the fields holds zeros
+pub record Roomy (set : Bytes) (messages fields : List ℕ) : Type 0 where
+  pub messages-room : length (messages-in (decode-set set)) * 4 ≤ length messages
+  pub fields-room : field-count set * 8 ≤ length fields
+  pub clear : fields ≡ zeros (length fields)

@@ -6,8 +6,9 @@ ghost use Rattle.descriptor.specs.Decode.{decode-set};
 ghost use Rattle.options.specs.Settings.{settings};
 ghost use Rattle.message_text.specs.MessageText.{text-of-file};
 ghost use Rattle.calls.specs.TextCall.{by-index, by-text, file-at, call-text, text-call, text-left};
-ghost use Rattle.text_call.specs.Answer.{outcome-of, GoodOptions, Accepted, Whole, Answers, by-set};
+ghost use Rattle.text_call.specs.Answer.{outcome-of, GoodOptions, Accepted, Roomy, Whole, Answers, by-set};
 use extern_checks::Externs;
+use limits::SHORT;
 use options::check::Layout;
 use set_rules::Judged;
 
@@ -28,16 +29,34 @@ pub enum TextAnswer {
 
 const MAX_TEXT: usize = 65536;
 
-// Four numbers for each of 256 messages, eight for each of 2,048 fields.
+// The text of a short set is made in so many bytes first.
+const SHORT_TEXT: usize = 2048;
+
+// Four numbers for each of 256 messages, eight for each of 2,048 fields, and of 150 in a short set.
 const MESSAGE_NUMBERS: usize = 1024;
 
 const FIELD_NUMBERS: usize = 16384;
+
+const SHORT_NUMBERS: usize = 1200;
 
 fn narrow(n: usize) -> u32
     requires { ⌜ n < 2 ^ 32 ⌝ }
     ensures { λ r. ⌜ r ≡ n ⌝ }
 {
     n as u32
+}
+
+// A text is copied whole, or not at all where t or the limit has no room for it.
+fn copy_whole(t: &mut [u8], text: &[u8]) -> TextAnswer
+    ensures { λ r. ⌜ Whole (now (text .entry)) (now (t .entry)) (now (t .exit)) r ⌝ }
+{
+    let size = text.len();
+    let room = writer::within(t.len(), MAX_TEXT);
+    if room < size {
+        return TextAnswer::Room(size);
+    }
+    let written = writer::put(t, 0, text);
+    TextAnswer::Length(written)
 }
 
 // The text of the file whose part p is, made apart: it is copied whole, or not at all.
@@ -53,34 +72,60 @@ fn put_whole(
     requires { ⌜ length (text-of-file (settings (now o)) (now set) (now messages) (now fields) i (now p)) < 2 ^ 63 ⌝ }
     ensures { λ r. ⌜ Whole (text-of-file (settings (now (o .entry))) (now (set .entry)) (now (messages .entry)) (now (fields .entry)) i (now (p .entry))) (now (t .entry)) (now (t .exit)) r ⌝ }
 {
+    if set.len() <= SHORT {
+        let mut text = [0u8; SHORT_TEXT];
+        let n = message_text::append_file(&mut text, o, set, messages, fields, i, p);
+        if n <= SHORT_TEXT {
+            return copy_whole(t, &text[0..n]);
+        }
+    }
     let mut text = [0u8; MAX_TEXT];
     let n = message_text::append_file(&mut text, o, set, messages, fields, i, p);
-    let room = writer::within(t.len(), MAX_TEXT);
-    if room < n {
-        return TextAnswer::Room(n);
+    if n <= MAX_TEXT {
+        return copy_whole(t, &text[0..n]);
     }
-    let written = writer::put(t, 0, &text[0..n]);
-    TextAnswer::Length(written)
+    TextAnswer::Room(n)
 }
 
-// 8, 9 and 10 of a file, of a set and options without the refusals before.
-fn file_answer(set: &[u8], o: &[u8], file: usize, t: &mut [u8]) -> TextAnswer
+// 8, 9 and 10 of a file, of a set and options without the refusals before, by tables with room for the set.
+fn answer_by(
+    set: &[u8],
+    o: &[u8],
+    file: usize,
+    t: &mut [u8],
+    messages: &mut [u16],
+    fields: &mut [u16],
+) -> TextAnswer
     requires { ⌜ Accepted (now set) (now o) file ⌝ }
+    requires { ⌜ Roomy (now set) (now messages) (now fields) ⌝ }
     ensures { λ r. ⌜ Answers (by-text (settings (now (o .entry))) (decode-set (now (set .entry))) (length (now (t .entry))) (file-at (decode-set (now (set .entry))) file)) (call-text (now (set .entry)) (now (o .entry)) file) (now (t .entry)) (now (t .exit)) r ⌝ }
 {
-    let mut messages = [0u16; MESSAGE_NUMBERS];
-    let mut fields = [0u16; FIELD_NUMBERS];
-    set_tables::fill_tables(set, o, &mut messages, &mut fields);
-    let i = narrow(file_parts::first_number(&messages, set, file));
+    set_tables::fill_tables(set, o, messages, fields);
+    let i = narrow(file_parts::first_number(messages, set, file));
     let p = file_parts::file_part(set, file);
-    let faults = file_faults::file_faults(set, o, &messages, &fields, i, p);
+    let faults = file_faults::file_faults(set, o, messages, fields, i, p);
     if faults.overlap {
         return TextAnswer::Variants;
     }
     if faults.default {
         return TextAnswer::Defaults;
     }
-    put_whole(t, o, set, &messages, &fields, i, p)
+    put_whole(t, o, set, messages, fields, i, p)
+}
+
+// The same, by tables as small as the set allows.
+fn file_answer(set: &[u8], o: &[u8], file: usize, t: &mut [u8]) -> TextAnswer
+    requires { ⌜ Accepted (now set) (now o) file ⌝ }
+    ensures { λ r. ⌜ Answers (by-text (settings (now (o .entry))) (decode-set (now (set .entry))) (length (now (t .entry))) (file-at (decode-set (now (set .entry))) file)) (call-text (now (set .entry)) (now (o .entry)) file) (now (t .entry)) (now (t .exit)) r ⌝ }
+{
+    let mut messages = [0u16; MESSAGE_NUMBERS];
+    let n = writer::within(set.len() * 2, MESSAGE_NUMBERS);
+    if set.len() <= SHORT {
+        let mut fields = [0u16; SHORT_NUMBERS];
+        return answer_by(set, o, file, t, &mut messages[0..n], &mut fields);
+    }
+    let mut fields = [0u16; FIELD_NUMBERS];
+    answer_by(set, o, file, t, &mut messages[0..n], &mut fields)
 }
 
 // Refusal 5 with the count of files, or the answer x.

@@ -4,7 +4,7 @@ use mathlib.Core.Bool.{Bool, true, false, not}
 use mathlib.Core.List.{List, [], _∷_, _++_}
 use Prim.Native.Nat.{ℕ, zero, suc, _+_, _-_, _≤_, _<_}
 use native.Mathlib.Omega.{arith}
-use lib.ListN.{length, length-append}
+use lib.ListN.{length, getD, length-append}
 use lib.Dec.{eqb}
 use borrow.Author.Tests.{not-true, not-false, le-ltb, lt-ltb, eq-eqb, ne-eqb}
 use Rattle.base.specs.Bytes.{same}
@@ -12,11 +12,12 @@ use Rattle.base.specs.Choose.{choose, choose-case}
 use Rattle.descriptor.specs.Descriptor.{Bytes}
 use Rattle.declarations.specs.Rows.{cell-at}
 use Rattle.declarations.specs.Listed.{full}
-use Rattle.type_names.specs.Cursors.{spelled, Sits, Entered, Prior, Ends}
-use Rattle.type_names.specs.LookUp.{same-row, before-by, declared-before}
+use Rattle.type_names.specs.Cursors.{spelled, Sits, Entered, Prior}
+use Rattle.type_names.specs.LookUp.{same-row, before-by, declared-before, row-sums}
+use Rattle.type_names.specs.RowSums.{Apart}
 use Rattle.type_names.specs.declared.Cursor.{Cursor}
 use Rattle.type_names.specs.declared.Back.{Back}
-use Rattle.type_names.proofs.EndLaws.{rows-apart}
+use Rattle.type_names.proofs.RowSumLaws.{full-apart}
 use Rattle.type_names.proofs.CursorLaws.{last-alike, last-unlike, longer, shorter}
 
 module _ (bytes t : List ℕ) (i j : ℕ) where
@@ -101,8 +102,10 @@ module _ (bytes t : List ℕ) (i : ℕ) where
       unfolding choose
       left-more e = let k = left .inside in record { few = left .few; inside = omega arith; is = rw e at opened }
 
-    -- the rows' full names end in other bytes
-    pub left-apart : 0 < j → (x y : ℕ) → Ends bytes t (i + 1) x → Ends bytes t (j - 1 + 1) y → (y ≡ x → ⊥) → Left (j - 1)
+    -- the rows' full names have other checksums
+    pub left-apart : 0 < j → (sums : List ℕ) → sums ≡ row-sums bytes t (length sums) → (i < length sums) × Apart sums (j - 1) (getD sums i 0) → Left (j - 1)
     unfolding same-row
-    left-apart h x y a b n =
-        left-more h false (rw (rows-apart bytes t (j - 1 + 1) (i + 1) y x b a n) (choose-case (λ (r : Bool). false ≡ r) (eqb (cell-at t (j - 1) 4) 0) (λ _. refl) (λ _. refl))) refl
+    left-apart h sums sums-are apart =
+        let few = left .few in
+        let inside = left .inside in
+        left-more h false (rw (full-apart bytes t sums sums-are i (j - 1) few (omega arith) (apart .0) (apart .1)) (choose-case (λ (r : Bool). false ≡ r) (eqb (cell-at t (j - 1) 4) 0) (λ _. refl) (λ _. refl))) refl

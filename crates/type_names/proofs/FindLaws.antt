@@ -4,7 +4,7 @@ use mathlib.Core.Bool.{Bool, true, false}
 use mathlib.Core.List.{List}
 use Prim.Native.Nat.{ℕ, zero, suc, _+_, _-_, _≤_, _<_}
 use native.Mathlib.Omega.{arith}
-use Rattle.base.specs.Choose.{choose}
+use Rattle.base.specs.Choose.{choose, choose-case}
 use Rattle.declarations.specs.Rows.{cell-at}
 use Rattle.type_names.specs.LookUp.{named, wanted, fits, find-from, find-row}
 
@@ -16,6 +16,10 @@ module _ (bytes t name : List ℕ) (sort : ℕ) where
   pub fits-not : (i kind : ℕ) (w : Bool) → kind ≡ cell-at t i 4 → w ≡ wanted sort kind → w ≡ false → false ≡ fits bytes t name sort i
   unfolding fits choose
   fits-not i kind w k e is = rw (← k, ← e, is)
+
+  pub fits-none : (i : ℕ) → false ≡ named bytes t name i → false ≡ fits bytes t name sort i
+  unfolding fits
+  fits-none i e = choose-case (λ (r : Bool). false ≡ r) (wanted sort (cell-at t i 4)) (λ _. e) (λ _. refl)
 
   module _ (count : ℕ) where
     pub record Going (i : ℕ) : Type 0 where

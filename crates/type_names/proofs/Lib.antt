@@ -1,6 +1,6 @@
 pub mod CursorLaws
-pub mod EndLaws
 pub mod NamedLaws
+pub mod RowSumLaws
 pub mod FindLaws
 pub mod BeforeLaws
 pub mod FreshLaws

@@ -28,8 +28,3 @@ pub record Prior (bytes : Bytes) (t : List ℕ) (c : Cursor) (r : Back) : Type 0
   pub ended : r .found ≡ false → spelled bytes t c ≡ []
   pub read : r .found ≡ true → spelled bytes t c ≡ spelled bytes t (r .rest) ++ (r .byte ∷ [])
   pub sits : Sits bytes (r .rest)
-
--- the full name with the code ends in the byte
-pub record Ends (bytes : Bytes) (t : List ℕ) (code byte : ℕ) : Type 0 where
-  pub front : Bytes
-  pub is : full bytes t code ≡ front ++ (byte ∷ [])

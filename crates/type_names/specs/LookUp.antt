@@ -8,6 +8,8 @@ use Rattle.base.specs.Choose.{choose}
 use Rattle.descriptor.specs.Descriptor.{Bytes}
 use Rattle.declarations.specs.Rows.{cell-at}
 use Rattle.declarations.specs.Listed.{full}
+use Rattle.message_graph.specs.Tab.{tab}
+use Rattle.checksums.specs.Sums.{sum-of}
 
 -- a table has no row past 65,535
 unfoldable pub named : Bytes → List ℕ → Bytes → ℕ → Bool
@@ -41,3 +43,13 @@ before-by bytes t i (suc n) = choose (same-row bytes t i n) true (before-by byte
 
 unfoldable pub declared-before : Bytes → List ℕ → ℕ → Bool
 declared-before bytes t i = choose (ltb 65535 i) false (before-by bytes t i i)
+
+-- ---- checksums of the full names
+
+-- that of row i; a table has no row past 65,535
+unfoldable pub row-sum : Bytes → List ℕ → ℕ → ℕ
+row-sum bytes t i = choose (ltb 65535 i) 0 (sum-of (full bytes t (i + 1)))
+
+-- those of the first n rows
+unfoldable pub row-sums : Bytes → List ℕ → ℕ → List ℕ
+row-sums bytes t n = tab n (row-sum bytes t)

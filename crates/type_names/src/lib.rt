@@ -1,13 +1,18 @@
-// Type names: which declaration of a set has a full name. Full names are compared from their ends, row by row, and none is built.
+// Type names: which declaration of a set has a full name. Checksums are compared first, then full names from their ends, row by row;
+// none is built.
 ghost use mathlib.Core.Path.{_≡_};
 ghost use mathlib.Core.Bool.{true, false};
-ghost use Prim.Native.Nat.{ℕ, _+_, _<_};
-ghost use Rattle.type_names.specs.Cursors.{Ends, Sits, Prior, Entered};
-ghost use lib.Dec.{ltb};
+ghost use Prim.Native.Nat.{ℕ, _+_, _-_, _<_};
+ghost use lib.Dec.{ltb, eqb};
+ghost use lib.ListN.{length, getD};
 ghost use Rattle.base.specs.Choose.{choose};
 ghost use Rattle.base.specs.Bytes.{same};
+ghost use Rattle.checksums.specs.Sums.{sum-of};
 ghost use Rattle.declarations.specs.Listed.{full};
-ghost use Rattle.type_names.specs.LookUp.{named, wanted, fits, find-row, same-row, declared-before};
+ghost use Rattle.type_names.specs.Cursors.{Sits, Prior, Entered};
+ghost use Rattle.type_names.specs.LookUp.{named, wanted, fits, find-row, same-row, declared-before, row-sum, row-sums};
+ghost use Rattle.type_names.specs.RowSums.{Summed, Apart};
+use descriptor::Text;
 
 // What is left of a full name, without its end: nothing, or the full name with the code `up`, a dot, and `left` bytes of the
 // set from `start` on.
@@ -111,48 +116,76 @@ fn read_back(set: &[u8], t: &[usize], c: Cursor) -> Back
     }
 }
 
-// The last byte of the full name of a row: that of its own name, or the dot before an empty one.
-fn last_byte(set: &[u8], t: &[usize], row: usize) -> u8
-    requires { ⌜ row < 65536 ⌝ }
-    ensures { λ r. ⌜ Ends (now (set .entry)) (now (t .entry)) (row + 1) r ⌝ }
+// The checksum of the full name with the code `up`: that of nothing for 0, and of a row from its place in `sums`.
+fn sum_above(sums: &[u64], up: usize) -> u64
+    ensures { λ r. ⌜ r ≡ choose (eqb up 0) 0 (getD (now (sums .entry)) (up - 1) 0) ⌝ }
 {
-    let start = declarations::cell(t, row, 0);
-    let len = declarations::cell(t, row, 1);
-    if set.len() < start {
-        return 46;
+    if up == 0 {
+        return 0;
     }
-    let room = set.len() - start;
-    let n = writer::within(len, room);
-    if n == 0 {
-        return 46;
+    let i = up - 1;
+    if i < sums.len() {
+        return sums[i];
     }
-    let end = start + n;
-    set[end - 1]
+    0
 }
 
-// Does the name end in another byte than the full name of the row? Most rows are told apart so.
-fn ends_apart(set: &[u8], t: &[usize], name: &[u8], row: usize) -> bool
-    requires { ⌜ row < 65536 ⌝ }
-    ensures { λ r. ⌜ (r ≡ true → same (full (now (set .entry)) (now (t .entry)) (row + 1)) (now (name .entry)) ≡ false) ⌝ }
+// The checksum of the full name of row `i`: that of what it stands in, then of a dot and its own name. `sums` has those of the rows
+// before.
+fn row_sum(set: &[u8], t: &[usize], sums: &[u64], i: usize) -> u64
+    requires { ⌜ Summed (now set) (now t) (now sums) i ⌝ }
+    ensures { λ r. ⌜ r ≡ row-sum (now (set .entry)) (now (t .entry)) i ⌝ }
 {
-    let n = name.len();
-    if n == 0 {
+    if 65535 < i {
+        return 0;
+    }
+    let start = declarations::cell(t, i, 0);
+    let len = declarations::cell(t, i, 1);
+    let up = above(declarations::cell(t, i, 2), i);
+    let around = sum_above(sums, up);
+    let dotted = checksums::checksum_from(around, b".");
+    let own = Text {
+        given: true,
+        start,
+        len,
+    };
+    checksums::checksum_from(dotted, name_rules::text_bytes(set, own))
+}
+
+// For each place of `sums`, the checksum of the full name of the row there.
+pub fn fill_sums(set: &[u8], t: &[usize], sums: &mut [u64])
+    ensures { λ _. ⌜ now (sums .exit) ≡ row-sums (now (set .entry)) (now (t .entry)) (length (now (sums .entry))) ⌝ }
+{
+    let mut i = 0;
+    while i < sums.len() {
+        sums[i] = row_sum(set, t, sums, i);
+        i += 1;
+    }
+}
+
+// Has row `i` another checksum than `sum`? Most rows are told apart so.
+fn sums_apart(sums: &[u64], i: usize, sum: u64) -> bool
+    ensures { λ r. ⌜ (r ≡ true → Apart (now (sums .entry)) i sum) ⌝ }
+{
+    if sums.len() <= i {
         return false;
     }
-    if name[n - 1] == last_byte(set, t, row) {
+    if sums[i] == sum {
         return false;
     }
     true
 }
 
-// Is this the full name of the row?
-pub fn is_named(set: &[u8], t: &[usize], name: &[u8], row: usize) -> bool
+// Is this the full name of the row? `sums` has the checksums of the rows, `sum` is that of the name.
+pub fn is_named(set: &[u8], t: &[usize], sums: &[u64], name: &[u8], sum: u64, row: usize) -> bool
+    requires { ⌜ now sums ≡ row-sums (now set) (now t) (length (now sums)) ⌝ }
+    requires { ⌜ sum ≡ sum-of (now name) ⌝ }
     ensures { λ r. ⌜ r ≡ named (now (set .entry)) (now (t .entry)) (now (name .entry)) row ⌝ }
 {
     if 65535 < row {
         return false;
     }
-    if ends_apart(set, t, name, row) {
+    if sums_apart(sums, row, sum) {
         return false;
     }
     let code = row + 1;
@@ -191,24 +224,46 @@ fn is_wanted(sort: usize, kind: usize) -> bool
     true
 }
 
-fn row_fits(set: &[u8], t: &[usize], name: &[u8], sort: usize, row: usize) -> bool
+fn row_fits(
+    set: &[u8],
+    t: &[usize],
+    sums: &[u64],
+    name: &[u8],
+    sum: u64,
+    sort: usize,
+    row: usize,
+) -> bool
+    requires { ⌜ now sums ≡ row-sums (now set) (now t) (length (now sums)) ⌝ }
+    requires { ⌜ sum ≡ sum-of (now name) ⌝ }
     ensures { λ r. ⌜ r ≡ fits (now (set .entry)) (now (t .entry)) (now (name .entry)) sort row ⌝ }
 {
+    if sums_apart(sums, row, sum) {
+        return false;
+    }
     let kind = declarations::cell(t, row, 4);
     if is_wanted(sort, kind) {
-        return is_named(set, t, name, row);
+        return is_named(set, t, sums, name, sum, row);
     }
     false
 }
 
 // The first of so many rows that has this full name and is a declaration (sort 0), an enum (1) or a message (2); the count
-// where there is none.
-pub fn find_row(set: &[u8], t: &[usize], count: usize, name: &[u8], sort: usize) -> usize
+// where there is none. `sums` has the checksums of the rows.
+pub fn find_row(
+    set: &[u8],
+    t: &[usize],
+    count: usize,
+    sums: &[u64],
+    name: &[u8],
+    sort: usize,
+) -> usize
+    requires { ⌜ now sums ≡ row-sums (now set) (now t) (length (now sums)) ⌝ }
     ensures { λ r. ⌜ r ≡ find-row (now (set .entry)) (now (t .entry)) (now (name .entry)) sort count ⌝ }
 {
+    let sum = checksums::checksum(name);
     let mut i: usize = 0;
     while i < count {
-        if row_fits(set, t, name, sort, i) {
+        if row_fits(set, t, sums, name, sum, sort, i) {
             return i;
         }
         i = i + 1;
@@ -254,18 +309,29 @@ fn row_same(set: &[u8], t: &[usize], i: usize, j: usize) -> bool
     same_name(set, t, j, i)
 }
 
-// Is the full name of the row declared in a row before it?
-pub fn declared_before(set: &[u8], t: &[usize], row: usize) -> bool
+// Have two rows other checksums?
+fn rows_apart(sums: &[u64], i: usize, j: usize) -> bool
+    ensures { λ r. ⌜ (r ≡ true → (i < length (now (sums .entry))) × Apart (now (sums .entry)) j (getD (now (sums .entry)) i 0)) ⌝ }
+{
+    if sums.len() <= i {
+        return false;
+    }
+    let sum = sums[i];
+    sums_apart(sums, j, sum)
+}
+
+// Is the full name of the row declared in a row before it? `sums` has the checksums of the rows.
+pub fn declared_before(set: &[u8], t: &[usize], sums: &[u64], row: usize) -> bool
+    requires { ⌜ now sums ≡ row-sums (now set) (now t) (length (now sums)) ⌝ }
     ensures { λ r. ⌜ r ≡ declared-before (now (set .entry)) (now (t .entry)) row ⌝ }
 {
     if 65535 < row {
         return false;
     }
-    let last = last_byte(set, t, row);
     let mut j = row;
     while 0 < j {
         let k = j - 1;
-        if last_byte(set, t, k) == last {
+        if !rows_apart(sums, row, k) {
             if row_same(set, t, row, k) {
                 return true;
             }

@@ -6,10 +6,10 @@ use Rattle.declared_types.proofs.first_undeclared.Statement.{statement}
 use Rattle.declared_types.proofs.first_undeclared.Tie as tie
 
 abbrev Inv-loop : tie.InvT-loop
-Inv-loop set t count files i₀ i = Going set t count i
+Inv-loop set t count sums files i₀ i = Going set t count i
 
 abbrev μ-loop : tie.MeasureT-loop
-μ-loop set t count files i₀ i = count - i
+μ-loop set t count sums files i₀ i = count - i
 
 count-parts-requires : tie.Need-count-parts-requires Inv-loop μ-loop
 count-parts-requires c κs = search needs

@@ -11,10 +11,10 @@ use Rattle.declared_types.proofs.types_good.Statement.{statement}
 use Rattle.declared_types.proofs.types_good.Tie as tie
 
 abbrev Inv-loop : tie.InvT-loop
-Inv-loop s set t count at₀ at = all (type-known set t count) (parts-from 2 s at) ≡ all (type-known set t count) (parts 2 (entries s))
+Inv-loop s set t count sums at₀ at = all (type-known set t count) (parts-from 2 s at) ≡ all (type-known set t count) (parts 2 (entries s))
 
 abbrev μ-loop : tie.MeasureT-loop
-μ-loop s set t count at₀ at = length s - at
+μ-loop s set t count sums at₀ at = length s - at
 
 loop-holds : tie.Need-loop-holds Inv-loop μ-loop
 unfolding entries
@@ -45,19 +45,19 @@ type-good-requires : tie.Need-type-good-requires Inv-loop μ-loop
 type-good-requires c κs = search needs
 
 returns-3 : tie.Need-returns-3 Inv-loop μ-loop
-returns-3 c = all-bad _ _ _ _ (c .before .before .before .before .before .before .before .before .read-step .ensures) _ (c .before .before .before .before .before .before .f .given .1) (type-known (c .before .before .before .before .before .before .before .before .before .before .before .before .before .args .set .now) (c .before .before .before .before .before .before .before .before .before .before .before .before .before .args .t .now) (c .before .before .before .before .before .before .before .before .before .before .before .before .before .args .count)) (c .before .before .before .if1 .taken) _ (c .before .before .embedded .ensures) _ (c .before .type-good .ensures) (c .if2 .taken) ∙ c .before .before .before .before .before .before .before .before .before .loop .inv
+returns-3 c = all-bad _ _ _ _ (c .before .before .before .before .before .before .before .before .read-step .ensures) _ (c .before .before .before .before .before .before .f .given .1) (type-known (c .before .before .before .before .before .before .before .before .before .before .before .before .before .before .args .set .now) (c .before .before .before .before .before .before .before .before .before .before .before .before .before .before .args .t .now) (c .before .before .before .before .before .before .before .before .before .before .before .before .before .before .args .count)) (c .before .before .before .if1 .taken) _ (c .before .before .embedded .ensures) _ (c .before .type-good .ensures) (c .if2 .taken) ∙ c .before .before .before .before .before .before .before .before .before .loop .inv
 
 loop-less : tie.Need-loop-less Inv-loop μ-loop
 loop-less c = search places
 
 loop-again : tie.Need-loop-again Inv-loop μ-loop
-loop-again c = all-good _ _ _ _ (c .before .before .before .before .before .before .before .before .read-step .ensures) _ (c .before .before .before .before .before .before .f .given .1) (type-known (c .before .before .before .before .before .before .before .before .before .before .before .before .before .args .set .now) (c .before .before .before .before .before .before .before .before .before .before .before .before .before .args .t .now) (c .before .before .before .before .before .before .before .before .before .before .before .before .before .args .count)) (c .before .before .before .if1 .taken) _ (c .before .before .embedded .ensures) _ (c .before .type-good .ensures) (c .if2 .left) ∙ c .before .before .before .before .before .before .before .before .before .loop .inv
+loop-again c = all-good _ _ _ _ (c .before .before .before .before .before .before .before .before .read-step .ensures) _ (c .before .before .before .before .before .before .f .given .1) (type-known (c .before .before .before .before .before .before .before .before .before .before .before .before .before .before .args .set .now) (c .before .before .before .before .before .before .before .before .before .before .before .before .before .before .args .t .now) (c .before .before .before .before .before .before .before .before .before .before .before .before .before .before .args .count)) (c .before .before .before .if1 .taken) _ (c .before .before .embedded .ensures) _ (c .before .type-good .ensures) (c .if2 .left) ∙ c .before .before .before .before .before .before .before .before .before .loop .inv
 
 loop-less-2 : tie.Need-loop-less-2 Inv-loop μ-loop
 loop-less-2 c = search places
 
 loop-again-2 : tie.Need-loop-again-2 Inv-loop μ-loop
-loop-again-2 c = ap (all (type-known (c .before .before .before .before .before .before .before .before .before .before .args .set .now) (c .before .before .before .before .before .before .before .before .before .before .args .t .now) (c .before .before .before .before .before .before .before .before .before .before .args .count))) (sym (parts-skip _ _ _ _ (c .before .before .before .before .before .read-step .ensures) _ (c .before .before .before .f .given .1) (c .if1 .left))) ∙ c .before .before .before .before .before .before .loop .inv
+loop-again-2 c = ap (all (type-known (c .before .before .before .before .before .before .before .before .before .before .before .args .set .now) (c .before .before .before .before .before .before .before .before .before .before .before .args .t .now) (c .before .before .before .before .before .before .before .before .before .before .before .args .count))) (sym (parts-skip _ _ _ _ (c .before .before .before .before .before .read-step .ensures) _ (c .before .before .before .f .given .1) (c .if1 .left))) ∙ c .before .before .before .before .before .before .loop .inv
 
 pub types-good-spec : {M : Type 1} → statement M
 types-good-spec =

@@ -7,7 +7,7 @@ field-view-requires : tie.Need-field-view-requires
 field-view-requires c κs = search needs
 
 returns : tie.Need-returns
-returns c = unnamed-field _ _ _ _ _ (c .before .before .before .field-view .ensures) _ (c .before .before .before .before .before .before .before .before .pre) _ (c .if1 .taken)
+returns c = unnamed-field _ _ _ _ _ (c .before .before .before .field-view .ensures) _ (c .before .before .before .before .before .before .before .before .before .pre .0) _ (c .if1 .taken)
 
 maps-requires : tie.Need-maps-requires
 maps-requires c κs = search needs
@@ -25,7 +25,7 @@ same-length : tie.Need-same-length
 same-length c = search needs
 
 returns-2 : tie.Need-returns-2
-returns-2 c = named-field _ _ _ _ _ (c .before .before .before .before .before .before .before .before .before .before .field-view .ensures) _ (c .before .before .before .before .before .before .before .before .before .before .before .before .before .before .before .pre) _ (c .before .before .before .before .before .before .before .if1 .left) _ (c .before .before .before .before .before .before .maps .ensures) _ (c .before .before .before .before .before .vote-of .ensures) _ (c .before .before .before .before .text-bytes .ensures) _ (c .before .before .note-rows .ensures)
+returns-2 c = named-field _ _ _ _ _ (c .before .before .before .before .before .before .before .before .before .before .field-view .ensures) _ (c .before .before .before .before .before .before .before .before .before .before .before .before .before .before .before .before .pre .0) _ (c .before .before .before .before .before .before .before .if1 .left) _ (c .before .before .before .before .before .before .maps .ensures) _ (c .before .before .before .before .before .vote-of .ensures) _ (c .before .before .before .before .text-bytes .ensures) _ (c .before .before .note-rows .ensures)
 
 pub note-field-spec : {M : Type 1} → statement M
 note-field-spec =

@@ -8,10 +8,10 @@ use Rattle.map_entries.proofs.note_fields.Statement.{statement}
 use Rattle.map_entries.proofs.note_fields.Tie as tie
 
 abbrev Inv-loop : tie.InvT-loop
-Inv-loop set t count s kind who₀ at₀ who at = Going set t count (kind - 2) s who₀ who at
+Inv-loop set t count sums s kind who₀ at₀ who at = Going set t count (kind - 2) s who₀ who at
 
 abbrev μ-loop : tie.MeasureT-loop
-μ-loop set t count s kind who₀ at₀ who at = length s - at
+μ-loop set t count sums s kind who₀ at₀ who at = length s - at
 
 loop-holds : tie.Need-loop-holds Inv-loop μ-loop
 loop-holds c = going-start _ _ _ _ _ _

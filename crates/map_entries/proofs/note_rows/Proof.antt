@@ -9,10 +9,13 @@ use Rattle.map_entries.proofs.note_rows.Statement.{statement}
 use Rattle.map_entries.proofs.note_rows.Tie as tie
 
 abbrev Inv-loop : tie.InvT-loop
-Inv-loop set t count name v who₀ i₀ who i = (i ≤ count) × (who ≡ noted-rows set t name v i who₀)
+Inv-loop set t count sums name v who₀ sum i₀ who i = (i ≤ count) × (who ≡ noted-rows set t name v i who₀)
 
 abbrev μ-loop : tie.MeasureT-loop
-μ-loop set t count name v who₀ i₀ who i = count - i
+μ-loop set t count sums name v who₀ sum i₀ who i = count - i
+
+checksum-requires : tie.Need-checksum-requires Inv-loop μ-loop
+checksum-requires c κs = search needs
 
 loop-holds : tie.Need-loop-holds Inv-loop μ-loop
 unfolding noted-rows
@@ -22,7 +25,7 @@ add-next : tie.Need-add-next Inv-loop μ-loop
 add-next c = search needs
 
 is-named-requires : tie.Need-is-named-requires Inv-loop μ-loop
-is-named-requires c κs = search needs
+is-named-requires c κs = (c .before .before .before .before .before .before .before .before .pre, c .before .before .checksum .ensures)
 
 note-requires : tie.Need-note-requires Inv-loop μ-loop
 note-requires c κs = search needs
@@ -51,6 +54,7 @@ note-rows-spec =
     (tie.spec
     Inv-loop
     μ-loop
+    checksum-requires
     loop-holds
     add-next
     is-named-requires

@@ -8,10 +8,10 @@ use Rattle.map_entries.proofs.note_set.Statement.{statement}
 use Rattle.map_entries.proofs.note_set.Tie as tie
 
 abbrev Inv-loop : tie.InvT-loop
-Inv-loop set t count who₀ i₀ who i = Passed set t count who₀ who i
+Inv-loop set t count sums who₀ i₀ who i = Passed set t count who₀ who i
 
 abbrev μ-loop : tie.MeasureT-loop
-μ-loop set t count who₀ i₀ who i = count - i
+μ-loop set t count sums who₀ i₀ who i = count - i
 
 clear-requires : tie.Need-clear-requires Inv-loop μ-loop
 clear-requires c κs = search needs

@@ -9,10 +9,10 @@ use Rattle.targets.proofs.fill_targets.Statement.{statement}
 use Rattle.targets.proofs.fill_targets.Tie as tie
 
 abbrev Inv-loop : tie.InvT-loop
-Inv-loop set fields t count out₀ i₀ out i = Filled (target-at set fields t count) out₀ out i
+Inv-loop set fields t count sums out₀ i₀ out i = Filled (target-at set fields t count) out₀ out i
 
 abbrev μ-loop : tie.MeasureT-loop
-μ-loop set fields t count out₀ i₀ out i = length out₀ - i
+μ-loop set fields t count sums out₀ i₀ out i = length out₀ - i
 
 loop-holds : tie.Need-loop-holds Inv-loop μ-loop
 loop-holds c = filled-none

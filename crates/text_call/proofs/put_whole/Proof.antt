@@ -1,4 +1,4 @@
-use Rattle.text_call.proofs.RoomLaws.{no-room, written}
+use Rattle.text_call.proofs.RoomLaws.{too-long, from-part}
 use lib.ListN.{length-replicate}
 use Prim.Native.Nat.{ℕ}
 use borrow.Author.Needs.{needs}
@@ -11,29 +11,50 @@ slice-aggregate-append-file c = search needs
 append-file-requires : tie.Need-append-file-requires
 append-file-requires c κs = search needs
 
-within-requires : tie.Need-within-requires
-within-requires c κs = search needs
+sub-copy-whole : tie.Need-sub-copy-whole
+sub-copy-whole c = search needs
 
-returns : tie.Need-returns
-returns c = no-room _ _ (c .before .before .before .before .before .before .before .before .before .before .before .pre) (c .before .before .before .append-file .ensures) _ (c .before .within .ensures) (c .if1 .taken)
+part-copy-whole-start : tie.Need-part-copy-whole-start
+part-copy-whole-start c = search needs
 
-sub-put : tie.Need-sub-put
-sub-put c = search needs
+part-copy-whole-end : tie.Need-part-copy-whole-end
+part-copy-whole-end c = search needs
 
-part-put-start : tie.Need-part-put-start
-part-put-start c = search needs
-
-part-put-end : tie.Need-part-put-end
-part-put-end c = search needs
-
-put-requires : tie.Need-put-requires
-put-requires c κs = search needs
+copy-whole-requires : tie.Need-copy-whole-requires
+copy-whole-requires c κs = search needs
 
 same-length : tie.Need-same-length
 same-length c = search needs
 
+returns : tie.Need-returns
+returns c = from-part _ _ (c .before .before .before .before .before .before .before .before .before .before .before .before .before .before .before .before .before .pre) (c .before .before .before .before .before .before .before .before .append-file .ensures) 2048 (length-replicate {A = ℕ} 2048 0) (c .before .before .before .before .before .before .if2 .taken) (c .before .before .copy-whole .ensures)
+
+slice-aggregate-append-file-2 : tie.Need-slice-aggregate-append-file-2
+slice-aggregate-append-file-2 c = search needs
+
+append-file-requires-2 : tie.Need-append-file-requires-2
+append-file-requires-2 c κs = search needs
+
+sub-copy-whole-2 : tie.Need-sub-copy-whole-2
+sub-copy-whole-2 c = search needs
+
+part-copy-whole-start-2 : tie.Need-part-copy-whole-start-2
+part-copy-whole-start-2 c = search needs
+
+part-copy-whole-end-2 : tie.Need-part-copy-whole-end-2
+part-copy-whole-end-2 c = search needs
+
+copy-whole-requires-2 : tie.Need-copy-whole-requires-2
+copy-whole-requires-2 c κs = search needs
+
+same-length-2 : tie.Need-same-length-2
+same-length-2 c = search needs
+
 returns-2 : tie.Need-returns-2
-returns-2 c = written _ _ (c .before .before .before .before .before .before .before .before .before .before .before .before .before .before .before .before .before .pre) (c .before .before .before .before .before .before .before .before .before .append-file .ensures) _ (c .before .before .before .before .before .before .before .within .ensures) (length-replicate {A = ℕ} 65536 0) (c .before .before .before .before .before .before .if1 .left) (c .before .before .put .ensures)
+returns-2 c = from-part _ _ (c .before .before .before .before .before .before .before .before .before .before .before .before .before .before .before .before .before .pre) (c .before .before .before .before .before .before .before .before .append-file2 .ensures) 65536 (length-replicate {A = ℕ} 65536 0) (c .before .before .before .before .before .before .if3 .taken) (c .before .before .copy-whole2 .ensures)
+
+returns-3 : tie.Need-returns-3
+returns-3 c = too-long _ _ (c .before .before .before .before .before .before .before .before .before .before .before .pre) (c .before .before .append-file2 .ensures) (c .if3 .left)
 
 pub put-whole-spec : {M : Type 1} → statement M
 put-whole-spec =
@@ -41,11 +62,18 @@ put-whole-spec =
     (tie.spec
     slice-aggregate-append-file
     append-file-requires
-    within-requires
-    returns
-    sub-put
-    part-put-start
-    part-put-end
-    put-requires
+    sub-copy-whole
+    part-copy-whole-start
+    part-copy-whole-end
+    copy-whole-requires
     same-length
-    returns-2)
+    returns
+    slice-aggregate-append-file-2
+    append-file-requires-2
+    sub-copy-whole-2
+    part-copy-whole-start-2
+    part-copy-whole-end-2
+    copy-whole-requires-2
+    same-length-2
+    returns-2
+    returns-3)

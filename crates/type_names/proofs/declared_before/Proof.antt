@@ -1,3 +1,4 @@
+use borrow.Author.Tests.{not-false}
 use Rattle.type_names.proofs.BeforeLaws.{past, Left, left-start, left-end, left-found, left-more, left-apart}
 use native.Mathlib.Omega.{arith}
 use borrow.Author.Needs.{needs}
@@ -5,25 +6,22 @@ use Rattle.type_names.proofs.declared_before.Statement.{statement}
 use Rattle.type_names.proofs.declared_before.Tie as tie
 
 abbrev Inv-loop : tie.InvT-loop
-Inv-loop set t row last j₀ j = Left set t row j
+Inv-loop set t sums row j₀ j = Left set t row j
 
 abbrev μ-loop : tie.MeasureT-loop
-μ-loop set t row last j₀ j = j
+μ-loop set t sums row j₀ j = j
 
 returns : tie.Need-returns Inv-loop μ-loop
 returns c = past _ _ _ (c .if1 .taken)
 
-last-byte-requires : tie.Need-last-byte-requires Inv-loop μ-loop
-last-byte-requires c κs = omega (arith, c .if1 .left)
-
 loop-holds : tie.Need-loop-holds Inv-loop μ-loop
-loop-holds c = left-start _ _ _ (c .before .if1 .left)
+loop-holds c = left-start _ _ _ (c .if1 .left)
 
 sub-k : tie.Need-sub-k Inv-loop μ-loop
 sub-k c = search needs
 
-last-byte-requires-2 : tie.Need-last-byte-requires-2 Inv-loop μ-loop
-last-byte-requires-2 c κs = let a = c .before .loop .inv .few in let b = c .before .loop .inv .inside in omega (arith, c .loop-test .taken)
+rows-apart-requires : tie.Need-rows-apart-requires Inv-loop μ-loop
+rows-apart-requires c κs = search needs
 
 row-same-requires : tie.Need-row-same-requires Inv-loop μ-loop
 row-same-requires c κs = let a = c .before .before .before .loop .inv .few in let b = c .before .before .before .loop .inv .inside in (omega arith, omega arith)
@@ -41,7 +39,7 @@ loop-less-2 : tie.Need-loop-less-2 Inv-loop μ-loop
 loop-less-2 c = omega (arith, c .before .before .loop-test .taken)
 
 loop-again-2 : tie.Need-loop-again-2 Inv-loop μ-loop
-loop-again-2 c = left-apart _ _ _ _ (c .before .before .before .loop .inv) (c .before .before .loop-test .taken) _ _ (c .before .before .before .before .last-byte .ensures) (c .before .last-byte2 .ensures) (c .if2 .left)
+loop-again-2 c = left-apart _ _ _ _ (c .before .before .before .loop .inv) (c .before .before .loop-test .taken) _ (c .before .before .before .before .before .before .before .before .pre) (c .before .rows-apart .ensures (not-false _ (c .if2 .left)))
 
 returns-3 : tie.Need-returns-3 Inv-loop μ-loop
 returns-3 c = left-end _ _ _ _ (c .before .loop .inv) (c .loop-test .left)
@@ -53,10 +51,9 @@ declared-before-spec =
     Inv-loop
     μ-loop
     returns
-    last-byte-requires
     loop-holds
     sub-k
-    last-byte-requires-2
+    rows-apart-requires
     row-same-requires
     returns-2
     loop-less

@@ -6,16 +6,19 @@ use Rattle.type_names.proofs.find_row.Statement.{statement}
 use Rattle.type_names.proofs.find_row.Tie as tie
 
 abbrev Inv-loop : tie.InvT-loop
-Inv-loop set t count name sort i₀ i = Going set t name sort count i
+Inv-loop set t count sums name sort sum i₀ i = Going set t name sort count i
 
 abbrev μ-loop : tie.MeasureT-loop
-μ-loop set t count name sort i₀ i = count - i
+μ-loop set t count sums name sort sum i₀ i = count - i
+
+checksum-requires : tie.Need-checksum-requires Inv-loop μ-loop
+checksum-requires c κs = search needs
 
 loop-holds : tie.Need-loop-holds Inv-loop μ-loop
 loop-holds c = going-start _ _ _ _ _
 
 row-fits-requires : tie.Need-row-fits-requires Inv-loop μ-loop
-row-fits-requires c κs = search needs
+row-fits-requires c κs = (c .before .before .before .before .before .before .before .pre, c .before .before .checksum .ensures)
 
 returns : tie.Need-returns Inv-loop μ-loop
 returns c = going-found _ _ _ _ _ _ (c .before .before .before .loop .inv) (c .before .before .loop-test .taken) _ (c .before .row-fits .ensures) (c .if1 .taken)
@@ -38,6 +41,7 @@ find-row-spec =
     (tie.spec
     Inv-loop
     μ-loop
+    checksum-requires
     loop-holds
     row-fits-requires
     returns

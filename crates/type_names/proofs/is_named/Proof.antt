@@ -1,4 +1,4 @@
-use mathlib.Core.Path.{sym}
+use Rattle.type_names.proofs.RowSumLaws.{name-apart}
 use Rattle.type_names.proofs.NamedLaws.{Going, going-start, going-end, going-short, going-unlike, going-more, named-past, named-is}
 use borrow.Author.Needs.{needs}
 use native.Mathlib.Omega.{arith}
@@ -6,19 +6,19 @@ use Rattle.type_names.proofs.is_named.Statement.{statement}
 use Rattle.type_names.proofs.is_named.Tie as tie
 
 abbrev Inv-loop : tie.InvT-loop
-Inv-loop set t name row code c₀ end₀ c end = Going set t name code c end
+Inv-loop set t sums name sum row code c₀ end₀ c end = Going set t name code c end
 
 abbrev μ-loop : tie.MeasureT-loop
-μ-loop set t name row code c₀ end₀ c end = end
+μ-loop set t sums name sum row code c₀ end₀ c end = end
 
 returns : tie.Need-returns Inv-loop μ-loop
 returns c = named-past _ _ _ _ (c .if1 .taken)
 
-ends-apart-requires : tie.Need-ends-apart-requires Inv-loop μ-loop
-ends-apart-requires c κs = omega (arith, c .if1 .left)
+sums-apart-requires : tie.Need-sums-apart-requires Inv-loop μ-loop
+sums-apart-requires c κs = search needs
 
 returns-2 : tie.Need-returns-2 Inv-loop μ-loop
-returns-2 c = named-is _ _ _ _ (c .before .before .if1 .left) _ (sym (c .before .ends-apart .ensures (c .if2 .taken)))
+returns-2 c = name-apart _ _ _ (c .before .before .before .before .before .before .before .pre .0) _ _ _ (c .before .before .before .before .before .before .before .pre .1) (c .before .sums-apart .ensures (c .if2 .taken))
 
 add-code : tie.Need-add-code Inv-loop μ-loop
 add-code c = omega (arith, c .before .before .if1 .left)
@@ -60,7 +60,7 @@ is-named-spec =
     Inv-loop
     μ-loop
     returns
-    ends-apart-requires
+    sums-apart-requires
     returns-2
     add-code
     enter-requires

@@ -5,17 +5,17 @@ use Prim.Native.Nat.{_≤_, _-_, _<_, _^_}
 use lib.ListN.{length, drop}
 use Rattle.checksums.specs.Sums.{sum-from}
 use Rattle.checksums.proofs.Steps.{sum-more, sum-end}
-use Rattle.checksums.proofs.checksum.Statement.{statement}
-use Rattle.checksums.proofs.checksum.Tie as tie
+use Rattle.checksums.proofs.checksum_from.Statement.{statement}
+use Rattle.checksums.proofs.checksum_from.Tie as tie
 
 abbrev Inv-loop : tie.InvT-loop
-Inv-loop s h₀ i₀ h i = (i ≤ length s) × (h < 2 ^ 32) × (sum-from h (drop i s) ≡ sum-from 0 s)
+Inv-loop h s sum₀ i₀ sum i = (i ≤ length s) × (sum < 2 ^ 32) × (sum-from sum (drop i s) ≡ sum-from h s)
 
 abbrev μ-loop : tie.MeasureT-loop
-μ-loop s h₀ i₀ h i = length s - i
+μ-loop h s sum₀ i₀ sum i = length s - i
 
 loop-holds : tie.Need-loop-holds Inv-loop μ-loop
-loop-holds c = (omega arith, omega arith, refl)
+loop-holds c = (omega arith, c .before .pre, refl)
 
 shared-slice-read-wide : tie.Need-shared-slice-read-wide Inv-loop μ-loop
 shared-slice-read-wide c = omega arith
@@ -23,11 +23,11 @@ shared-slice-read-wide c = omega arith
 wide-requires : tie.Need-wide-requires Inv-loop μ-loop
 wide-requires c κs = search needs
 
-mul-h : tie.Need-mul-h Inv-loop μ-loop
-mul-h c = omega (arith, c .wide .ensures .1, c .before .before .before .loop .inv .1)
+mul-sum : tie.Need-mul-sum Inv-loop μ-loop
+mul-sum c = omega (arith, c .wide .ensures .1, c .before .before .before .loop .inv .1)
 
-add-h : tie.Need-add-h Inv-loop μ-loop
-add-h c = omega (arith, c .wide .ensures .1, c .before .before .before .loop .inv .1)
+add-sum : tie.Need-add-sum Inv-loop μ-loop
+add-sum c = omega (arith, c .wide .ensures .1, c .before .before .before .loop .inv .1)
 
 add-i : tie.Need-add-i Inv-loop μ-loop
 add-i c = omega arith
@@ -39,10 +39,10 @@ loop-again : tie.Need-loop-again Inv-loop μ-loop
 loop-again c = (omega arith, omega arith, sum-more _ _ _ _ (c .before .before .loop-test .taken) (c .wide .ensures .0) ∙ c .before .before .before .loop .inv .2)
 
 returns : tie.Need-returns Inv-loop μ-loop
-returns c = sym (sum-end (c .before .before .before .args .s .now) (c .before .loop .h) (c .before .loop .i) (omega arith)) ∙ c .before .loop .inv .2
+returns c = (sym (sum-end (c .before .before .before .args .s .now) (c .before .loop .sum) (c .before .loop .i) (omega arith)) ∙ c .before .loop .inv .2, c .before .loop .inv .1)
 
-pub checksum-spec : {M : Type 1} → statement M
-checksum-spec =
+pub checksum-from-spec : {M : Type 1} → statement M
+checksum-from-spec =
     tie.close
     (tie.spec
     Inv-loop
@@ -50,8 +50,8 @@ checksum-spec =
     loop-holds
     shared-slice-read-wide
     wide-requires
-    mul-h
-    add-h
+    mul-sum
+    add-sum
     add-i
     loop-less
     loop-again
