@@ -18,6 +18,7 @@ use Rattle.name_rules.specs.FullNames.{set-entries}
 use Rattle.context.specs.MessageGraph.{links}
 use Rattle.context_laws.specs.Links.{Led}
 use Rattle.code_generator.specs.Piece.{Ref, type, choice, Owned}
+use Rattle.code_generator.specs.Oneofs.{oneof-of}
 use Rattle.name_check.specs.NameCheck.{package-modules}
 use Rattle.calls.specs.TextCall.{given, text-call, text-left, file-at}
 use Rattle.calls.specs.NameCall.{name-call}
@@ -29,7 +30,7 @@ use Rattle.option_values.specs.OptionValues.{Row-value, Extern-value}
 use Rattle.text_sights.specs.Written.{written-sights}
 use Rattle.paths_reach.specs.Reach.{package-item, those, is-that-declaration, Through, outside, inside}
 use Rattle.walks_end.specs.Walks.{Walk}
-use Rattle.walks_end.specs.BoxedFields.{no-boxed-setting, written-fields, leads-back}
+use Rattle.walks_end.specs.BoxedFields.{no-boxed-setting, written-fields, leads-back, oneof-name}
 
 -- ---- where the claim holds
 -- the name check says yes, and the text call refuses no file of the set, "each in a buffer of its own". buffers: the buffer for each file index
@@ -47,7 +48,7 @@ symbols set options file = text-symbols (settings options) (decode-set set) (fil
 abbrev pub file-seen : Bytes → Bytes → ℕ → List Sight
 file-seen set options file = read (file-place (file-at (decode-set set) file)) [] (see (symbols set options file))
 
--- n file indexes from one on
+-- n file indexes, from the one given on
 abbrev pub indexes : ℕ → ℕ → List ℕ
 indexes file zero = []
 indexes file (suc n) = file ∷ indexes (suc file) n
@@ -140,11 +141,13 @@ pub record Leads-back-field (set options : Bytes) (o : Owned) : Type 0 where
   pub singular : is-repeated (o .field) ≡ false
   pub leads : Led (links (set-entries (decode-set set))) (text (o .field .type-name)) (o .message)
 
--- a Box that is seen stands at this field: in its message's struct, or in the enum of a oneof of its message; under its name there
+-- a Box that is seen stands at this field, under the field's name there: in its message's struct, where the field is in no oneof (proto3_optional
+-- takes it out of one), or in the enum of its own oneof, the one of its message with that index
 pub data Box-at (set options : Bytes) (x : BoxUse) (o : Owned) : Type 0 where
-  in-struct : (struct : Item) → List·Memᴰ struct (items (described set options)) → struct .mark ≡ some (type (o .message))
+  in-struct : (struct : Item) → oneof-of (o .field) ≡ none → List·Memᴰ struct (items (described set options)) → struct .mark ≡ some (type (o .message))
       → x ≡ record { owner = some (unmarked-item struct); field = some (record { name = to-snake (text (o .field .name)); mark = none }) } → Box-at set options x o
-  in-oneof : (enum : Item) (oneof : Bytes) → List·Memᴰ enum (items (described set options)) → enum .mark ≡ some (choice (o .message) oneof)
+  in-oneof : (enum : Item) (message : MessageDescriptor) (k : ℕ) → List·Memᴰ (record { full = o .message; message = message }) (set-entries (decode-set set)) → oneof-of (o .field) ≡ some k
+      → List·Memᴰ enum (items (described set options)) → enum .mark ≡ some (choice (o .message) (oneof-name message k))
       → x ≡ record { owner = some (unmarked-item enum); field = some (record { name = to-upper-camel (text (o .field .name)); mark = none }) } → Box-at set options x o
 
 -- these fields, in the texts' order

@@ -30,7 +30,7 @@ use Rattle.paths_reach.specs.Nodes.{names-of}
 use Rattle.paths_reach.specs.Targets.{entry-of}
 use Rattle.paths_reach.specs.Entries.{set-nodes}
 use Rattle.walks_end.specs.Walks.{group-free, Walk}
-use Rattle.walks_end.specs.BoxedFields.{no-boxed-setting, written-fields, leads-back, label-mark, boxed-field}
+use Rattle.walks_end.specs.BoxedFields.{no-boxed-setting, written-fields, leads-back, oneof-name, label-mark, boxed-field}
 use Rattle.walks_end.specs.Origins.{owner-mark}
 use Rattle.walks_end.specs.Owners.{box-owners-seen}
 use Rattle.walks_end.specs.Unmarked.{Keeps, those-mem, mem-those, walks-end-unmarked}
@@ -176,15 +176,15 @@ module _ (set options : Bytes) (names-differ : Names-differ set options) where
   same-owned : {p o : Owned} → some p ≡ some o → p ≡ o
   same-owned e = cc
 
-  box-at : (x : BoxUse) → List·Memᴰ x (boxes (set-sights rs files)) → (o : Owned) → boxed-field x ≡ some o → Labelled x → Box-at set options (unmarked-box x) o
-  box-at x m o e (at-field full f own at) =
+  box-at : (x : BoxUse) → List·Memᴰ x (boxes (set-sights rs files)) → (o : Owned) → boxed-field x ≡ some o → Labelled files x → Box-at set options (unmarked-box x) o
+  box-at x m o e (at-field full f plain own at) =
       let (i, around, mark, there) = owner-there x m (type full) own in
       subst (λ (z : Owned). Box-at set options (unmarked-box x) z) (same-owned (sym (ap label-mark at) ∙ e))
-      (in-struct i there mark (shown x i (label-of full f (snake (text (f .name)))) around at))
-  box-at x m o e (at-variant full oneof f own at) =
-      let (i, around, mark, there) = owner-there x m (choice full oneof) own in
+      (in-struct i plain there mark (shown x i (label-of full f (snake (text (f .name)))) around at))
+  box-at x m o e (at-variant full message k f in-set is own at) =
+      let (i, around, mark, there) = owner-there x m (choice full (oneof-name message k)) own in
       subst (λ (z : Owned). Box-at set options (unmarked-box x) z) (same-owned (sym (ap label-mark at) ∙ e))
-      (in-oneof i oneof there mark (shown x i (label-of full f (camel (text (f .name)))) around at))
+      (in-oneof i message k in-set is there mark (shown x i (label-of full f (camel (text (f .name)))) around at))
 
   boxes-at : (xs : List BoxUse) → ((x : BoxUse) → List·Memᴰ x xs → List·Memᴰ x (boxes (set-sights rs files))) → (os : List Owned) → map boxed-field xs ≡ map some os
       → Side-by-side (Box-at set options) (map unmarked-box xs) os

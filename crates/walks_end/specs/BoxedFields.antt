@@ -1,9 +1,11 @@
--- The fields at which document 01 has a Box, where there is no boxed setting: "the written singular message fields whose type leads back to
--- their own message".
+-- The fields at which document 01 has a Box, where there is no boxed setting: the written singular message fields whose type leads back to
+-- their own message.
+use Prim.Native.Nat.{ℕ}
 use mathlib.Core.Bool.{Bool, _&&_, _||_, not}
 use mathlib.Core.Option.{Option, some, none}
 use mathlib.Core.List.{List, [], _++_, map}
 use lib.Dec.{eqb}
+use lib.ListN.{getD}
 use Rattle.base.specs.Choose.{choose}
 use Rattle.base.specs.Lists.{all, all-of}
 use Rattle.descriptor.specs.Descriptor.{Bytes, Forest, done, node, FieldDescriptor, MessageDescriptor, FileDescriptor}
@@ -40,6 +42,10 @@ written-fields rs set = all-of (λ (f : FileDescriptor). written-in rs (package-
 -- "Leading back is by links."
 abbrev pub leads-back : List FileDescriptor → Owned → Bool
 leads-back set o = is-link (o .field) && is-nested set (text (o .field .type-name)) (o .message)
+
+-- the name of a message's oneof, by its index
+abbrev pub oneof-name : MessageDescriptor → ℕ → Bytes
+oneof-name m k = text (getD (m .oneofs) k none)
 
 -- the field at which a Box stands
 abbrev pub label-mark : Option Label → Option Owned
