@@ -8,23 +8,23 @@ use lib.ListN.{length, drop}
 use Rattle.base.specs.Choose.{choose}
 use Rattle.descriptor.specs.Descriptor.{Bytes, done, FileDescriptor}
 use Rattle.descriptor.specs.Decode.{decode-set}
-use Rattle.limits.specs.Answer.{read-set}
+use Rattle.limits.specs.Answer.{read-set, refusal-number as read-number, refusal-place as read-place}
 use Rattle.limits.specs.declared.Read.{Read}
 use Rattle.limits.specs.declared.Read.the-variants as read
 use Rattle.options.specs.Settings.{Setting, settings}
-use Rattle.options.specs.Layout.{layout}
+use Rattle.options.specs.Layout.{layout, refusal-number as layout-number, refusal-place as layout-place}
 use Rattle.options.specs.declared.check.Layout.{Layout}
 use Rattle.options.specs.declared.check.Layout.the-variants as row
-use Rattle.extern_checks.specs.Doubles.{externs}
+use Rattle.extern_checks.specs.Doubles.{externs, refusal-number as externs-number, refusal-place as externs-place}
 use Rattle.extern_checks.specs.declared.Externs.{Externs}
 use Rattle.extern_checks.specs.declared.Externs.the-variants as extern
-use Rattle.name_rules.specs.Answer.{names}
+use Rattle.name_rules.specs.Answer.{names, refusal-number as names-number, refusal-place as names-place}
 use Rattle.name_rules.specs.declared.Names.{Names}
 use Rattle.name_rules.specs.declared.Names.the-variants as name
 use Rattle.code_generator.specs.Generate.{file-text}
 use Rattle.code_generator.specs.Refusals.{variants-overlap, defaults-fail}
 
--- what a call gives: the number of a refusal and its place; or 0 and a length, or for the name check 1 (yes) or 0 (no)
+-- what a call gives: the number of a refusal and its place (document 01's "Returned: number, place"); or 0 and a length, or for the name check 1 (yes) or 0 (no)
 pub record Outcome : Type 0 where
   pub number : ℕ
   pub place : ℕ
@@ -35,22 +35,22 @@ given n = record { number = 0; place = n }
 abbrev pub refused : ℕ → ℕ → Outcome
 refused number place = record { number = number; place = place }
 
--- ---- the refusals in document 01's order: each is given what comes where it doesn't apply
+-- ---- the refusals in document 01's order: each is given what comes where it doesn't apply. Number and place of each answer are its own definition's
 -- 1
 abbrev pub by-layout : Layout → Outcome → Outcome
 by-layout row.Good x = x
-by-layout (row.Broken place) x = refused 1 place
+by-layout (row.Broken place) x = refused (layout-number (row.Broken place)) (layout-place (row.Broken place))
 
 -- 2
 abbrev pub by-externs : Externs → Outcome → Outcome
 by-externs extern.Good x = x
-by-externs (extern.Bad place) x = refused 2 place
+by-externs (extern.Bad place) x = refused (externs-number (extern.Bad place)) (externs-place (extern.Bad place))
 
 -- 3 and 4; limit 1 comes before 3
 abbrev pub by-reading : Read → Outcome → Outcome
 by-reading read.Good x = x
-by-reading (read.Fault place) x = refused 3 place
-by-reading (read.Passed limit) x = refused 4 limit
+by-reading (read.Fault place) x = refused (read-number (read.Fault place)) (read-place (read.Fault place))
+by-reading (read.Passed limit) x = refused (read-number (read.Passed limit)) (read-place (read.Passed limit))
 
 -- 5: the file index, and how many files there are
 unfoldable pub by-index : ℕ → ℕ → Outcome → Outcome
@@ -59,8 +59,8 @@ by-index file count x = choose (ltb file count) x (refused 5 count)
 -- 6 and 7
 abbrev pub by-names : Names → Outcome → Outcome
 by-names name.Good x = x
-by-names (name.Six file) x = refused 6 file
-by-names (name.Seven file) x = refused 7 file
+by-names (name.Six file) x = refused (names-number (name.Six file)) (names-place (name.Six file))
+by-names (name.Seven file) x = refused (names-number (name.Seven file)) (names-place (name.Seven file))
 
 -- 10: a text of n bytes in a buffer with room for so many
 abbrev pub max-text : ℕ

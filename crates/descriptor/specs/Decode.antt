@@ -1,5 +1,6 @@
--- The descriptor that bytes hold, by the encoding's document and descriptor.proto alone: of a singular field the last value counts, and the
--- occurrences of an embedded options message are joined. Nothing here knows a position.
+-- The descriptor that bytes hold, by the encoding's document and descriptor.proto: of a singular field the last value counts, and the
+-- occurrences of an embedded options message are joined. Messages nested deeper than 16 are left out (document 01's limit 7). Nothing here knows
+-- a position.
 use Prim.Native.Nat.{ℕ, zero, suc, _%_, _^_}
 use mathlib.Core.Bool.{Bool, true, false, not, _||_}
 use mathlib.Core.List.{List, [], _∷_, _++_, map}

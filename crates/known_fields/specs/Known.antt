@@ -1,5 +1,5 @@
 -- The known fields of descriptor.proto: document 01's list, one table. Every other field is unknown.
--- A sort of message is a number. A call that knows more fields than the others has a sort of set of its own.
+-- A sort of message is a number.
 use Prim.Native.Nat.{ℕ, _+_}
 use mathlib.Core.List.{List, [], _∷_}
 use lib.Dec.{eqb}

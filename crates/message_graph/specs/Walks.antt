@@ -7,7 +7,7 @@ use mathlib.Core.List.List·Memᴰ.{List·Memᴰ·head, List·Memᴰ·tail}
 use Rattle.base.specs.Tests.{and-left, and-right, and-both, or-left, or-right, or-cases}
 
 module _ {L N : Type 0} (from to : L → N) where
-  -- from a to b by the list's links
+  -- from a to b by the list's links; document 01's "walk" is another one, through texts (walks_end)
   pub data Walk (ls : List L) : N → N → Type 0 where
     stay : {a : N} → Walk ls a a
     go : {a b : N} (l : L) → List·Memᴰ l ls → from l ≡ a → Walk ls (to l) b → Walk ls a b

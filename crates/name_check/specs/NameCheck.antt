@@ -16,7 +16,7 @@ use Rattle.code_generator.specs.Oneofs.{OneofField, plain-fields, oneof-fields,
 use Rattle.code_generator.specs.Generate.{has-module}
 use Rattle.code_generator.specs.Refusals.{any-message, overlap}
 
--- a written name in its module. A module is told by its names in the set: `.a.b` is package a.b's, `.a.b.M` that of its message M, and the
+-- a written name in its module (not the place of a refusal). A module is told by its names in the set: `.a.b` is package a.b's, `.a.b.M` that of its message M, and the
 -- empty one the root
 pub record Place : Type 0 where
   pub home : Bytes

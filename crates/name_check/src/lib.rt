@@ -1,1 +1,1 @@
-// The name check: are the written paths of a set's texts free of names that meet? The definition stands in specs/.
+// The name check: do the names that are written differ within each module, struct and oneof? The definition stands in specs/.

@@ -1,18 +1,18 @@
 -- Rows of places: those of a text that has them one behind the other, and that same rows are those of same places. Assumes nothing.
-use Prim.Native.Nat.{ℕ, zero, suc, _+_, _-_, _*_, _/_, _^_, _<_, _≤_}
+use Prim.Native.Nat.{ℕ, zero, suc, _+_, _-_, _*_, _^_, _<_, _≤_}
 use mathlib.Core.Path.{_≡_, refl, sym, ap, ap₂, _∙_}
 use mathlib.Core.Bool.{Bool, true, false, _&&_, _||_, not}
 use mathlib.Core.List.{List, [], _∷_, _++_, map, append-assoc, append-nil}
 use native.Mathlib.Omega.{arith}
 use native.Mathlib.Decide.{decLe}
 use lib.ListN.{length, getD, take, drop, replicate, length-append, length-replicate, length-take, take-append-drop, drop-of-length-le}
-use lib.Seq.{sets-eq, take-all, take-at, drop-at, length-take-le}
+use lib.Seq.{take-all, take-at, drop-at, length-take-le}
 use Rattle.base.specs.Bytes.{same, same-refl, same-sound, same-length}
-use Rattle.base.specs.Choose.{choose, else-lt}
+use Rattle.base.specs.Choose.{else-lt}
 use Rattle.base.specs.Lists.{all-of, any, Every}
 use Rattle.base.specs.Tests.{both-ways, and-left, and-right, and-both}
 use Rattle.heck.specs.Case.{between}
-use Rattle.writer.specs.Wrote.{Wrote, over, after, over-length, over-cut}
+use Rattle.writer.specs.Wrote.{over, over-length, over-cut}
 use Rattle.ident.specs.Convert.{padded}
 use Rattle.ident.specs.Name.{name-start, name-part, every}
 use Rattle.ident.proofs.EveryLaws.{every-head, every-tail}
@@ -52,21 +52,6 @@ pub rows-size : (ps : List Place) → length (rows-of ps) ≡ length ps * row-le
 unfolding all-of
 rows-size [] = refl
 rows-size (p ∷ ps) = rw (length-append (place-row p) (rows-of ps), row-size (p .home) (p .name), rows-size ps) (omega arith)
-
--- in a buffer that has room for them: r is the place behind them
-pub rows-written : (ps : List Place) {u v : Bytes} {r : ℕ} → Wrote u 0 (rows-of ps) v r → r ≤ length u → (r / row-length ≡ length ps) × (rows-in (r / row-length) v ≡ map place-row ps)
-unfolding over after
-rows-written ps {u} {v} {r} w h =
-    let size = rows-size ps in
-    let room = w .room in
-    let end = w .next in
-    let whole : r ≡ length ps * row-length = omega arith in
-    let n : r / row-length ≡ length ps = omega arith in
-    let fits : 0 + length (rows-of ps) ≤ length u = omega arith in (
-      n,
-      ap (λ (k : ℕ). rows-in k v) n ∙ ap (rows-in (length ps)) (w .text ∙ sets-eq (rows-of ps) u 0 fits)
-          ∙ rows-back ps (drop (0 + length (rows-of ps)) u),
-    )
 
 -- ---- a place whose row is its own: short, and without a byte 0
 abbrev pub Plain : Bytes → Type 0

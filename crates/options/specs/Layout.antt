@@ -6,7 +6,7 @@ use lib.Dec.{eqb, leb, ltb}
 use lib.ListN.{length, take}
 use Rattle.base.specs.Choose.{choose}
 use Rattle.options.specs.Kinds.{is-kind, has-path, has-value, stands-once}
-use Rattle.options.specs.Settings.{Setting, row-count, kind-at, path-length, value-length, zero-at, bodies, part, settings}
+use Rattle.options.specs.Settings.{row-count, kind-at, path-length, value-length, zero-at, bodies, part}
 use Rattle.options.specs.declared.check.Layout.{Layout}
 use Rattle.options.specs.declared.check.Layout.the-variants.{Good, Broken}
 
@@ -64,15 +64,3 @@ refusal-number (Broken place) = 1
 abbrev pub refusal-place : Layout → ℕ
 refusal-place Good = 0
 refusal-place (Broken place) = place
-
--- ---- what an options file is: its rows, or the place of refusal 1
-pub data Options : Type 0 where
-  refused : ℕ → Options
-  rows : List Setting → Options
-
-abbrev pub when-good : Layout → List Setting → Options
-when-good Good rs = rows rs
-when-good (Broken place) rs = refused place
-
-unfoldable pub options-of : List ℕ → Options
-options-of o = when-good (layout o) (settings o)

@@ -31,7 +31,7 @@ suffixes path = filled (behind-dots path)
 unfoldable pub prefixes : List ℕ → List (List ℕ)
 prefixes path = filled (before-dots path)
 
--- itself, suffixes, prefixes, `.`
+-- document 01's "forms of a path", best first: itself, suffixes, prefixes, `.`
 unfoldable pub sub-path-iter : List ℕ → List (List ℕ)
 sub-path-iter path = path ∷ (suffixes path ++ (prefixes path ++ (b "." ∷ [])))
 

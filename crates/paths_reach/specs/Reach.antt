@@ -33,7 +33,7 @@ same-names [] (y ∷ ys) = false
 same-names (x ∷ xs) [] = false
 same-names (x ∷ xs) (y ∷ ys) = same x y && same-names xs ys
 
--- a place: the modules from the innermost to the outermost
+-- where something stands: the modules from the innermost to the outermost
 abbrev pub stands-at : List Bytes → Bytes → Item → Bool
 stands-at place name i = same-names (i .place) place && same (i .name) name
 

@@ -7,7 +7,7 @@ use Rattle.ident.specs.Ident.{to-snake}
 use Rattle.descriptor.specs.Descriptor.{Bytes}
 use Rattle.code_generator.specs.Piece.{Piece, raw, opaque, extern, name, mod-open, decl-open, label, path, mark, Mark, comma, close, block-open, tag-open, tag-close, wrap-open, wrap-close, Wrap, Ref, Owned, Way, spelt}
 
--- a path as it is written: how many `super`, the names of the modules, the name of the declaration
+-- document 01's "written path", as it stands in a text: how many `super`, the names of the modules, the name of the declaration
 pub record WrittenPath : Type 0 where
   pub supers : ℕ
   pub modules : List Bytes

@@ -1,4 +1,6 @@
--- What is seen in the text of a file, said of its descriptors. fs: what is open around it; base: where the text stands. Assumes nothing.
+-- What is seen in the text of a file, said of its descriptors: declarations, Box, and document 01's written paths ("the path for a message, group,
+-- enum or oneof, in a field's or variant's type or in its `enumeration` or `oneof` tag"). fs: what is open around it; base: where the text stands.
+-- Assumes nothing.
 use mathlib.Core.Bool.{Bool, _||_, not}
 use mathlib.Core.Option.{Option, some, none}
 use mathlib.Core.List.{List, [], _∷_, _++_}

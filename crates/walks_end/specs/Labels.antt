@@ -166,13 +166,14 @@ module _ (rs : List Setting) (base : List Bytes) (set : List FileDescriptor) whe
       let variant = variant-sights rs base set gs full x in
       let (k, own, name) = named-at m nested 0 (m .oneofs) x i in
       let first : 0 + k ≡ k = omega arith in
-      let fields : x .fields ≡ fields-at k (m .fields) = own ∙ ap (λ (z : ℕ). fields-at z (m .fields)) first in
-      (tt,
-      every-of (Well set) variant (x .fields)
-      (every-mem (λ (f : FieldDescriptor). Every (Well set) (variant f)) (x .fields)
-      (λ f l.
-      let at = at-is k (oneof-of f) (at-mem k f (m .fields) (subst (λ (z : List FieldDescriptor). List·Memᴰ f z) fields l) .1) in
-      well-variant gs full x m k there (ap (λ (z : Bytes). some (choice full z)) name) f at)))
+      let fields : x .fields ≡ fields-at k (m .fields) = own ∙ ap (λ (z : ℕ). fields-at z (m .fields)) first in (
+        tt,
+        every-of (Well set) variant (x .fields)
+            (every-mem (λ (f : FieldDescriptor). Every (Well set) (variant f)) (x .fields)
+            (λ f l.
+            let at = at-is k (oneof-of f) (at-mem k f (m .fields) (subst (λ (z : List FieldDescriptor). List·Memᴰ f z) fields l) .1) in
+            well-variant gs full x m k there (ap (λ (z : Bytes). some (choice full z)) name) f at)),
+      )
 
   well-enums : (fs : List Frame) (scope : Bytes) (es : List EnumDescriptor) → Every (Well set) (all-of (enum-sights rs base fs scope) es)
   unfolding enum-sights

@@ -34,7 +34,7 @@ pub record Step (items : List Item) (us : List Use) (from to : Item) : Type 0 wh
   pub free : only-options (path .wraps) ≡ true
   pub leads-to : List·Memᴰ to (those (is-that-declaration (inside path) (path .path .last)) items)
 
--- one step or more
+-- document 01's "walk": one step or more
 pub data Walk (items : List Item) (us : List Use) : Item → Item → Type 0 where
   last : {a c : Item} → Step items us a c → Walk items us a c
   more : {a c d : Item} → Step items us a c → Walk items us c d → Walk items us a d

@@ -2,6 +2,7 @@
 -- A field is a number and a value. Within 64 bits: a varint has at most ten bytes and a value below 2 ^ 64, which also bounds keys and lengths.
 -- What follows for bytes that encode nothing: a key, value or payload is cut where no split into the parts below is left before the end; a varint
 -- of eleven bytes, or of ten with a value of 2 ^ 64 or more, is over 64 bits; a key whose number is 0, or whose wire type is 3, 4, 6 or 7, begins no field.
+-- Wire types 3 and 4, which the encoding's document has for the start and end of a group, are left out by document 01: it refuses them.
 use Prim.Native.Nat.{ℕ, _+_, _*_, _^_, _<_, _≤_}
 use mathlib.Core.Path.{_≡_}
 use mathlib.Core.List.{List, [], _∷_, _++_}

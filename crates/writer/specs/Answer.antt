@@ -1,17 +1,16 @@
 -- A text in a buffer, whole or not at all. Assumes nothing.
-use Prim.Native.Nat.{ℕ, zero, suc, _+_, _-_, _^_, _≤_, _<_, min}
+use Prim.Native.Nat.{ℕ, _+_, _^_, _≤_, _<_, min}
 use native.Mathlib.Omega.{arith}
 use native.Mathlib.Nat.{zero-add}
 use mathlib.Core.Bool.{Bool, true, false}
-use mathlib.Core.Path.{_≡_, refl, sym, ap, _∙_}
-use mathlib.Core.List.{List, [], _∷_, _++_}
+use mathlib.Core.Path.{_≡_, ap, _∙_}
+use mathlib.Core.List.{List, _++_}
 use lib.Dec.{leb}
-use lib.ListN.{length, take, drop}
-use lib.Seq.{sets, sets-eq}
-use borrow.Author.Tests.{le-leb, lt-leb}
-use borrow.Rule.Slice.PartMut.{midOf, putMid}
+use lib.ListN.{length, drop}
+use lib.Seq.{sets-eq}
+use borrow.Author.Tests.{le-leb}
 use Rattle.writer.specs.Text.{pick}
-use Rattle.writer.specs.Wrote.{over, after, Wrote, over-nil}
+use Rattle.writer.specs.Wrote.{over, after, Wrote}
 use Rattle.writer.specs.declared.Answer.{Answer}
 use Rattle.writer.specs.declared.Answer.the-variants.{Written, Short}
 
@@ -25,20 +24,9 @@ pub record Rendered (t p t' : List ℕ) (r : Answer) : Type 0 where
   pub text : t' ≡ pick (leb (length p) (length t)) (p ++ drop (length p) t) t
   pub answer : r ≡ pickAnswer (leb (length p) (length t)) (Written (length p)) (Short (min (length p) (2 ^ 63)))
 
--- a text was measured in an empty part of t, which is as it was
-pub measured : (t : List ℕ) {p s : List ℕ} {n : ℕ} → Wrote (midOf 0 0 t) 0 p s n → putMid 0 0 t s ≡ t
-measured t {p} {s} w = ap (λ (l : List ℕ). putMid 0 0 t l) (w .text ∙ over-nil 0 p)
-
 pub needs-room : {p s s' : List ℕ} {n : ℕ} → Wrote s 0 p s' n → n ≡ min (length p) (2 ^ 63)
 unfolding after
 needs-room {p} w = w .next ∙ omega arith
-
-pub refused : {t t' p s s' : List ℕ} {n : ℕ} → t' ≡ t → Wrote s 0 p s' n → length t' < n → Rendered t p t' (Short n)
-refused {t} {t'} {p} {s} {s'} {n} e w h =
-    let g : n ≡ min (length p) (2 ^ 63) = needs-room w in
-    let q : length t' ≡ length t = ap length e in
-    let k : length t < length p = omega arith in
-    record { text = rw (lt-leb (length p) (length t) k) e; answer = rw (lt-leb (length p) (length t) k) (ap Short g) }
 
 whole : (t p : List ℕ) → length p ≤ length t → over t 0 p ≡ p ++ drop (length p) t
 unfolding over
