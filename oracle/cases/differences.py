@@ -1,7 +1,11 @@
 """The smallest sets of docs/DIFFERENCES.md and docs/ORACLE.md on which both sides don't agree or can't be compared."""
 
-from model import BOOL, BYTES, INT32, OPTIONAL, Enum, Field, File, Message, Value, encode
+from model import BOOL, BYTES, ENUM, INT32, MESSAGE, OPTIONAL, REPEATED, REQUIRED, Enum, Field, File, Message, Value, encode
 from wire import NO_OPTIONS, number, part
+
+
+def field(tag, label, kind):
+    return part(1, b"f") + number(3, tag) + number(4, label) + number(5, kind)
 
 
 def sets():
@@ -21,6 +25,23 @@ def sets():
     yield encode([File(None, None, [Message("M", [Field("_", 1, OPTIONAL, BOOL)])])])
     yield encode([File(None, "proto4")])
     yield part(1, part(2, b"a") * 2)
+    yield bytes.fromhex("1314")
+    yield encode([File(None, None, [Message("M", [Field("a-b", 1, OPTIONAL, INT32)])])])
+    for package in (b"", b"a..b"):
+        yield part(1, part(2, package) + part(4, part(1, b"M")))
+    # Fields that it takes, reads otherwise, leaves out or panics on.
+    for record in (
+        field(0, OPTIONAL, INT32),
+        field(1, OPTIONAL, 99),
+        field(1, 9, INT32),
+        field(1, OPTIONAL, INT32) + number(9, 1),
+        field(1, REQUIRED, INT32) + number(9, 0),
+        field(1, REPEATED, INT32) + number(9, 0),
+        field(1, OPTIONAL, MESSAGE),
+        field(1, OPTIONAL, ENUM) + part(6, b".E") + part(7, b"1a"),
+    ):
+        message = part(1, b"M") + part(2, record) + part(8, part(1, b"o"))
+        yield part(1, part(4, message) + part(5, part(1, b"E") + part(2, part(1, b"A") + number(2, 0))))
 
 
 def difference_cases():
