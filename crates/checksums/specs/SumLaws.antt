@@ -27,6 +27,13 @@ unfolding sum-from
 sum-small h [] l = l
 sum-small h (x ∷ s) l = sum-small ((h * 1000003 + x) % 2 ^ 32) s (omega arith)
 
+-- a checksum goes on where another one ends
+pub sum-on : (a c : List ℕ) → sum-from (sum-of a % 2 ^ 32) c ≡ sum-of (a ++ c)
+sum-on a c =
+    let l = sum-small 0 a (omega arith) in
+    let e : sum-of a % 2 ^ 32 ≡ sum-of a = omega arith in
+    rw e (sym (sum-append 0 a c))
+
 -- other checksums are those of other strings
 pub other-sum : (x y : List ℕ) → eqb (sum-of x) (sum-of y) ≡ false → (x ≡ y → ⊥)
 other-sum x y h is = let e = eq-eqb (sum-of x) (sum-of y) (ap sum-of is) in let z : _≡_ {A = ℕ} 0 1 = cc in omega arith

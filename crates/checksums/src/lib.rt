@@ -1,6 +1,6 @@
 // Checksums of byte strings, and tables of them: the same strings have the same checksum.
 ghost use mathlib.Core.Path.{_≡_};
-ghost use Prim.Native.Nat.{_<_, _^_};
+ghost use Prim.Native.Nat.{_<_, _%_, _^_};
 ghost use Rattle.checksums.specs.Sums.{sum-from, sum-of, holds, repeats, Put};
 
 fn wide(x: u8) -> u64
@@ -9,13 +9,12 @@ fn wide(x: u8) -> u64
     x as u64
 }
 
-// Of bytes behind those whose checksum is h.
+// Of bytes behind those whose checksum is h, of which its last 32 bits are taken.
 pub fn checksum_from(h: u64, s: &[u8]) -> u64
-    requires { ⌜ h < 2 ^ 32 ⌝ }
-    ensures { λ r. ⌜ r ≡ sum-from h (now (s .entry)) ⌝ }
+    ensures { λ r. ⌜ r ≡ sum-from (h % 2 ^ 32) (now (s .entry)) ⌝ }
     ensures { λ r. ⌜ r < 2 ^ 32 ⌝ }
 {
-    let mut sum = h;
+    let mut sum = h % 4294967296;
     let mut i: usize = 0;
     while i < s.len() {
         let x = wide(s[i]);

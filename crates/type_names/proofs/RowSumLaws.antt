@@ -1,8 +1,8 @@
 -- Checksums of the full names of rows, and names that they tell apart. Assumes nothing.
 use mathlib.Core.Path.{_≡_, refl, sym, ap, _∙_}
 use mathlib.Core.Bool.{false}
-use mathlib.Core.List.{List, [], _∷_}
-use Prim.Native.Nat.{ℕ, zero, suc, _+_, _-_, _^_, _≤_, _<_}
+use mathlib.Core.List.{List, [], _∷_, _++_, append-assoc}
+use Prim.Native.Nat.{ℕ, zero, suc, _+_, _-_, _%_, _^_, _≤_, _<_}
 use native.Mathlib.Decide.{decLe}
 use native.Mathlib.Omega.{arith}
 use lib.Dec.{ltb, eqb}
@@ -13,7 +13,7 @@ use Rattle.base.specs.Choose.{choose}
 use Rattle.wire.specs.Records.{part}
 use Rattle.message_graph.specs.Tab.{tab, length-tab, tab-at, tab-whole, Filled}
 use Rattle.checksums.specs.Sums.{sum-from, sum-of}
-use Rattle.checksums.specs.SumLaws.{sum-append, sum-small, unlike}
+use Rattle.checksums.specs.SumLaws.{sum-on, unlike}
 use Rattle.name_rules.specs.FullNames.{_·_}
 use Rattle.declarations.specs.Rows.{cell-at, row-at}
 use Rattle.declarations.specs.Listed.{above, full}
@@ -69,18 +69,15 @@ module _ (bytes t : List ℕ) where
             let code : up ≡ k + 1 = omega arith in
             around-is ∙ rw (ne-eqb up 0 (omega arith), at) (there ∙ ap (λ (n : ℕ). sum-of (full bytes t n)) (sym code))
 
-    pub around-small : around < 2 ^ 32
-    around-small = rw sum-around (sum-small 0 (full bytes t up) (omega arith))
-
     -- what it stands in, a dot, and its own name
-    pub sum-whole : (start len dotted r : ℕ) (own : List ℕ) → start ≡ cell-at t i 0 → len ≡ cell-at t i 1 → dotted ≡ sum-from around (46 ∷ []) → own ≡ part bytes start len
-        → r ≡ sum-from dotted own → r ≡ row-sum bytes t i
+    pub sum-whole : (start len dotted r : ℕ) (own : List ℕ) → start ≡ cell-at t i 0 → len ≡ cell-at t i 1 → dotted ≡ sum-from (around % 2 ^ 32) (46 ∷ []) → own ≡ part bytes start len
+        → r ≡ sum-from (dotted % 2 ^ 32) own → r ≡ row-sum bytes t i
     unfolding row-at
     sum-whole start len dotted r own start-is len-is dotted-is own-is r-is =
         let v : up ≡ above i (row-at t i) = rw u-is at up-is in
         let name : full bytes t (i + 1) ≡ full bytes t up · own = full-cells bytes t i ∙ rw (v, own-is, start-is, len-is) in
-        r-is ∙ rw (dotted-is, sum-around)
-        (sym (sum-append (sum-of (full bytes t up)) (46 ∷ []) own) ∙ sym (sum-append 0 (full bytes t up) (46 ∷ own)) ∙ ap sum-of (sym name) ∙ sym (sum-is i few))
+        r-is ∙ rw (dotted-is, sum-around, sum-on (full bytes t up) (46 ∷ []), sum-on (full bytes t up ++ (46 ∷ [])) own, append-assoc (full bytes t up) (46 ∷ []) own)
+        (ap sum-of (sym name) ∙ sym (sum-is i few))
 
   module _ (sums : List ℕ) (sums-are : sums ≡ row-sums bytes t (length sums)) where
     sum-at : (k : ℕ) → k < length sums → k ≤ 65535 → getD sums k 0 ≡ sum-of (full bytes t (k + 1))

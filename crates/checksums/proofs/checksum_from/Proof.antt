@@ -1,7 +1,7 @@
 use native.Mathlib.Omega.{arith}
 use borrow.Author.Needs.{needs}
 use mathlib.Core.Path.{_≡_, refl, sym, _∙_}
-use Prim.Native.Nat.{_≤_, _-_, _<_, _^_}
+use Prim.Native.Nat.{_≤_, _-_, _<_, _%_, _^_}
 use lib.ListN.{length, drop}
 use Rattle.checksums.specs.Sums.{sum-from}
 use Rattle.checksums.proofs.Steps.{sum-more, sum-end}
@@ -9,13 +9,13 @@ use Rattle.checksums.proofs.checksum_from.Statement.{statement}
 use Rattle.checksums.proofs.checksum_from.Tie as tie
 
 abbrev Inv-loop : tie.InvT-loop
-Inv-loop h s sum₀ i₀ sum i = (i ≤ length s) × (sum < 2 ^ 32) × (sum-from sum (drop i s) ≡ sum-from h s)
+Inv-loop h s sum₀ i₀ sum i = (i ≤ length s) × (sum < 2 ^ 32) × (sum-from sum (drop i s) ≡ sum-from (h % 2 ^ 32) s)
 
 abbrev μ-loop : tie.MeasureT-loop
 μ-loop h s sum₀ i₀ sum i = length s - i
 
 loop-holds : tie.Need-loop-holds Inv-loop μ-loop
-loop-holds c = (omega arith, c .before .pre, refl)
+loop-holds c = (omega arith, omega arith, refl)
 
 shared-slice-read-wide : tie.Need-shared-slice-read-wide Inv-loop μ-loop
 shared-slice-read-wide c = omega arith

@@ -1,4 +1,4 @@
-use Rattle.type_names.proofs.RowSumLaws.{sum-past, around-small, sum-whole}
+use Rattle.type_names.proofs.RowSumLaws.{sum-past, sum-whole}
 use borrow.Author.Needs.{needs}
 use Rattle.type_names.proofs.row_sum.Statement.{statement}
 use Rattle.type_names.proofs.row_sum.Tie as tie
@@ -25,7 +25,7 @@ slice-aggregate-checksum-from : tie.Need-slice-aggregate-checksum-from
 slice-aggregate-checksum-from c = search needs
 
 checksum-from-requires : tie.Need-checksum-from-requires
-checksum-from-requires c κs = around-small _ _ _ _ (c .before .before .before .before .before .before .before .before .before .before .pre) (c .before .before .before .before .before .before .if1 .left) _ _ _ (c .before .before .before .cell3 .ensures) (c .before .before .above .ensures) (c .before .sum-above .ensures)
+checksum-from-requires c κs = search needs
 
 text-bytes-requires : tie.Need-text-bytes-requires
 text-bytes-requires c κs = search needs
