@@ -28,11 +28,11 @@ sum-small h [] l = l
 sum-small h (x ∷ s) l = sum-small ((h * 1000003 + x) % 2 ^ 32) s (omega arith)
 
 -- a checksum goes on where another one ends
-pub sum-on : (a c : List ℕ) → sum-from (sum-of a % 2 ^ 32) c ≡ sum-of (a ++ c)
-sum-on a c =
-    let l = sum-small 0 a (omega arith) in
-    let e : sum-of a % 2 ^ 32 ≡ sum-of a = omega arith in
-    rw e (sym (sum-append 0 a c))
+pub sum-on : (h : ℕ) (a c : List ℕ) → h < 2 ^ 32 → sum-from (sum-from h a % 2 ^ 32) c ≡ sum-from h (a ++ c)
+sum-on h a c l =
+    let s = sum-small h a l in
+    let e : sum-from h a % 2 ^ 32 ≡ sum-from h a = omega arith in
+    rw e (sym (sum-append h a c))
 
 -- other checksums are those of other strings
 pub other-sum : (x y : List ℕ) → eqb (sum-of x) (sum-of y) ≡ false → (x ≡ y → ⊥)

@@ -75,37 +75,42 @@ module _ (bytes t : List ℕ) (i : ℕ) where
   unfolding declared-before choose
   past h = rw (lt-ltb 65535 i h)
 
-  pub record Left (j : ℕ) : Type 0 where
-    pub few : i ≤ 65535
-    pub inside : j ≤ i
-    pub is : before-by bytes t i j ≡ declared-before bytes t i
+  module _ (sums : List ℕ) where
+    abbrev Are : Type 0
+    Are = sums ≡ row-sums bytes t (length sums)
 
-  pub left-start : i ≤ 65535 → Left i
-  unfolding declared-before choose
-  left-start few = record { few = few; inside = omega arith; is = rw (le-ltb 65535 i few) }
+    pub record Left (j : ℕ) : Type 0 where
+      pub few : i ≤ 65535
+      pub inside : j ≤ i
+      pub is : Are → before-by bytes t i j ≡ declared-before bytes t i
 
-  module _ (j : ℕ) (left : Left j) where
-    pub left-end : j ≤ 0 → false ≡ declared-before bytes t i
-    unfolding before-by
-    left-end h = let z : j ≡ 0 = omega arith in rw z at (left .is)
+    pub left-start : i ≤ 65535 → Left i
+    unfolding declared-before choose
+    left-start few = record { few = few; inside = omega arith; is = λ _. rw (le-ltb 65535 i few) }
 
-    module _ (h : 0 < j) (r : Bool) (r-is : r ≡ same-row bytes t i (j - 1)) where
-      opened : choose r true (before-by bytes t i (j - 1)) ≡ declared-before bytes t i
+    module _ (j : ℕ) (left : Left j) where
+      pub left-end : j ≤ 0 → Are → false ≡ declared-before bytes t i
       unfolding before-by
-      opened = let z : j ≡ suc (j - 1) = omega arith in rw r-is (sym (ap (before-by bytes t i) z) ∙ left .is)
+      left-end h are = let z : j ≡ 0 = omega arith in rw z at (left .is are)
 
-      pub left-found : r ≡ true → true ≡ declared-before bytes t i
-      unfolding choose
-      left-found e = rw e at opened
+      module _ (h : 0 < j) (r : Bool) (r-is : Are → r ≡ same-row bytes t i (j - 1)) where
+        opened : Are → choose r true (before-by bytes t i (j - 1)) ≡ declared-before bytes t i
+        unfolding before-by
+        opened are = let z : j ≡ suc (j - 1) = omega arith in rw (r-is are) (sym (ap (before-by bytes t i) z) ∙ left .is are)
 
-      pub left-more : r ≡ false → Left (j - 1)
-      unfolding choose
-      left-more e = let k = left .inside in record { few = left .few; inside = omega arith; is = rw e at opened }
+        pub left-found : r ≡ true → Are → true ≡ declared-before bytes t i
+        unfolding choose
+        left-found e are = rw e at (opened are)
 
-    -- the rows' full names have other checksums
-    pub left-apart : 0 < j → (sums : List ℕ) → sums ≡ row-sums bytes t (length sums) → (i < length sums) × Apart sums (j - 1) (getD sums i 0) → Left (j - 1)
-    unfolding same-row
-    left-apart h sums sums-are apart =
-        let few = left .few in
-        let inside = left .inside in
-        left-more h false (rw (full-apart bytes t sums sums-are i (j - 1) few (omega arith) (apart .0) (apart .1)) (choose-case (λ (r : Bool). false ≡ r) (eqb (cell-at t (j - 1) 4) 0) (λ _. refl) (λ _. refl))) refl
+        pub left-more : r ≡ false → Left (j - 1)
+        unfolding choose
+        left-more e = let k = left .inside in record { few = left .few; inside = omega arith; is = λ are. rw e at (opened are) }
+
+      -- the rows' full names have other checksums
+      pub left-apart : 0 < j → (i < length sums) × Apart sums (j - 1) (getD sums i 0) → Left (j - 1)
+      unfolding same-row
+      left-apart h apart =
+          let few = left .few in
+          let inside = left .inside in
+          left-more h false
+          (λ are. rw (full-apart bytes t sums are i (j - 1) few (omega arith) (apart .0) (apart .1)) (choose-case (λ (r : Bool). false ≡ r) (eqb (cell-at t (j - 1) 4) 0) (λ _. refl) (λ _. refl))) refl

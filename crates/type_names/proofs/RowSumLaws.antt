@@ -76,7 +76,7 @@ module _ (bytes t : List ℕ) where
     sum-whole start len dotted r own start-is len-is dotted-is own-is r-is =
         let v : up ≡ above i (row-at t i) = rw u-is at up-is in
         let name : full bytes t (i + 1) ≡ full bytes t up · own = full-cells bytes t i ∙ rw (v, own-is, start-is, len-is) in
-        r-is ∙ rw (dotted-is, sum-around, sum-on (full bytes t up) (46 ∷ []), sum-on (full bytes t up ++ (46 ∷ [])) own, append-assoc (full bytes t up) (46 ∷ []) own)
+        r-is ∙ rw (dotted-is, sum-around, sum-on 0 (full bytes t up) (46 ∷ []) (omega arith), sum-on 0 (full bytes t up ++ (46 ∷ [])) own (omega arith), append-assoc (full bytes t up) (46 ∷ []) own)
         (ap sum-of (sym name) ∙ sym (sum-is i few))
 
   module _ (sums : List ℕ) (sums-are : sums ≡ row-sums bytes t (length sums)) where

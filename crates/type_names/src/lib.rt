@@ -176,11 +176,9 @@ fn sums_apart(sums: &[u64], i: usize, sum: u64) -> bool
     true
 }
 
-// Is this the full name of the row? `sums` has the checksums of the rows, `sum` is that of the name.
+// Is this the full name of the row? The answer is right where `sums` has the checksums of the rows and `sum` is that of the name.
 pub fn is_named(set: &[u8], t: &[usize], sums: &[u64], name: &[u8], sum: u64, row: usize) -> bool
-    requires { ⌜ now sums ≡ row-sums (now set) (now t) (length (now sums)) ⌝ }
-    requires { ⌜ sum ≡ sum-of (now name) ⌝ }
-    ensures { λ r. ⌜ r ≡ named (now (set .entry)) (now (t .entry)) (now (name .entry)) row ⌝ }
+    ensures { λ r. ⌜ (now (sums .entry) ≡ row-sums (now (set .entry)) (now (t .entry)) (length (now (sums .entry))) → sum ≡ sum-of (now (name .entry)) → r ≡ named (now (set .entry)) (now (t .entry)) (now (name .entry)) row) ⌝ }
 {
     if 65535 < row {
         return false;
@@ -233,9 +231,7 @@ fn row_fits(
     sort: usize,
     row: usize,
 ) -> bool
-    requires { ⌜ now sums ≡ row-sums (now set) (now t) (length (now sums)) ⌝ }
-    requires { ⌜ sum ≡ sum-of (now name) ⌝ }
-    ensures { λ r. ⌜ r ≡ fits (now (set .entry)) (now (t .entry)) (now (name .entry)) sort row ⌝ }
+    ensures { λ r. ⌜ (now (sums .entry) ≡ row-sums (now (set .entry)) (now (t .entry)) (length (now (sums .entry))) → sum ≡ sum-of (now (name .entry)) → r ≡ fits (now (set .entry)) (now (t .entry)) (now (name .entry)) sort row) ⌝ }
 {
     if sums_apart(sums, row, sum) {
         return false;
@@ -248,7 +244,7 @@ fn row_fits(
 }
 
 // The first of so many rows that has this full name and is a declaration (sort 0), an enum (1) or a message (2); the count
-// where there is none. `sums` has the checksums of the rows.
+// where there is none. The answer is right where `sums` has the checksums of the rows.
 pub fn find_row(
     set: &[u8],
     t: &[usize],
@@ -257,8 +253,7 @@ pub fn find_row(
     name: &[u8],
     sort: usize,
 ) -> usize
-    requires { ⌜ now sums ≡ row-sums (now set) (now t) (length (now sums)) ⌝ }
-    ensures { λ r. ⌜ r ≡ find-row (now (set .entry)) (now (t .entry)) (now (name .entry)) sort count ⌝ }
+    ensures { λ r. ⌜ (now (sums .entry) ≡ row-sums (now (set .entry)) (now (t .entry)) (length (now (sums .entry))) → r ≡ find-row (now (set .entry)) (now (t .entry)) (now (name .entry)) sort count) ⌝ }
 {
     let sum = checksums::checksum(name);
     let mut i: usize = 0;
@@ -320,10 +315,9 @@ fn rows_apart(sums: &[u64], i: usize, j: usize) -> bool
     sums_apart(sums, j, sum)
 }
 
-// Is the full name of the row declared in a row before it? `sums` has the checksums of the rows.
+// Is the full name of the row declared in a row before it? The answer is right where `sums` has the checksums of the rows.
 pub fn declared_before(set: &[u8], t: &[usize], sums: &[u64], row: usize) -> bool
-    requires { ⌜ now sums ≡ row-sums (now set) (now t) (length (now sums)) ⌝ }
-    ensures { λ r. ⌜ r ≡ declared-before (now (set .entry)) (now (t .entry)) row ⌝ }
+    ensures { λ r. ⌜ (now (sums .entry) ≡ row-sums (now (set .entry)) (now (t .entry)) (length (now (sums .entry))) → r ≡ declared-before (now (set .entry)) (now (t .entry)) row) ⌝ }
 {
     if 65535 < row {
         return false;

@@ -25,7 +25,7 @@ add-next : tie.Need-add-next Inv-loop μ-loop
 add-next c = search needs
 
 is-named-requires : tie.Need-is-named-requires Inv-loop μ-loop
-is-named-requires c κs = (c .before .before .before .before .before .before .before .before .pre, c .before .before .checksum .ensures)
+is-named-requires c κs = search needs
 
 note-requires : tie.Need-note-requires Inv-loop μ-loop
 note-requires c κs = search needs
@@ -34,13 +34,13 @@ loop-less : tie.Need-loop-less Inv-loop μ-loop
 loop-less c = omega (arith, c .before .before .before .before .before .before .loop-test .taken)
 
 loop-again : tie.Need-loop-again Inv-loop μ-loop
-loop-again c = (omega (arith, c .before .before .before .before .before .before .loop-test .taken), rows-more _ _ _ _ _ _ _ (c .before .before .before .before .before .before .before .loop .inv .1) _ (c .before .before .before .before .before .is-named .ensures) (c .before .before .before .before .if1 .taken) _ (c .before .before .note .ensures))
+loop-again c = (omega (arith, c .before .before .before .before .before .before .loop-test .taken), rows-more _ _ _ _ _ _ _ (c .before .before .before .before .before .before .before .loop .inv .1) _ (c .before .before .before .before .before .is-named .ensures (c .before .before .before .before .before .before .before .before .before .before .before .before .before .before .pre) (c .before .before .before .before .before .before .before .before .checksum .ensures)) (c .before .before .before .before .if1 .taken) _ (c .before .before .note .ensures))
 
 loop-less-2 : tie.Need-loop-less-2 Inv-loop μ-loop
 loop-less-2 c = omega (arith, c .before .before .loop-test .taken)
 
 loop-again-2 : tie.Need-loop-again-2 Inv-loop μ-loop
-loop-again-2 c = (omega (arith, c .before .before .loop-test .taken), rows-skip _ _ _ _ _ _ _ (c .before .before .before .loop .inv .1) _ (c .before .is-named .ensures) (c .if1 .left))
+loop-again-2 c = (omega (arith, c .before .before .loop-test .taken), rows-skip _ _ _ _ _ _ _ (c .before .before .before .loop .inv .1) _ (c .before .is-named .ensures (c .before .before .before .before .before .before .before .before .before .before .pre) (c .before .before .before .before .checksum .ensures)) (c .if1 .left))
 
 same-length : tie.Need-same-length Inv-loop μ-loop
 same-length c = ap length (c .before .loop .inv .1) ∙ rows-length _ _ _ _ _ _

@@ -16,11 +16,11 @@ number-of-requires c κs = search needs
 
 returns : tie.Need-returns
 unfolding message-named choose
-returns c = rw (← c .before .before .before .find-row .ensures, lt-ltb _ _ (c .before .before .if1 .taken), ← c .before .cell .ensures) (c .number-of .ensures)
+returns c = rw (← c .before .before .before .find-row .ensures (c .before .before .before .before .before .before .before .before .pre), lt-ltb _ _ (c .before .before .if1 .taken), ← c .before .cell .ensures) (c .number-of .ensures)
 
 returns-2 : tie.Need-returns-2
 unfolding message-named choose
-returns-2 c = rw (← c .before .find-row .ensures, le-ltb _ _ (c .if1 .left))
+returns-2 c = rw (← c .before .find-row .ensures (c .before .before .before .before .before .before .pre), le-ltb _ _ (c .if1 .left))
 
 pub message-named-spec : {M : Type 1} → statement M
 message-named-spec =

@@ -6,16 +6,16 @@ use Rattle.type_names.proofs.declared_before.Statement.{statement}
 use Rattle.type_names.proofs.declared_before.Tie as tie
 
 abbrev Inv-loop : tie.InvT-loop
-Inv-loop set t sums row j₀ j = Left set t row j
+Inv-loop set t sums row j₀ j = Left set t row sums j
 
 abbrev μ-loop : tie.MeasureT-loop
 μ-loop set t sums row j₀ j = j
 
 returns : tie.Need-returns Inv-loop μ-loop
-returns c = past _ _ _ (c .if1 .taken)
+returns c = λ _. past _ _ _ (c .if1 .taken)
 
 loop-holds : tie.Need-loop-holds Inv-loop μ-loop
-loop-holds c = left-start _ _ _ (c .if1 .left)
+loop-holds c = left-start _ _ _ _ (c .if1 .left)
 
 sub-k : tie.Need-sub-k Inv-loop μ-loop
 sub-k c = search needs
@@ -27,22 +27,22 @@ row-same-requires : tie.Need-row-same-requires Inv-loop μ-loop
 row-same-requires c κs = let a = c .before .before .before .loop .inv .few in let b = c .before .before .before .loop .inv .inside in (omega arith, omega arith)
 
 returns-2 : tie.Need-returns-2 Inv-loop μ-loop
-returns-2 c = left-found _ _ _ _ (c .before .before .before .before .before .loop .inv) (c .before .before .before .before .loop-test .taken) _ (c .before .row-same .ensures) (c .if3 .taken)
+returns-2 c = left-found _ _ _ _ _ (c .before .before .before .before .before .loop .inv) (c .before .before .before .before .loop-test .taken) _ (λ _. c .before .row-same .ensures) (c .if3 .taken)
 
 loop-less : tie.Need-loop-less Inv-loop μ-loop
 loop-less c = omega (arith, c .before .before .before .before .loop-test .taken)
 
 loop-again : tie.Need-loop-again Inv-loop μ-loop
-loop-again c = left-more _ _ _ _ (c .before .before .before .before .before .loop .inv) (c .before .before .before .before .loop-test .taken) _ (c .before .row-same .ensures) (c .if3 .left)
+loop-again c = left-more _ _ _ _ _ (c .before .before .before .before .before .loop .inv) (c .before .before .before .before .loop-test .taken) _ (λ _. c .before .row-same .ensures) (c .if3 .left)
 
 loop-less-2 : tie.Need-loop-less-2 Inv-loop μ-loop
 loop-less-2 c = omega (arith, c .before .before .loop-test .taken)
 
 loop-again-2 : tie.Need-loop-again-2 Inv-loop μ-loop
-loop-again-2 c = left-apart _ _ _ _ (c .before .before .before .loop .inv) (c .before .before .loop-test .taken) _ (c .before .before .before .before .before .before .before .before .pre) (c .before .rows-apart .ensures (not-false _ (c .if2 .left)))
+loop-again-2 c = left-apart _ _ _ _ _ (c .before .before .before .loop .inv) (c .before .before .loop-test .taken) (c .before .rows-apart .ensures (not-false _ (c .if2 .left)))
 
 returns-3 : tie.Need-returns-3 Inv-loop μ-loop
-returns-3 c = left-end _ _ _ _ (c .before .loop .inv) (c .loop-test .left)
+returns-3 c = left-end _ _ _ _ _ (c .before .loop .inv) (c .loop-test .left)
 
 pub declared-before-spec : {M : Type 1} → statement M
 declared-before-spec =

@@ -12,13 +12,13 @@ abbrev μ-loop : tie.MeasureT-loop
 μ-loop set t sums name sum row code c₀ end₀ c end = end
 
 returns : tie.Need-returns Inv-loop μ-loop
-returns c = named-past _ _ _ _ (c .if1 .taken)
+returns c = λ _ _. named-past _ _ _ _ (c .if1 .taken)
 
 sums-apart-requires : tie.Need-sums-apart-requires Inv-loop μ-loop
 sums-apart-requires c κs = search needs
 
 returns-2 : tie.Need-returns-2 Inv-loop μ-loop
-returns-2 c = name-apart _ _ _ (c .before .before .before .before .before .before .before .pre .0) _ _ _ (c .before .before .before .before .before .before .before .pre .1) (c .before .sums-apart .ensures (c .if2 .taken))
+returns-2 c = λ are is. name-apart _ _ _ are _ _ _ is (c .before .sums-apart .ensures (c .if2 .taken))
 
 add-code : tie.Need-add-code Inv-loop μ-loop
 add-code c = omega (arith, c .before .before .if1 .left)
@@ -33,10 +33,10 @@ read-back-requires : tie.Need-read-back-requires Inv-loop μ-loop
 read-back-requires c κs = c .loop .inv .sits
 
 returns-3 : tie.Need-returns-3 Inv-loop μ-loop
-returns-3 c = named-is _ _ _ _ (c .before .before .before .before .before .before .before .if1 .left) _ (going-end _ _ _ _ _ _ (c .before .before .before .loop .inv) _ (c .before .before .read-back .ensures) (c .if3 .taken))
+returns-3 c = λ _ _. named-is _ _ _ _ (c .before .before .before .before .before .before .before .if1 .left) _ (going-end _ _ _ _ _ _ (c .before .before .before .loop .inv) _ (c .before .before .read-back .ensures) (c .if3 .taken))
 
 returns-4 : tie.Need-returns-4 Inv-loop μ-loop
-returns-4 c = named-is _ _ _ _ (c .before .before .before .before .before .before .before .before .if1 .left) _ (going-short _ _ _ _ _ _ (c .before .before .before .before .loop .inv) _ (c .before .before .before .read-back .ensures) (c .before .if3 .left) (c .if4 .taken))
+returns-4 c = λ _ _. named-is _ _ _ _ (c .before .before .before .before .before .before .before .before .if1 .left) _ (going-short _ _ _ _ _ _ (c .before .before .before .before .loop .inv) _ (c .before .before .before .read-back .ensures) (c .before .if3 .left) (c .if4 .taken))
 
 sub-last : tie.Need-sub-last Inv-loop μ-loop
 sub-last c = search needs
@@ -45,7 +45,7 @@ shared-slice-read-if5 : tie.Need-shared-slice-read-if5 Inv-loop μ-loop
 shared-slice-read-if5 c = omega (arith, c .before .before .before .before .before .loop .inv .inside, c .before .if4 .left)
 
 returns-5 : tie.Need-returns-5 Inv-loop μ-loop
-returns-5 c = named-is _ _ _ _ (c .before .before .before .before .before .before .before .before .before .before .before .if1 .left) _ (going-unlike _ _ _ _ _ _ (c .before .before .before .before .before .before .before .loop .inv) _ (c .before .before .before .before .before .before .read-back .ensures) (c .before .before .before .before .if3 .left) (c .before .before .before .if4 .left) (c .if5 .taken))
+returns-5 c = λ _ _. named-is _ _ _ _ (c .before .before .before .before .before .before .before .before .before .before .before .if1 .left) _ (going-unlike _ _ _ _ _ _ (c .before .before .before .before .before .before .before .loop .inv) _ (c .before .before .before .before .before .before .read-back .ensures) (c .before .before .before .before .if3 .left) (c .before .before .before .if4 .left) (c .if5 .taken))
 
 loop-less : tie.Need-loop-less Inv-loop μ-loop
 loop-less c = omega (arith, c .before .before .before .before .if4 .left)

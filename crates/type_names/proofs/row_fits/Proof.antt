@@ -8,7 +8,7 @@ sums-apart-requires : tie.Need-sums-apart-requires
 sums-apart-requires c κs = search needs
 
 returns : tie.Need-returns
-returns c = fits-none _ _ _ _ _ (name-apart _ _ _ (c .before .before .before .before .before .before .pre .0) _ _ _ (c .before .before .before .before .before .before .pre .1) (c .before .sums-apart .ensures (c .if1 .taken)))
+returns c = λ are is. fits-none _ _ _ _ _ (name-apart _ _ _ are _ _ _ is (c .before .sums-apart .ensures (c .if1 .taken)))
 
 cell-requires : tie.Need-cell-requires
 cell-requires c κs = search needs
@@ -20,10 +20,10 @@ is-named-requires : tie.Need-is-named-requires
 is-named-requires c κs = search needs
 
 returns-2 : tie.Need-returns-2
-returns-2 c = fits-named _ _ _ _ _ _ _ _ (c .before .before .before .cell .ensures) (c .before .before .is-wanted .ensures) (c .before .if2 .taken) (c .is-named .ensures)
+returns-2 c = λ are is. fits-named _ _ _ _ _ _ _ _ (c .before .before .before .cell .ensures) (c .before .before .is-wanted .ensures) (c .before .if2 .taken) (c .is-named .ensures are is)
 
 returns-3 : tie.Need-returns-3
-returns-3 c = fits-not _ _ _ _ _ _ _ (c .before .before .cell .ensures) (c .before .is-wanted .ensures) (c .if2 .left)
+returns-3 c = λ _ _. fits-not _ _ _ _ _ _ _ (c .before .before .cell .ensures) (c .before .is-wanted .ensures) (c .if2 .left)
 
 pub row-fits-spec : {M : Type 1} → statement M
 row-fits-spec =
