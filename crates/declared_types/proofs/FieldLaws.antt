@@ -1,4 +1,4 @@
--- A field's view and its type, and the loop of `first_undeclared`. Assumes nothing.
+-- A field's view and its type, and the loop of `undeclared_by`. Assumes nothing.
 use mathlib.Core.Path.{_≡_, refl, sym, ap, _∙_}
 use mathlib.Core.Bool.{Bool, true, false, not}
 use mathlib.Core.List.{List, []}

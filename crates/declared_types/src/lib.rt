@@ -106,8 +106,8 @@ fn is_row_good(set: &[u8], t: &[usize], count: usize, sums: &[u64], row: usize) 
     types_good(descriptor::part_of(set, start, end), set, t, count, sums)
 }
 
-// The file of the first of so many rows with refusal 7; the count of files where there is none. `sums` has the checksums of the rows.
-pub fn first_undeclared(set: &[u8], t: &[usize], count: usize, sums: &[u64]) -> usize
+// The file of the first of so many rows with refusal 7, given the checksums of the rows.
+fn undeclared_by(set: &[u8], t: &[usize], count: usize, sums: &[u64]) -> usize
     requires { ⌜ now sums ≡ row-sums (now set) (now t) (length (now sums)) ⌝ }
     ensures { λ r. ⌜ r ≡ first-undeclared-row (now (set .entry)) (now (t .entry)) count ⌝ }
 {
@@ -120,4 +120,12 @@ pub fn first_undeclared(set: &[u8], t: &[usize], count: usize, sums: &[u64]) -> 
         i = i + 1;
     }
     files
+}
+
+// The file of the first of so many rows with refusal 7; the count of files where there is none. The checksums of rows go into `sums`.
+pub fn first_undeclared(set: &[u8], t: &[usize], count: usize, sums: &mut [u64]) -> usize
+    ensures { λ r. ⌜ r ≡ first-undeclared-row (now (set .entry)) (now (t .entry)) count ⌝ }
+{
+    type_names::fill_sums(set, t, sums);
+    undeclared_by(set, t, count, sums)
 }

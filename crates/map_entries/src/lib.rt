@@ -166,9 +166,8 @@ fn clear(who: &mut [usize])
     }
 }
 
-// For each of so many rows: 0 where no field names it, a message's kind where all that do are repeated message fields of that
-// message, and 1 where there are others. `sums` has the checksums of the rows.
-pub fn note_set(set: &[u8], t: &[usize], count: usize, sums: &[u64], who: &mut [usize])
+// Who names each of so many rows, given the checksums of the rows.
+fn note_by(set: &[u8], t: &[usize], count: usize, sums: &[u64], who: &mut [usize])
     requires { ⌜ now sums ≡ row-sums (now set) (now t) (length (now sums)) ⌝ }
     ensures { λ _. ⌜ now (who .exit) ≡ naming (now (set .entry)) (now (t .entry)) count (length (now (who .entry))) ⌝ }
 {
@@ -178,6 +177,15 @@ pub fn note_set(set: &[u8], t: &[usize], count: usize, sums: &[u64], who: &mut [
         note_row(set, t, count, sums, i, who);
         i = i + 1;
     }
+}
+
+// For each of so many rows: 0 where no field names it, a message's kind where all that do are repeated message fields of that
+// message, and 1 where there are others. The checksums of rows go into `sums`.
+pub fn note_set(set: &[u8], t: &[usize], count: usize, sums: &mut [u64], who: &mut [usize])
+    ensures { λ _. ⌜ now (who .exit) ≡ naming (now (set .entry)) (now (t .entry)) count (length (now (who .entry))) ⌝ }
+{
+    type_names::fill_sums(set, t, sums);
+    note_by(set, t, count, sums, who);
 }
 
 // The kind of what row `i` stands in; 0 where there is nothing.

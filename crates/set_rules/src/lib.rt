@@ -29,14 +29,13 @@ pub const SHORT_ROWS: usize = 151;
 
 pub const SHORT_CELLS: usize = 1057;
 
-// Refusals 6 and 7 by the table of the set's declarations; the checksums of its rows go into `sums`.
+// Refusals 6 and 7 by the table of the set's declarations; checksums of its rows go into `sums`.
 fn judge_rows(set: &[u8], t: &[usize], count: Count, who: &mut [usize], sums: &mut [u64]) -> Names
     requires { ⌜ Declares (now set) (now t) count (now who) ⌝ }
     ensures { λ r. ⌜ r ≡ names (decode-set (now (set .entry))) ⌝ }
 {
     let files = parts::count_parts(set, 1);
     let rows = count.rows;
-    type_names::fill_sums(set, t, sums);
     map_entries::note_set(set, t, rows, sums, who);
     let bad = file_names::first_bad_file(set);
     let unnamed = map_entries::first_unnamed(set, t, rows, who);

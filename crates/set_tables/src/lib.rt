@@ -7,7 +7,6 @@ ghost use Rattle.message_graph.specs.Tab.{tab};
 ghost use Rattle.context_tables.specs.Cells.{is-set-at, message-table, field-table};
 ghost use Rattle.field_columns.specs.Columns.{owner-at, column-at};
 ghost use Rattle.field_columns.specs.declared.Column.the-variants.{Kind, Label};
-ghost use Rattle.targets.specs.Targets.{target-at};
 ghost use Rattle.set_tables.specs.Filled.{most-fields, zeros, message-places, message-count, target-by, target-in, Ready, setting-bytes, columns-at, settings-to, Long, no-flags, EntriesBelow, entries-by, message-numbers, field-numbers};
 use limits::SHORT;
 use message_graph::Index;
@@ -29,21 +28,6 @@ const FIELD_CELLS: usize = 10240;
 
 const SHORT_FIELD_CELLS: usize = 750;
 
-// The messages that the fields' types are, by a table of declarations; the checksums of its rows go into `sums`.
-fn targets_in(
-    set: &[u8],
-    fields: &[u16],
-    t: &[usize],
-    rows: usize,
-    sums: &mut [u64],
-    target: &mut [Index],
-)
-    ensures { λ _. ⌜ now (target .exit) ≡ tab (length (now (target .entry))) (target-at (now (set .entry)) (now (fields .entry)) (now (t .entry)) rows) ⌝ }
-{
-    type_names::fill_sums(set, t, sums);
-    targets::fill_targets(set, fields, t, rows, sums, target);
-}
-
 // The messages that the fields' types are, with a table for the declarations, and for the checksums of their names.
 fn targets_by(set: &[u8], fields: &[u16], t: &mut [usize], sums: &mut [u64], target: &mut [Index])
     ensures { λ _. ⌜ now (target .exit) ≡ tab (length (now (target .entry))) (target-by (now (set .entry)) (now (fields .entry)) (now (t .entry))) ⌝ }
@@ -51,7 +35,7 @@ fn targets_by(set: &[u8], fields: &[u16], t: &mut [usize], sums: &mut [u64], tar
     let count = declarations::declare_set(set, t);
     let rows = count.rows;
     let n = writer::within(rows, sums.len());
-    targets_in(set, fields, t, rows, &mut sums[0..n], target);
+    targets::fill_targets(set, fields, t, rows, &mut sums[0..n], target);
 }
 
 // The messages that the fields' types are.

@@ -61,9 +61,8 @@ fn target_at(set: &[u8], fields: &[u16], t: &[usize], count: usize, sums: &[u64]
     0
 }
 
-// For each place of `out`, the number of the message that the type of the field there is; 0 where it is none. `t` is a table of
-// declarations with `count` rows, and `sums` has the checksums of their full names.
-pub fn fill_targets(
+// The same for each place of `out`, given the checksums of the rows.
+fn targets_by(
     set: &[u8],
     fields: &[u16],
     t: &[usize],
@@ -79,4 +78,20 @@ pub fn fill_targets(
         out[i] = target_at(set, fields, t, count, sums, i);
         i += 1;
     }
+}
+
+// For each place of `out`, the number of the message that the type of the field there is; 0 where it is none. `t` is a table of
+// declarations with `count` rows; the checksums of rows go into `sums`.
+pub fn fill_targets(
+    set: &[u8],
+    fields: &[u16],
+    t: &[usize],
+    count: usize,
+    sums: &mut [u64],
+    out: &mut [Index],
+)
+    ensures { λ _. ⌜ now (out .exit) ≡ tab (length (now (out .entry))) (target-at (now (set .entry)) (now (fields .entry)) (now (t .entry)) count) ⌝ }
+{
+    type_names::fill_sums(set, t, sums);
+    targets_by(set, fields, t, count, sums, out);
 }

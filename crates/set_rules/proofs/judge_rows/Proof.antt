@@ -1,4 +1,3 @@
-use Rattle.type_names.proofs.RowSumLaws.{sums-whole}
 use Rattle.set_rules.proofs.NameAnswers.{six-is, seven-is, answer-six, answer-seven, answer-good}
 use borrow.Author.Needs.{needs}
 use Rattle.set_rules.proofs.judge_rows.Statement.{statement}
@@ -7,11 +6,8 @@ use Rattle.set_rules.proofs.judge_rows.Tie as tie
 count-parts-requires : tie.Need-count-parts-requires
 count-parts-requires c κs = search needs
 
-fill-sums-requires : tie.Need-fill-sums-requires
-fill-sums-requires c κs = search needs
-
 note-set-requires : tie.Need-note-set-requires
-note-set-requires c κs = sums-whole _ _ _ _ (c .before .before .before .before .fill-sums .ensures)
+note-set-requires c κs = search needs
 
 first-bad-file-requires : tie.Need-first-bad-file-requires
 first-bad-file-requires c κs = search needs
@@ -29,10 +25,10 @@ same-length-2 : tie.Need-same-length-2
 same-length-2 c = search needs
 
 returns : tie.Need-returns
-returns c = answer-six _ _ _ (c .before .before .before .before .before .before .before .before .before .before .before .before .before .before .count-parts .ensures) (six-is _ _ _ _ (c .before .before .before .before .before .before .before .before .before .before .before .before .before .before .before .before .before .before .before .pre .room) _ (c .before .before .before .before .before .before .before .before .before .before .before .before .before .before .before .before .before .before .before .pre .became) _ _ _ _ (c .before .before .before .before .before .before .before .note-set .ensures) (c .before .before .before .before .first-bad-file .ensures) (c .before .before .first-unnamed .ensures) (c .before .within .ensures)) (c .if1 .taken)
+returns c = answer-six _ _ _ (c .before .before .before .before .before .before .before .before .before .before .before .before .count-parts .ensures) (six-is _ _ _ _ (c .before .before .before .before .before .before .before .before .before .before .before .before .before .before .before .before .before .pre .room) _ (c .before .before .before .before .before .before .before .before .before .before .before .before .before .before .before .before .before .pre .became) _ _ _ _ (c .before .before .before .before .before .before .before .before .before .note-set .ensures) (c .before .before .before .before .first-bad-file .ensures) (c .before .before .first-unnamed .ensures) (c .before .within .ensures)) (c .if1 .taken)
 
 first-undeclared-requires : tie.Need-first-undeclared-requires
-first-undeclared-requires c κs = sums-whole _ _ _ _ (c .before .before .before .before .before .before .before .before .before .before .before .before .before .fill-sums .ensures)
+first-undeclared-requires c κs = search needs
 
 same-length-3 : tie.Need-same-length-3
 same-length-3 c = search needs
@@ -41,7 +37,7 @@ same-length-4 : tie.Need-same-length-4
 same-length-4 c = search needs
 
 returns-2 : tie.Need-returns-2
-returns-2 c = answer-seven _ _ _ (c .before .before .before .before .before .before .before .before .before .before .before .before .before .before .before .before .before .count-parts .ensures) (six-is _ _ _ _ (c .before .before .before .before .before .before .before .before .before .before .before .before .before .before .before .before .before .before .before .before .before .before .pre .room) _ (c .before .before .before .before .before .before .before .before .before .before .before .before .before .before .before .before .before .before .before .before .before .before .pre .became) _ _ _ _ (c .before .before .before .before .before .before .before .before .before .before .note-set .ensures) (c .before .before .before .before .before .before .before .first-bad-file .ensures) (c .before .before .before .before .before .first-unnamed .ensures) (c .before .before .before .before .within .ensures)) (c .before .before .before .if1 .left) _ (seven-is _ _ _ _ (c .before .before .before .before .before .before .before .before .before .before .before .before .before .before .before .before .before .before .before .before .before .before .pre .room) _ (c .before .before .before .before .before .before .before .before .before .before .before .before .before .before .before .before .before .before .before .before .before .before .pre .became) _ (c .before .first-undeclared .ensures)) (c .if2 .taken)
+returns-2 c = answer-seven _ _ _ (c .before .before .before .before .before .before .before .before .before .before .before .before .before .before .before .before .before .count-parts .ensures) (six-is _ _ _ _ (c .before .before .before .before .before .before .before .before .before .before .before .before .before .before .before .before .before .before .before .before .before .before .pre .room) _ (c .before .before .before .before .before .before .before .before .before .before .before .before .before .before .before .before .before .before .before .before .before .before .pre .became) _ _ _ _ (c .before .before .before .before .before .before .before .before .before .before .before .before .before .before .note-set .ensures) (c .before .before .before .before .before .before .before .before .before .first-bad-file .ensures) (c .before .before .before .before .before .before .before .first-unnamed .ensures) (c .before .before .before .before .before .before .within .ensures)) (c .before .before .before .before .before .if1 .left) _ (seven-is _ _ _ _ (c .before .before .before .before .before .before .before .before .before .before .before .before .before .before .before .before .before .before .before .before .before .before .pre .room) _ (c .before .before .before .before .before .before .before .before .before .before .before .before .before .before .before .before .before .before .before .before .before .before .pre .became) _ (c .before .before .before .first-undeclared .ensures)) (c .if2 .taken)
 
 same-length-5 : tie.Need-same-length-5
 same-length-5 c = search needs
@@ -50,14 +46,13 @@ same-length-6 : tie.Need-same-length-6
 same-length-6 c = search needs
 
 returns-3 : tie.Need-returns-3
-returns-3 c = answer-good _ _ _ (c .before .before .before .before .before .before .before .before .before .before .before .before .before .before .before .before .before .count-parts .ensures) (six-is _ _ _ _ (c .before .before .before .before .before .before .before .before .before .before .before .before .before .before .before .before .before .before .before .before .before .before .pre .room) _ (c .before .before .before .before .before .before .before .before .before .before .before .before .before .before .before .before .before .before .before .before .before .before .pre .became) _ _ _ _ (c .before .before .before .before .before .before .before .before .before .before .note-set .ensures) (c .before .before .before .before .before .before .before .first-bad-file .ensures) (c .before .before .before .before .before .first-unnamed .ensures) (c .before .before .before .before .within .ensures)) (c .before .before .before .if1 .left) _ (seven-is _ _ _ _ (c .before .before .before .before .before .before .before .before .before .before .before .before .before .before .before .before .before .before .before .before .before .before .pre .room) _ (c .before .before .before .before .before .before .before .before .before .before .before .before .before .before .before .before .before .before .before .before .before .before .pre .became) _ (c .before .first-undeclared .ensures)) (c .if2 .left)
+returns-3 c = answer-good _ _ _ (c .before .before .before .before .before .before .before .before .before .before .before .before .before .before .before .before .before .count-parts .ensures) (six-is _ _ _ _ (c .before .before .before .before .before .before .before .before .before .before .before .before .before .before .before .before .before .before .before .before .before .before .pre .room) _ (c .before .before .before .before .before .before .before .before .before .before .before .before .before .before .before .before .before .before .before .before .before .before .pre .became) _ _ _ _ (c .before .before .before .before .before .before .before .before .before .before .before .before .before .before .note-set .ensures) (c .before .before .before .before .before .before .before .before .before .first-bad-file .ensures) (c .before .before .before .before .before .before .before .first-unnamed .ensures) (c .before .before .before .before .before .before .within .ensures)) (c .before .before .before .before .before .if1 .left) _ (seven-is _ _ _ _ (c .before .before .before .before .before .before .before .before .before .before .before .before .before .before .before .before .before .before .before .before .before .before .pre .room) _ (c .before .before .before .before .before .before .before .before .before .before .before .before .before .before .before .before .before .before .before .before .before .before .pre .became) _ (c .before .before .before .first-undeclared .ensures)) (c .if2 .left)
 
 pub judge-rows-spec : {M : Type 1} → statement M
 judge-rows-spec =
     tie.close
     (tie.spec
     count-parts-requires
-    fill-sums-requires
     note-set-requires
     first-bad-file-requires
     first-unnamed-requires

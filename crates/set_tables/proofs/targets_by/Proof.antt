@@ -9,17 +9,17 @@ declare-set-requires c κs = search needs
 within-requires : tie.Need-within-requires
 within-requires c κs = search needs
 
-sub-targets-in : tie.Need-sub-targets-in
-sub-targets-in c = search needs
+sub-fill-targets : tie.Need-sub-fill-targets
+sub-fill-targets c = search needs
 
-part-targets-in-start : tie.Need-part-targets-in-start
-part-targets-in-start c = search needs
+part-fill-targets-start : tie.Need-part-fill-targets-start
+part-fill-targets-start c = search needs
 
-part-targets-in-end : tie.Need-part-targets-in-end
-part-targets-in-end c = search needs
+part-fill-targets-end : tie.Need-part-fill-targets-end
+part-fill-targets-end c = search needs
 
-targets-in-requires : tie.Need-targets-in-requires
-targets-in-requires c κs = search needs
+fill-targets-requires : tie.Need-fill-targets-requires
+fill-targets-requires c κs = search needs
 
 same-length : tie.Need-same-length
 same-length c = search needs
@@ -31,7 +31,7 @@ same-length-3 : tie.Need-same-length-3
 same-length-3 c = search needs
 
 returns : tie.Need-returns
-returns c = targets-filled _ _ _ _ _ _ (c .before .before .before .before .before .before .before .before .before .before .before .declare-set .ensures) _ (c .before .before .before .before .targets-in .ensures)
+returns c = targets-filled _ _ _ _ _ _ (c .before .before .before .before .before .before .before .before .before .before .before .declare-set .ensures) _ (c .before .before .before .before .fill-targets .ensures)
 
 pub targets-by-spec : {M : Type 1} → statement M
 targets-by-spec =
@@ -39,10 +39,10 @@ targets-by-spec =
     (tie.spec
     declare-set-requires
     within-requires
-    sub-targets-in
-    part-targets-in-start
-    part-targets-in-end
-    targets-in-requires
+    sub-fill-targets
+    part-fill-targets-start
+    part-fill-targets-end
+    fill-targets-requires
     same-length
     same-length-2
     same-length-3

@@ -1,54 +1,23 @@
+use Rattle.type_names.proofs.RowSumLaws.{sums-whole}
 use borrow.Author.Needs.{needs}
-use mathlib.Core.Path.{refl}
-use native.Mathlib.Omega.{arith}
-use Prim.Native.Nat.{_-_}
-use lib.ListN.{length}
-use Rattle.message_graph.specs.Tab.{Filled, filled-none, filled-more, filled-all}
-use Rattle.targets.specs.Targets.{target-at}
 use Rattle.targets.proofs.fill_targets.Statement.{statement}
 use Rattle.targets.proofs.fill_targets.Tie as tie
 
-abbrev Inv-loop : tie.InvT-loop
-Inv-loop set fields t count sums out₀ i₀ out i = Filled (target-at set fields t count) out₀ out i
+fill-sums-requires : tie.Need-fill-sums-requires
+fill-sums-requires c κs = search needs
 
-abbrev μ-loop : tie.MeasureT-loop
-μ-loop set fields t count sums out₀ i₀ out i = length out₀ - i
+targets-by-requires : tie.Need-targets-by-requires
+targets-by-requires c κs = sums-whole _ _ _ _ (c .before .before .before .before .fill-sums .ensures)
 
-loop-holds : tie.Need-loop-holds Inv-loop μ-loop
-loop-holds c = filled-none
+same-length : tie.Need-same-length
+same-length c = search needs
 
-target-at-requires : tie.Need-target-at-requires Inv-loop μ-loop
-target-at-requires c κs = search needs
+same-length-2 : tie.Need-same-length-2
+same-length-2 c = search needs
 
-slice-write-out : tie.Need-slice-write-out Inv-loop μ-loop
-slice-write-out c = search needs
-
-add-i : tie.Need-add-i Inv-loop μ-loop
-add-i c = search needs
-
-loop-less : tie.Need-loop-less Inv-loop μ-loop
-loop-less c = search needs
-
-loop-again : tie.Need-loop-again Inv-loop μ-loop
-loop-again c = filled-more (c .before .before .loop .inv) (omega (arith, c .before .before .loop .inv .size)) (c .target-at .result) (c .target-at .ensures)
-
-same-length : tie.Need-same-length Inv-loop μ-loop
-same-length c = c .before .loop .inv .size
-
-returns : tie.Need-returns Inv-loop μ-loop
-returns c = filled-all (c .before .loop .inv) _ refl (omega (arith, c .before .loop .inv .size))
+returns : tie.Need-returns
+returns c = search needs
 
 pub fill-targets-spec : {M : Type 1} → statement M
 fill-targets-spec =
-    tie.close
-    (tie.spec
-    Inv-loop
-    μ-loop
-    loop-holds
-    target-at-requires
-    slice-write-out
-    add-i
-    loop-less
-    loop-again
-    same-length
-    returns)
+    tie.close (tie.spec fill-sums-requires targets-by-requires same-length same-length-2 returns)
