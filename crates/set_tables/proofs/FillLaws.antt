@@ -23,8 +23,8 @@ use Rattle.boxed_settings.specs.Flags.{set-flags}
 use Rattle.targets.specs.Targets.{target-at}
 use Rattle.context_tables.specs.Cells.{is-set-at, columns, message-table, field-table}
 use Rattle.limits.specs.Short.{short}
-use Rattle.set_tables.specs.Filled.{most-fields, declaration-cells, zeros, message-places, message-count, field-places, field-count, target-by, target-in, setting-bytes, columns-at, Long, Ready, settings-to, entries-by, columned, message-numbers, field-numbers}
-use Rattle.set_tables.proofs.ZeroLaws.{zeros-length, drop-zeros, unset-bytes}
+use Rattle.set_tables.specs.Filled.{most-fields, declaration-cells, zeros, message-places, message-count, field-places, field-count, target-by, target-in, setting-bytes, columns-at, Long, Ready, settings-to, entries-by, columned, message-numbers, field-numbers-in}
+use Rattle.set_tables.proofs.ZeroLaws.{unset-bytes}
 
 -- a part from the start on
 pub front-length : {A : Type 0} (k : ℕ) (s : List A) → k ≤ length s → length (take (k - 0) (drop 0 s)) ≡ k
@@ -169,18 +169,18 @@ module _ (set o rows fields : List ℕ) (count n : ℕ) (old owner target kind l
     unfolding message-numbers
     message-numbers-are size r is = is ∙ rw (longest-as, ready .places, fields-as, n-as)
 
-    -- the rows in front, and the zeros behind them
-    module _ (size cells used : ℕ) (cells-are : cells ≡ k * 8) (used-is : used ≡ min cells size) (cleared : List ℕ) (cleared-is : cleared ≡ zeros size) where
-      used-as : used ≡ min (columned set * 8) size
+    -- the rows in front, and what the table held behind them
+    module _ (t : List ℕ) (cells used : ℕ) (cells-are : cells ≡ k * 8) (used-is : used ≡ min cells (length t)) where
+      used-as : used ≡ min (columned set * 8) (length t)
       used-as = used-is ∙ rw (cells-are, k-is, ready .owners, n-as)
 
-      front-as : length (take (used - 0) (drop 0 cleared)) ≡ min (columned set * 8) size
-      front-as = let l : length cleared ≡ size = ap length cleared-is ∙ zeros-length size in front-length used cleared (omega arith) ∙ used-as
+      front-as : length (take (used - 0) (drop 0 t)) ≡ min (columned set * 8) (length t)
+      front-as = front-length used t (omega arith) ∙ used-as
 
-      behind-as : drop (used - 0) cleared ≡ zeros (size - min (columned set * 8) size)
-      behind-as = rw sub-zero (ap (drop used) cleared-is ∙ drop-zeros used size ∙ ap (λ (x : ℕ). zeros (size - x)) used-as)
+      behind-as : drop (used - 0) t ≡ drop (min (columned set * 8) (length t)) t
+      behind-as = rw sub-zero (ap (λ (x : ℕ). drop x t) used-as)
 
-      pub field-numbers-are : (r : List ℕ) → r ≡ field-table (length (take (used - 0) (drop 0 cleared))) longest set rows fields (columns-at longest set fields) (settings-to longest set o) (entries-by set rows)
-          → r ++ drop (used - 0) cleared ≡ field-numbers size set o
-      unfolding field-numbers
+      pub field-numbers-are : (r : List ℕ) → r ≡ field-table (length (take (used - 0) (drop 0 t))) longest set rows fields (columns-at longest set fields) (settings-to longest set o) (entries-by set rows)
+          → r ++ drop (used - 0) t ≡ field-numbers-in t set o
+      unfolding field-numbers-in
       field-numbers-are r is = rw (is, behind-as, front-as, longest-as, ready .places, fields-as)

@@ -43,8 +43,8 @@ use Rattle.table_laws.specs.NodeLaws.{MapField, entry-typed, nodes-say}
 use Rattle.table_laws.specs.TableTheorems.{message-table-says, message-table-after, field-table-says, field-table-place, field-table-no-place, field-table-lies}
 use Rattle.targets.proofs.TargetTheorem.{target-is}
 use Rattle.limits.specs.Short.{short}
-use Rattle.set_tables.specs.Filled.{most-fields, declaration-cells, zeros, message-places, message-count, field-places, field-count, target-by, target-in, setting-bytes, columns-at, columns-to, settings-to, columned, entries-by, message-numbers, field-numbers}
-use Rattle.set_tables.proofs.ZeroLaws.{zeros-length}
+use Rattle.set_tables.specs.Filled.{most-fields, declaration-cells, zeros, message-places, message-count, field-places, field-count, target-by, target-in, setting-bytes, columns-at, columns-to, settings-to, columned, entries-by, message-numbers, field-numbers-in, field-numbers}
+use Rattle.set_tables.proofs.ZeroLaws.{zeros-length, drop-zeros}
 use Rattle.set_tables.proofs.FillLaws.{few-there, fields-few}
 
 -- a row of a table is that of its front
@@ -212,8 +212,8 @@ module _ (set o : List ℕ) (passed : limit-passed set ≡ 0) (good : names (dec
 
     -- with room for the messages and fields there are
     pub tables-say : Says rs set (message-numbers message-size set o) (field-numbers field-size set o)
-    unfolding message-numbers field-numbers
-    tables-say = subst (λ (k : ℕ). Says rs set (messages-to k) (fields-to k)) (sym whole) all-say
+    unfolding message-numbers field-numbers field-numbers-in
+    tables-say = rw (zeros-length field-size, drop-zeros) (subst (λ (k : ℕ). Says rs set (messages-to k) (fields-to k)) (sym whole) all-say)
 
 -- no field names a map entry but the repeated message fields of the message around it
 pub only-map-fields : (set : List ℕ) → limit-passed set ≡ 0 → names (decode-set set) ≡ Good → (r : Row) (k : ℕ) → At r (rows-of (set-entries (decode-set set))) k

@@ -16,7 +16,7 @@ use Rattle.path.specs.PathMap.{first-with, find-best}
 use Rattle.context.specs.Context.{has}
 use Rattle.walks.specs.Walked.{walked}
 use Rattle.boxed_settings.specs.Flags.{flag, field-flag, field-flags, stay, messages-flags, file-flags, set-flags}
-use Rattle.set_tables.specs.Filled.{most-fields, zeros, setting-bytes}
+use Rattle.set_tables.specs.Filled.{most-fields, zeros, setting-bytes, field-numbers-in, field-numbers}
 
 pub zeros-length : (n : ℕ) → length (zeros n) ≡ n
 unfolding zeros
@@ -32,6 +32,11 @@ drop-zeros (suc k) (suc n) = rw suc-sub-suc (drop-zeros k n)
 pub fresh-zeros : (n : ℕ) → replicate n 0 ≡ zeros (length {A = ℕ} (replicate n 0))
 unfolding zeros
 fresh-zeros n = ap (λ (m : ℕ). replicate m 0) (sym (length-replicate {A = ℕ} n 0))
+
+-- a table that held zeros has them behind its rows
+pub held-zeros : (n : ℕ) (t set o : List ℕ) → t ≡ zeros n → field-numbers-in t set o ≡ field-numbers n set o
+unfolding field-numbers
+held-zeros n t set o is = ap (λ (l : List ℕ). field-numbers-in l set o) is
 
 pub zeros-at : (n x : ℕ) → getD (zeros n) x 0 ≡ 0
 unfolding zeros

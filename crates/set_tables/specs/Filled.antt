@@ -1,10 +1,10 @@
 -- The two tables that the text's writers read, from the bytes of a set and of the options. Assumes nothing.
-use Prim.Native.Nat.{ℕ, _*_, _-_, _≤_, min}
+use Prim.Native.Nat.{ℕ, _*_, _≤_, min}
 use mathlib.Core.Bool.{Bool, false}
 use mathlib.Core.Path.{_≡_}
 use mathlib.Core.List.{List, _++_}
 use lib.Dec.{ltb}
-use lib.ListN.{length, replicate}
+use lib.ListN.{length, drop, replicate}
 use Rattle.base.specs.Choose.{choose}
 use Rattle.writer.specs.Wrote.{over}
 use Rattle.limits.specs.Short.{short}
@@ -107,9 +107,13 @@ used size set = min (columned set * 8) size
 unfoldable pub message-numbers : ℕ → List ℕ → List ℕ → List ℕ
 message-numbers size set o = message-table size (message-places set) (field-places set) (field-count set) (columns-to (columned set) set) (settings-to (columned set) set o)
 
--- the rows of the fields, and 0 behind them
-unfoldable pub field-numbers : ℕ → List ℕ → List ℕ → List ℕ
-field-numbers size set o =
-    field-table (used size set) (columned set) set (message-places set) (field-places set) (columns-to (columned set) set) (settings-to (columned set) set o)
+-- the rows of the fields, and behind them what the table t held there
+unfoldable pub field-numbers-in : List ℕ → List ℕ → List ℕ → List ℕ
+field-numbers-in t set o =
+    field-table (used (length t) set) (columned set) set (message-places set) (field-places set) (columns-to (columned set) set) (settings-to (columned set) set o)
     (entries-by set (message-places set))
-    ++ zeros (size - used size set)
+    ++ drop (used (length t) set) t
+
+-- and 0 behind them
+unfoldable pub field-numbers : ℕ → List ℕ → List ℕ → List ℕ
+field-numbers size set o = field-numbers-in (zeros size) set o

@@ -7,7 +7,7 @@ ghost use Rattle.message_graph.specs.Tab.{tab};
 ghost use Rattle.context_tables.specs.Cells.{is-set-at, message-table, field-table};
 ghost use Rattle.field_columns.specs.Columns.{owner-at, column-at};
 ghost use Rattle.field_columns.specs.declared.Column.the-variants.{Kind, Label};
-ghost use Rattle.set_tables.specs.Filled.{most-fields, zeros, message-places, message-count, target-by, target-in, Ready, setting-bytes, columns-at, settings-to, Long, no-flags, EntriesBelow, entries-by, message-numbers, field-numbers};
+ghost use Rattle.set_tables.specs.Filled.{most-fields, zeros, message-places, message-count, target-by, target-in, Ready, setting-bytes, columns-at, settings-to, Long, no-flags, EntriesBelow, entries-by, message-numbers, field-numbers-in};
 use limits::SHORT;
 use message_graph::Index;
 use message_graph::MESSAGES;
@@ -160,8 +160,8 @@ fn fill_rows(
     );
 }
 
-// Both tables of a set, with the options `o`, given the places of its messages and what its fields are laid in. The fields' table
-// holds zeros so far, which stay behind its rows.
+// Both tables of a set, with the options `o`, given the places of its messages and what its fields are laid in. What the fields'
+// table holds behind its rows stays.
 fn fill_by(
     set: &[u8],
     o: &[u8],
@@ -177,9 +177,9 @@ fn fill_by(
     settings: &mut [bool],
     boxed: &mut [bool],
 )
-    requires { ⌜ (now t ≡ zeros (length (now t))) × Ready (now set) (now rows) count (now fields) (now owner) (now target) (now kind) (now label) (now settings) (now boxed) ⌝ }
+    requires { ⌜ Ready (now set) (now rows) count (now fields) (now owner) (now target) (now kind) (now label) (now settings) (now boxed) ⌝ }
     ensures { λ _. ⌜ now (messages .exit) ≡ message-numbers (length (now (messages .entry))) (now (set .entry)) (now (o .entry)) ⌝ }
-    ensures { λ _. ⌜ now (t .exit) ≡ field-numbers (length (now (t .entry))) (now (set .entry)) (now (o .entry)) ⌝ }
+    ensures { λ _. ⌜ now (t .exit) ≡ field-numbers-in (now (t .entry)) (now (set .entry)) (now (o .entry)) ⌝ }
 {
     let n = index::index_members(set, rows, count, 2, fields, 0);
     let k = writer::within(n, owner.len());
@@ -204,12 +204,11 @@ fn fill_by(
 
 // The tables of a short set.
 fn fill_short(set: &[u8], o: &[u8], messages: &mut [u16], t: &mut [u16], rows: &[u16], count: usize)
-    requires { ⌜ now t ≡ zeros (length (now t)) ⌝ }
     requires { ⌜ length (now set) ≤ short ⌝ }
     requires { ⌜ now rows ≡ message-places (now set) ⌝ }
     requires { ⌜ count ≡ message-count (now set) ⌝ }
     ensures { λ _. ⌜ now (messages .exit) ≡ message-numbers (length (now (messages .entry))) (now (set .entry)) (now (o .entry)) ⌝ }
-    ensures { λ _. ⌜ now (t .exit) ≡ field-numbers (length (now (t .entry))) (now (set .entry)) (now (o .entry)) ⌝ }
+    ensures { λ _. ⌜ now (t .exit) ≡ field-numbers-in (now (t .entry)) (now (set .entry)) (now (o .entry)) ⌝ }
 {
     let mut fields = [0u16; SHORT_FIELD_CELLS];
     let mut owner = [0u8; SHORT_FIELDS];
@@ -237,12 +236,11 @@ fn fill_short(set: &[u8], o: &[u8], messages: &mut [u16], t: &mut [u16], rows: &
 
 // The tables of a set that is not short.
 fn fill_large(set: &[u8], o: &[u8], messages: &mut [u16], t: &mut [u16], rows: &[u16], count: usize)
-    requires { ⌜ now t ≡ zeros (length (now t)) ⌝ }
     requires { ⌜ short < length (now set) ⌝ }
     requires { ⌜ now rows ≡ message-places (now set) ⌝ }
     requires { ⌜ count ≡ message-count (now set) ⌝ }
     ensures { λ _. ⌜ now (messages .exit) ≡ message-numbers (length (now (messages .entry))) (now (set .entry)) (now (o .entry)) ⌝ }
-    ensures { λ _. ⌜ now (t .exit) ≡ field-numbers (length (now (t .entry))) (now (set .entry)) (now (o .entry)) ⌝ }
+    ensures { λ _. ⌜ now (t .exit) ≡ field-numbers-in (now (t .entry)) (now (set .entry)) (now (o .entry)) ⌝ }
 {
     let mut fields = [0u16; FIELD_CELLS];
     let mut owner = [0u8; FIELDS];
@@ -268,11 +266,10 @@ fn fill_large(set: &[u8], o: &[u8], messages: &mut [u16], t: &mut [u16], rows: &
     );
 }
 
-// Both tables of a set, with the options `o`. The fields' table holds zeros so far, which stay behind its rows.
+// Both tables of a set, with the options `o`. What the fields' table holds behind its rows stays.
 pub fn fill_tables(set: &[u8], o: &[u8], messages: &mut [u16], t: &mut [u16])
-    requires { ⌜ now t ≡ zeros (length (now t)) ⌝ }
     ensures { λ _. ⌜ now (messages .exit) ≡ message-numbers (length (now (messages .entry))) (now (set .entry)) (now (o .entry)) ⌝ }
-    ensures { λ _. ⌜ now (t .exit) ≡ field-numbers (length (now (t .entry))) (now (set .entry)) (now (o .entry)) ⌝ }
+    ensures { λ _. ⌜ now (t .exit) ≡ field-numbers-in (now (t .entry)) (now (set .entry)) (now (o .entry)) ⌝ }
 {
     let mut rows = [0u16; MESSAGE_CELLS];
     let count = index::index_files(set, 4, 16, &mut rows);

@@ -9,12 +9,11 @@ use Rattle.base.specs.Choose.{choose}
 use Rattle.base.specs.Lists.{map-length}
 use Rattle.descriptor.specs.Descriptor.{Bytes, FileDescriptor}
 use Rattle.descriptor.specs.Decode.{entries, parts, decode-file, decode-set}
-use Rattle.descriptor.specs.Limits.{messages-in}
 use Rattle.limits.specs.Short.{short}
 use Rattle.options.specs.Settings.{settings}
 use Rattle.table_says.specs.Says.{Says}
-use Rattle.set_tables.specs.Filled.{field-count, message-numbers, field-numbers}
-use Rattle.set_tables.proofs.ZeroLaws.{fresh-zeros}
+use Rattle.set_tables.specs.Filled.{field-count, message-numbers, field-numbers-in}
+use Rattle.set_tables.proofs.ZeroLaws.{fresh-zeros, held-zeros}
 use Rattle.set_tables.proofs.TablesSay.{tables-say, all-messages, all-fields, short-fields}
 use Rattle.set_tables.proofs.FillLaws.{front-length}
 use Rattle.message_text.specs.MessageText.{text-of-file}
@@ -51,10 +50,12 @@ module _ (set o : Bytes) (file k : ℕ) (accepted : Accepted set o file) (k-is :
   pub all-tables : Roomy set (take (k - 0) (drop 0 (replicate 1024 0))) (replicate 16384 0)
   all-tables = fresh set o file k 16384 accepted k-is (all-fields set (accepted .limits) (accepted .named))
 
-module _ (set o : Bytes) (file : ℕ) (accepted : Accepted set o file) (messages fields : List ℕ) (m n : ℕ)
-    (messages-are : messages ≡ message-numbers m set o) (fields-are : fields ≡ field-numbers n set o) (wide : length (messages-in (decode-set set)) * 4 ≤ m) (long : field-count set * 8 ≤ n) where
+module _ (set o : Bytes) (file : ℕ) (accepted : Accepted set o file) (messages fields old held : List ℕ) (roomy : Roomy set old held)
+    (messages-are : messages ≡ message-numbers (length old) set o) (fields-are : fields ≡ field-numbers-in held set o) where
   says : Says (settings o) set messages fields
-  says = rw (messages-are, fields-are) (tables-say set o (accepted .limits) (accepted .named) m n wide long)
+  says =
+      rw (messages-are, fields-are, held-zeros (length held) held set o (roomy .clear))
+      (tables-say set o (accepted .limits) (accepted .named) (length old) (length held) (roomy .messages-room) (roomy .fields-room))
 
   there : file < length (parts 1 (entries set))
   there = let a = files-counted set in let h = accepted .there in omega arith

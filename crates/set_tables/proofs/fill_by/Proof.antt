@@ -13,7 +13,7 @@ within-requires : tie.Need-within-requires
 within-requires c κs = search needs
 
 mul-within : tie.Need-mul-within
-mul-within c = omega (arith, c .within .ensures, c .before .before .before .before .before .before .before .before .before .before .before .before .before .before .before .before .before .pre .1 .owners, fields-few (c .before .before .before .before .before .before .before .before .before .before .before .before .before .before .before .before .before .args .set .now))
+mul-within c = omega (arith, c .within .ensures, c .before .before .before .before .before .before .before .before .before .before .before .before .before .before .before .before .before .pre .owners, fields-few (c .before .before .before .before .before .before .before .before .before .before .before .before .before .before .before .before .before .args .set .now))
 
 within-requires-2 : tie.Need-within-requires-2
 within-requires-2 c κs = search needs
@@ -43,7 +43,7 @@ part-fill-rows-start-3 : tie.Need-part-fill-rows-start-3
 part-fill-rows-start-3 c = search needs
 
 part-fill-rows-end-3 : tie.Need-part-fill-rows-end-3
-part-fill-rows-end-3 c = omega (arith, c .before .before .before .before .before .within .ensures, c .before .before .before .before .before .before .before .before .before .before .before .before .before .before .before .before .before .before .before .before .before .before .pre .1 .owners, c .before .before .before .before .before .before .before .before .before .before .before .before .before .before .before .before .before .before .before .before .before .before .pre .1 .columns .targets)
+part-fill-rows-end-3 c = omega (arith, c .before .before .before .before .before .within .ensures, c .before .before .before .before .before .before .before .before .before .before .before .before .before .before .before .before .before .before .before .before .before .before .pre .owners, c .before .before .before .before .before .before .before .before .before .before .before .before .before .before .before .before .before .before .before .before .before .before .pre .columns .targets)
 
 sub-fill-rows-4 : tie.Need-sub-fill-rows-4
 sub-fill-rows-4 c = search needs
@@ -52,7 +52,7 @@ part-fill-rows-start-4 : tie.Need-part-fill-rows-start-4
 part-fill-rows-start-4 c = search needs
 
 part-fill-rows-end-4 : tie.Need-part-fill-rows-end-4
-part-fill-rows-end-4 c = omega (arith, c .before .before .before .before .before .before .within .ensures, c .before .before .before .before .before .before .before .before .before .before .before .before .before .before .before .before .before .before .before .before .before .before .before .pre .1 .owners, c .before .before .before .before .before .before .before .before .before .before .before .before .before .before .before .before .before .before .before .before .before .before .before .pre .1 .columns .kinds)
+part-fill-rows-end-4 c = omega (arith, c .before .before .before .before .before .before .within .ensures, c .before .before .before .before .before .before .before .before .before .before .before .before .before .before .before .before .before .before .before .before .before .before .before .pre .owners, c .before .before .before .before .before .before .before .before .before .before .before .before .before .before .before .before .before .before .before .before .before .before .before .pre .columns .kinds)
 
 sub-fill-rows-5 : tie.Need-sub-fill-rows-5
 sub-fill-rows-5 c = search needs
@@ -61,7 +61,7 @@ part-fill-rows-start-5 : tie.Need-part-fill-rows-start-5
 part-fill-rows-start-5 c = search needs
 
 part-fill-rows-end-5 : tie.Need-part-fill-rows-end-5
-part-fill-rows-end-5 c = omega (arith, c .before .before .before .before .before .before .before .within .ensures, c .before .before .before .before .before .before .before .before .before .before .before .before .before .before .before .before .before .before .before .before .before .before .before .before .pre .1 .owners, c .before .before .before .before .before .before .before .before .before .before .before .before .before .before .before .before .before .before .before .before .before .before .before .before .pre .1 .columns .labels)
+part-fill-rows-end-5 c = omega (arith, c .before .before .before .before .before .before .before .within .ensures, c .before .before .before .before .before .before .before .before .before .before .before .before .before .before .before .before .before .before .before .before .before .before .before .before .pre .owners, c .before .before .before .before .before .before .before .before .before .before .before .before .before .before .before .before .before .before .before .before .before .before .before .before .pre .columns .labels)
 
 sub-fill-rows-6 : tie.Need-sub-fill-rows-6
 sub-fill-rows-6 c = search needs
@@ -70,7 +70,7 @@ part-fill-rows-start-6 : tie.Need-part-fill-rows-start-6
 part-fill-rows-start-6 c = search needs
 
 part-fill-rows-end-6 : tie.Need-part-fill-rows-end-6
-part-fill-rows-end-6 c = omega (arith, c .before .before .before .before .before .before .before .before .within .ensures, c .before .before .before .before .before .before .before .before .before .before .before .before .before .before .before .before .before .before .before .before .before .before .before .before .before .pre .1 .owners, c .before .before .before .before .before .before .before .before .before .before .before .before .before .before .before .before .before .before .before .before .before .before .before .before .before .pre .1 .columns .flags)
+part-fill-rows-end-6 c = omega (arith, c .before .before .before .before .before .before .before .before .within .ensures, c .before .before .before .before .before .before .before .before .before .before .before .before .before .before .before .before .before .before .before .before .before .before .before .before .before .pre .owners, c .before .before .before .before .before .before .before .before .before .before .before .before .before .before .before .before .before .before .before .before .before .before .before .before .before .pre .columns .flags)
 
 sub-fill-rows-7 : tie.Need-sub-fill-rows-7
 sub-fill-rows-7 c = search needs
@@ -79,10 +79,10 @@ part-fill-rows-start-7 : tie.Need-part-fill-rows-start-7
 part-fill-rows-start-7 c = search needs
 
 part-fill-rows-end-7 : tie.Need-part-fill-rows-end-7
-part-fill-rows-end-7 c = omega (arith, c .before .before .before .before .before .before .before .before .before .within .ensures, c .before .before .before .before .before .before .before .before .before .before .before .before .before .before .before .before .before .before .before .before .before .before .before .before .before .before .pre .1 .owners, c .before .before .before .before .before .before .before .before .before .before .before .before .before .before .before .before .before .before .before .before .before .before .before .before .before .before .pre .1 .columns .boxes)
+part-fill-rows-end-7 c = omega (arith, c .before .before .before .before .before .before .before .before .before .within .ensures, c .before .before .before .before .before .before .before .before .before .before .before .before .before .before .before .before .before .before .before .before .before .before .before .before .before .before .pre .owners, c .before .before .before .before .before .before .before .before .before .before .before .before .before .before .before .before .before .before .before .before .before .before .before .before .before .before .pre .columns .boxes)
 
 fill-rows-requires : tie.Need-fill-rows-requires
-fill-rows-requires c κs = (parts-long _ _ _ _ _ _ _ _ _ (c .before .before .before .before .before .before .before .before .before .before .within .ensures) (c .before .before .before .before .before .before .before .before .before .before .before .before .before .before .before .before .before .before .before .before .before .before .before .before .before .before .before .pre .1 .owners) (c .before .before .before .before .before .before .before .before .before .before .before .before .before .before .before .before .before .before .before .before .before .before .before .before .before .before .before .pre .1 .columns), entries-below _ _ _ (c .before .before .before .before .before .before .before .before .before .before .before .before .before .before .before .before .before .before .before .before .before .before .before .before .before .before .before .pre .1 .places) (c .before .before .before .before .before .before .before .before .before .before .before .before .before .before .before .before .before .before .before .before .before .before .before .before .before .before .before .pre .1 .counted))
+fill-rows-requires c κs = (parts-long _ _ _ _ _ _ _ _ _ (c .before .before .before .before .before .before .before .before .before .before .within .ensures) (c .before .before .before .before .before .before .before .before .before .before .before .before .before .before .before .before .before .before .before .before .before .before .before .before .before .before .before .pre .owners) (c .before .before .before .before .before .before .before .before .before .before .before .before .before .before .before .before .before .before .before .before .before .before .before .before .before .before .before .pre .columns), entries-below _ _ _ (c .before .before .before .before .before .before .before .before .before .before .before .before .before .before .before .before .before .before .before .before .before .before .before .before .before .before .before .pre .places) (c .before .before .before .before .before .before .before .before .before .before .before .before .before .before .before .before .before .before .before .before .before .before .before .before .before .before .before .pre .counted))
 
 same-length : tie.Need-same-length
 same-length c = search needs
@@ -112,7 +112,7 @@ same-length-9 : tie.Need-same-length-9
 same-length-9 c = search needs
 
 returns : tie.Need-returns
-returns c = (message-numbers-are _ _ _ _ _ _ _ _ _ _ _ _ _ (c .before .before .before .before .before .before .before .before .before .before .before .before .before .before .before .before .before .before .before .before .before .before .before .before .before .before .before .before .before .before .before .before .before .before .before .before .before .before .before .before .before .before .before .before .pre .1) (c .before .before .before .before .before .before .before .before .before .before .before .before .before .before .before .before .before .before .before .before .before .before .before .before .before .before .before .before .before .before .index-members .ensures) _ (c .before .before .before .before .before .before .before .before .before .before .before .before .before .before .before .before .before .before .before .before .before .before .before .before .before .before .before .within .ensures) _ _ (c .before .before .before .before .before .before .before .before .before .before .before .before .before .before .before .before .fill-rows .ensures .0), field-numbers-are _ _ _ _ _ _ _ _ _ _ _ _ _ (c .before .before .before .before .before .before .before .before .before .before .before .before .before .before .before .before .before .before .before .before .before .before .before .before .before .before .before .before .before .before .before .before .before .before .before .before .before .before .before .before .before .before .before .before .pre .1) (c .before .before .before .before .before .before .before .before .before .before .before .before .before .before .before .before .before .before .before .before .before .before .before .before .before .before .before .before .before .before .index-members .ensures) _ (c .before .before .before .before .before .before .before .before .before .before .before .before .before .before .before .before .before .before .before .before .before .before .before .before .before .before .before .within .ensures) _ _ _ refl (c .before .before .before .before .before .before .before .before .before .before .before .before .before .before .before .before .before .before .before .before .before .before .before .before .before .before .within2 .ensures) _ (c .before .before .before .before .before .before .before .before .before .before .before .before .before .before .before .before .before .before .before .before .before .before .before .before .before .before .before .before .before .before .before .before .before .before .before .before .before .before .before .before .before .before .before .before .pre .0) _ (c .before .before .before .before .before .before .before .before .before .before .before .before .before .before .before .before .fill-rows .ensures .1))
+returns c = (message-numbers-are _ _ _ _ _ _ _ _ _ _ _ _ _ (c .before .before .before .before .before .before .before .before .before .before .before .before .before .before .before .before .before .before .before .before .before .before .before .before .before .before .before .before .before .before .before .before .before .before .before .before .before .before .before .before .before .before .before .before .pre) (c .before .before .before .before .before .before .before .before .before .before .before .before .before .before .before .before .before .before .before .before .before .before .before .before .before .before .before .before .before .before .index-members .ensures) _ (c .before .before .before .before .before .before .before .before .before .before .before .before .before .before .before .before .before .before .before .before .before .before .before .before .before .before .before .within .ensures) _ _ (c .before .before .before .before .before .before .before .before .before .before .before .before .before .before .before .before .fill-rows .ensures .0), field-numbers-are _ _ _ _ _ _ _ _ _ _ _ _ _ (c .before .before .before .before .before .before .before .before .before .before .before .before .before .before .before .before .before .before .before .before .before .before .before .before .before .before .before .before .before .before .before .before .before .before .before .before .before .before .before .before .before .before .before .before .pre) (c .before .before .before .before .before .before .before .before .before .before .before .before .before .before .before .before .before .before .before .before .before .before .before .before .before .before .before .before .before .before .index-members .ensures) _ (c .before .before .before .before .before .before .before .before .before .before .before .before .before .before .before .before .before .before .before .before .before .before .before .before .before .before .before .within .ensures) _ _ _ refl (c .before .before .before .before .before .before .before .before .before .before .before .before .before .before .before .before .before .before .before .before .before .before .before .before .before .before .within2 .ensures) _ (c .before .before .before .before .before .before .before .before .before .before .before .before .before .before .before .before .fill-rows .ensures .1))
 
 pub fill-by-spec : {M : Type 1} → statement M
 fill-by-spec =

@@ -13,7 +13,7 @@ slice-aggregate-fill-short : tie.Need-slice-aggregate-fill-short
 slice-aggregate-fill-short c = search needs
 
 fill-short-requires : tie.Need-fill-short-requires
-fill-short-requires c κs = (c .before .before .before .before .before .before .before .before .before .before .before .pre, (c .before .before .before .if1 .taken, (places-are _ _ _ (c .before .before .before .before .before .index-files .ensures), count-is _ _ _ (c .before .before .before .before .before .index-files .ensures))))
+fill-short-requires c κs = (c .before .before .before .if1 .taken, (places-are _ _ _ (c .before .before .before .before .before .index-files .ensures), count-is _ _ _ (c .before .before .before .before .before .index-files .ensures)))
 
 same-length : tie.Need-same-length
 same-length c = search needs
@@ -25,7 +25,7 @@ slice-aggregate-fill-large : tie.Need-slice-aggregate-fill-large
 slice-aggregate-fill-large c = search needs
 
 fill-large-requires : tie.Need-fill-large-requires
-fill-large-requires c κs = (c .before .before .before .before .before .before .before .before .before .before .before .pre, (c .before .before .before .if1 .left, (places-are _ _ _ (c .before .before .before .before .before .index-files .ensures), count-is _ _ _ (c .before .before .before .before .before .index-files .ensures))))
+fill-large-requires c κs = (c .before .before .before .if1 .left, (places-are _ _ _ (c .before .before .before .before .before .index-files .ensures), count-is _ _ _ (c .before .before .before .before .before .index-files .ensures)))
 
 same-length-3 : tie.Need-same-length-3
 same-length-3 c = search needs
