@@ -10,6 +10,7 @@ use Rattle.literal.specs.Escape.{escape-text, escape-bytes}
 use Rattle.c_escaping.specs.Unescape.{unescaped}
 use Rattle.field_types.specs.Types.{sort-of, can-pack, bytes, enumerated}
 use Rattle.descriptor.specs.Descriptor.{Bytes, FieldDescriptor, FieldOptions, FileDescriptor}
+use Rattle.collections.specs.Collections.{bytes-type as bytes-type-of, bytes-annotation as bytes-word}
 use Rattle.options.specs.Settings.{Setting, strips-prefix}
 use Rattle.extern_paths.specs.Split.{split}
 use Rattle.name_rules.specs.Accessors.{text, number, label, type, is-repeated, is-message}
@@ -40,7 +41,7 @@ module _ (proto3 : Bool) where
 
 -- as-bytes: bytes_type of the field is `Bytes`
 unfoldable pub bytes-annotation : FieldDescriptor → Bool → Text
-bytes-annotation f as-bytes = when (eqb (sort-of (type f)) bytes) (either as-bytes (lit " = \"bytes\"") (lit " = \"vec\""))
+bytes-annotation f as-bytes = when (eqb (sort-of (type f)) bytes) (lit " = \"" ⟫ piece (raw (bytes-word (bytes-type-of as-bytes))) ⟫ lit "\"")
 
 module _ (rs : List Setting) where
   -- enum_value of a default; the enum's name, enum_type, is the last segment of the type name

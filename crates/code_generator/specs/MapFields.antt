@@ -7,6 +7,7 @@ use Rattle.base.specs.Bytes.{same}
 use Rattle.base.specs.Choose.{choose}
 use Rattle.writer.specs.Decimal.{decimal}
 use Rattle.descriptor.specs.Descriptor.{Bytes, Forest, done, node, FieldDescriptor, MessageDescriptor}
+use Rattle.collections.specs.Collections.{map-type as map-type-of, map-annotation}
 use Rattle.options.specs.Settings.{Setting}
 use Rattle.name_rules.specs.Accessors.{text, number}
 use Rattle.name_rules.specs.FullNames.{_·_}
@@ -38,7 +39,7 @@ module _ (rs : List Setting) where
   -- btree: is the map a BTreeMap?
   unfoldable pub map-tag : Bytes → FieldDescriptor → MapEntry → Bool → Text
   map-tag scope f e btree =
-      either btree (lit "btree_map") (lit "map")
+      piece (raw (map-annotation (map-type-of btree)))
       ⟫ lit " = \""
       ⟫ field-type-tag rs scope (e .key)
       ⟫ lit ", "

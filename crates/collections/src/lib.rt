@@ -1,6 +1,7 @@
 // collections.rs: which collection type a map field and a bytes field have.
+ghost use mathlib.Core.Path.{_≡_};
 ghost use Rattle.writer.specs.Wrote.{Wrote};
-ghost use Rattle.collections.specs.Collections.{map-annotation, bytes-annotation};
+ghost use Rattle.collections.specs.Collections.{map-type, map-annotation, bytes-type, bytes-annotation};
 
 // The map type of a map field.
 pub enum MapType {
@@ -12,6 +13,26 @@ pub enum MapType {
 pub enum BytesType {
     Vec,
     Bytes,
+}
+
+// The map type of a field; btree: a setting asks for a BTreeMap.
+pub fn map_type(btree: bool) -> MapType
+    ensures { λ r. ⌜ r ≡ map-type btree ⌝ }
+{
+    if btree {
+        return MapType::BTreeMap;
+    }
+    MapType::HashMap
+}
+
+// The bytes type of a field; asbytes: a setting asks for Bytes.
+pub fn bytes_type(asbytes: bool) -> BytesType
+    ensures { λ r. ⌜ r ≡ bytes-type asbytes ⌝ }
+{
+    if asbytes {
+        return BytesType::Bytes;
+    }
+    BytesType::Vec
 }
 
 // MapType::annotation.

@@ -16,11 +16,12 @@ use Rattle.literal.specs.Quotes.{inner-text, inner-bytes}
 use Rattle.c_escaping.specs.Unescape.{unescaped}
 use Rattle.field_types.specs.Types.{sort-of, tag-word, bytes, group, message, enumerated}
 use Rattle.descriptor.specs.Descriptor.{Bytes, FieldDescriptor}
+use Rattle.collections.specs.Collections.{map-type as map-type-of, map-annotation, bytes-type as bytes-type-of, bytes-annotation as bytes-word}
 use Rattle.options.specs.Settings.{Setting, strips-prefix}
 use Rattle.extern_paths.specs.Split.{split}
 use Rattle.extern_paths.specs.ExternPaths.{taken, resolve-ident as extern-ident}
 use Rattle.name_rules.specs.Accessors.{text, number, label, type as type-of}
-use Rattle.code_generator.specs.Piece.{Text, piece, _⟫_, when, either, raw, name, type, spelt, lit}
+use Rattle.code_generator.specs.Piece.{Text, piece, _⟫_, when, raw, name, type, spelt, lit}
 use Rattle.code_generator.specs.Resolve.{last-name, way, resolve-ident, tag-ident, field-type-tag, map-value-type-tag}
 use Rattle.code_generator.specs.Fields.{optional, unpacked, label-tag, bytes-annotation, enum-value, default-text, default-given, default-tag, field-tag}
 use Rattle.code_generator.specs.MapFields.{MapEntry, map-tag}
@@ -92,11 +93,11 @@ module _ {bs : List Body} where
   module _ {p : Point} (g : Settled (attribute-stop bs) p) where
     annotation : (f : FieldDescriptor) (as-bytes : Bool) → Ends p (bytes-annotation f as-bytes) (attribute-stop bs)
     unfolding bytes-annotation choose same name-part name-start between
-    annotation f as-bytes =
-        ends-when (eqb (sort-of (type-of f)) bytes) g
-        (ends-either as-bytes
-        (λ _. ends-from g (λ s. refl) refl (a-string (lit " = \"bytes\"") (record { seen = []; onward = λ s. refl; complete = refl })))
-        (λ _. ends-from g (λ s. refl) refl (a-string (lit " = \"vec\"") (record { seen = []; onward = λ s. refl; complete = refl }))))
+    annotation f as-bytes = ends-when (eqb (sort-of (type-of f)) bytes) g (ends-from g (λ s. refl) refl (a-string _ (quoted as-bytes)))
+      where
+        quoted : (t : Bool) → Reads (tag-start bs) (lit " = \"" ⟫ piece (raw (bytes-word (bytes-type-of t))) ⟫ lit "\"") (tag-start bs)
+        quoted true = record { seen = []; onward = λ s. refl; complete = refl }
+        quoted false = record { seen = []; onward = λ s. refl; complete = refl }
 
     boxed-tag : (boxed : Bool) → Ends p (when boxed (lit ", boxed")) (attribute-stop bs)
     unfolding choose same name-part name-start between
@@ -182,7 +183,7 @@ module _ (rs : List Setting) {bs : List Body} (scope : Bytes) (f : FieldDescript
       ▹▹ number-in (number f))
       (λ p g. tag-closed g)
     where
-      opens : (t : Bool) → Reads (tag-start bs) (either t (lit "btree_map") (lit "map") ⟫ lit " = \"") (stop-point (map-stop bs))
+      opens : (t : Bool) → Reads (tag-start bs) (piece (raw (map-annotation (map-type-of t))) ⟫ lit " = \"") (stop-point (map-stop bs))
       opens true = record { seen = []; onward = λ s. refl; complete = refl }
       opens false = record { seen = []; onward = λ s. refl; complete = refl }
 

@@ -59,7 +59,10 @@ fn bytes_annotation(t: &mut [u8], at: usize, s: &[u8], f: FieldView, asbytes: bo
 {
     let sort = accessors::sort(s, f);
     if sort == b'y' {
-        return writer::put_either(t, at, asbytes, b" = \"bytes\"", b" = \"vec\"");
+        let a = writer::put(t, at, b" = \"");
+        let kind = collections::bytes_type(asbytes);
+        let a = collections::put_bytes_annotation(t, a, kind);
+        return writer::put(t, a, b"\"");
     }
     at
 }

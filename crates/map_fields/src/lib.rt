@@ -24,7 +24,8 @@ pub fn map_tag(
 ) -> usize
     ensures { λ r. ⌜ Wrote (now (t .entry)) at (flat (map-tag (settings (now (o .entry))) (now (scope .entry)) (field-of (now (s .entry)) f) (entry (now (e .entry)) key value) btree)) (now (t .exit)) r ⌝ }
 {
-    let a = writer::put_either(t, at, btree, b"btree_map", b"map");
+    let kind = collections::map_type(btree);
+    let a = collections::put_map_annotation(t, at, kind);
     let a = writer::put(t, a, b" = \"");
     let a = resolve::field_type_tag(t, a, o, scope, e, key);
     let a = writer::put(t, a, b", ");

@@ -165,7 +165,7 @@ module _ (rs : List Setting) where
   unfolding field-tag bytes-annotation label-tag default-tag
   tag-valued proto3 scope f boxed as-bytes =
       type-tag-valued scope f
-      & (λ _. (λ _. tt) & (λ _. tt))
+      & (λ _. tt & tt & tt)
       & ((λ _ _. tt) & (λ _. (λ _. tt) & (λ _. tt & (λ _. tt))))
       & (λ _. tt)
       & tt
@@ -200,7 +200,7 @@ module _ (rs : List Setting) where
 
   map-tag-valued : (scope : Bytes) (f : FieldDescriptor) (e : MapEntry) (btree : Bool) → Valued rs (map-tag rs scope f e btree)
   unfolding map-tag
-  map-tag-valued scope f e btree = ((λ _. tt) & (λ _. tt)) & tt & type-tag-valued scope (e .key) & tt & value-tag-valued scope (e .value) & tt & tt & tt
+  map-tag-valued scope f e btree = tt & tt & type-tag-valued scope (e .key) & tt & value-tag-valued scope (e .value) & tt & tt & tt
 
   map-line-valued : (d : ℕ) (scope full : Bytes) (f : FieldDescriptor) (e : MapEntry) (btree key-bytes value-bytes : Bool) → Valued rs (map-line rs d scope full f e btree key-bytes value-bytes)
   unfolding map-line map-open

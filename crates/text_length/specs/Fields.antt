@@ -1,5 +1,5 @@
 -- How long the text of a field can be. Assumes nothing.
-use mathlib.Core.Bool.{Bool}
+use mathlib.Core.Bool.{Bool, true, false}
 use mathlib.Core.Option.{Option, some, none}
 use mathlib.Core.List.{List, [], _∷_}
 use Prim.Native.Nat.{ℕ, _*_, _≤_}
@@ -7,6 +7,7 @@ use native.Mathlib.Omega.{arith}
 use lib.ListN.{length}
 use Rattle.base.specs.Lists.{Every}
 use Rattle.descriptor.specs.Descriptor.{Bytes, FieldDescriptor, FileDescriptor}
+use Rattle.collections.specs.Collections.{map-type, map-annotation, bytes-type, bytes-annotation as bytes-word}
 use Rattle.options.specs.Settings.{Setting}
 use Rattle.name_rules.specs.Accessors.{text, number, type}
 use Rattle.code_generator.specs.Piece.{snake}
@@ -27,6 +28,15 @@ pub record FieldShort (f : FieldDescriptor) : Type 0 where
 pub box-close-long : (boxed : Bool) → AtMost 1 (box-close boxed)
 unfolding box-close
 box-close-long boxed = when-long boxed (before-mark _ (piece-long {n = 1} _ (omega arith)))
+
+-- the words for collection types
+map-word-long : (btree : Bool) → length (map-annotation (map-type btree)) ≤ 20
+map-word-long true = omega arith
+map-word-long false = omega arith
+
+bytes-word-long : (as-bytes : Bool) → length (bytes-word (bytes-type as-bytes)) ≤ 20
+bytes-word-long true = omega arith
+bytes-word-long false = omega arith
 
 -- a default that is given
 given-long : (rs : List Setting) (f : FieldDescriptor) (v : Bytes) → length v ≤ 32768 → AtMost 5200000 (default-text rs f v)
@@ -159,7 +169,8 @@ module _ {rs : List Setting} (small : Small rs) where
 
       annotation-long : (as-bytes : Bool) → AtMost 100 (bytes-annotation f as-bytes)
       unfolding bytes-annotation
-      annotation-long as-bytes = wider 100 (when-long _ (either-long as-bytes (piece-long {n = 20} _ (omega arith)) (piece-long {n = 20} _ (omega arith)))) (omega arith)
+      annotation-long as-bytes =
+          wider 100 (when-long _ (piece-long {n = 20} _ (omega arith) then piece-long {n = 20} _ (bytes-word-long as-bytes) then piece-long {n = 20} _ (omega arith))) (omega arith)
 
       default-long : AtMost 5300000 (default-tag rs f)
       unfolding default-tag
@@ -231,7 +242,7 @@ module _ {rs : List Setting} (small : Small rs) where
         map-tag-long btree =
             let n = decimal-long (number f) in
             wider 31000000
-            (either-long btree (piece-long {n = 20} _ (omega arith)) (piece-long {n = 20} _ (omega arith))
+            (piece-long {n = 20} _ (map-word-long btree)
             then piece-long {n = 20} _ (omega arith)
             then type-tag-long key
             then piece-long {n = 20} _ (omega arith)

@@ -4,14 +4,11 @@ use borrow.Author.Needs.{needs}
 use Rattle.map_fields.proofs.map_tag.Statement.{statement}
 use Rattle.map_fields.proofs.map_tag.Tie as tie
 
-slice-aggregate-put-either : tie.Need-slice-aggregate-put-either
-slice-aggregate-put-either c = search needs
+map-type-requires : tie.Need-map-type-requires
+map-type-requires c κs = search needs
 
-slice-aggregate-put-either-2 : tie.Need-slice-aggregate-put-either-2
-slice-aggregate-put-either-2 c = search needs
-
-put-either-requires : tie.Need-put-either-requires
-put-either-requires c κs = search needs
+put-map-annotation-requires : tie.Need-put-map-annotation-requires
+put-map-annotation-requires c κs = search needs
 
 slice-aggregate-put : tie.Need-slice-aggregate-put
 slice-aggregate-put c = search needs
@@ -51,7 +48,7 @@ put-requires-4 c κs = search needs
 
 returns : tie.Need-returns
 unfolding map-tag
-returns c = rw (← c .before .before .before .before .before .before .before .before .before .number .ensures) (c .before .before .before .before .before .before .before .before .before .before .before .before .before .before .before .before .before .before .before .before .before .before .before .before .before .before .before .before .before .before .before .before .before .before .before .put-either .ensures ► c .before .before .before .before .before .before .before .before .before .before .before .before .before .before .before .before .before .before .before .before .before .before .before .before .before .before .before .before .before .before .put .ensures ► c .before .before .before .before .before .before .before .before .before .before .before .before .before .before .before .before .before .before .before .before .before .before .before .before .before .before .field-type-tag .ensures ► c .before .before .before .before .before .before .before .before .before .before .before .before .before .before .before .before .before .before .before .before .before .put2 .ensures ► c .before .before .before .before .before .before .before .before .before .before .before .before .before .before .before .before .before .map-value-type-tag .ensures ► c .before .before .before .before .before .before .before .before .before .before .before .before .put3 .ensures ► c .before .before .before .before .before .before .before .put-number .ensures ► c .before .before .put4 .ensures)
+returns c = rw (← c .before .before .before .before .before .before .before .before .before .before .before .before .before .before .before .before .before .before .before .before .before .before .before .before .before .before .before .before .before .before .before .before .before .before .before .before .before .map-type .ensures, ← c .before .before .before .before .before .before .before .before .before .number .ensures) (c .before .before .before .before .before .before .before .before .before .before .before .before .before .before .before .before .before .before .before .before .before .before .before .before .before .before .before .before .before .before .before .before .before .before .before .put-map-annotation .ensures ► c .before .before .before .before .before .before .before .before .before .before .before .before .before .before .before .before .before .before .before .before .before .before .before .before .before .before .before .before .before .before .put .ensures ► c .before .before .before .before .before .before .before .before .before .before .before .before .before .before .before .before .before .before .before .before .before .before .before .before .before .before .field-type-tag .ensures ► c .before .before .before .before .before .before .before .before .before .before .before .before .before .before .before .before .before .before .before .before .before .put2 .ensures ► c .before .before .before .before .before .before .before .before .before .before .before .before .before .before .before .before .before .map-value-type-tag .ensures ► c .before .before .before .before .before .before .before .before .before .before .before .before .put3 .ensures ► c .before .before .before .before .before .before .before .put-number .ensures ► c .before .before .put4 .ensures)
 
 same-length : tie.Need-same-length
 same-length c = kept (returns c)
@@ -60,9 +57,8 @@ pub map-tag-spec : {M : Type 1} → statement M
 map-tag-spec =
     tie.close
     (tie.spec
-    slice-aggregate-put-either
-    slice-aggregate-put-either-2
-    put-either-requires
+    map-type-requires
+    put-map-annotation-requires
     slice-aggregate-put
     put-requires
     field-type-tag-requires
