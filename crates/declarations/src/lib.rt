@@ -4,7 +4,7 @@ ghost use mathlib.Core.Bool.{true, false};
 ghost use Prim.Native.Nat.{ℕ, _+_, _*_, _-_, _<_, _≤_};
 ghost use lib.ListN.{length};
 ghost use Rattle.index.specs.Places.{end-in};
-ghost use Rattle.declarations.specs.Rows.{cell-at, row-at, has-room, put, push-message, state, Became, places, declaration-row, declare-enums, declare-messages, declare-members, declare-file, declared};
+ghost use Rattle.declarations.specs.Rows.{cell-at, has-room, put, push-message, state, Became, places, declaration-row, declare-enums, declare-messages, declare-members, declare-file, declared};
 use wire::Record;
 use wire::Step;
 
@@ -43,27 +43,6 @@ pub fn cell(t: &[usize], i: usize, c: usize) -> usize
         return t[at];
     }
     0
-}
-
-pub fn row_of(t: &[usize], i: usize) -> Row
-    ensures { λ r. ⌜ r ≡ row-at (now (t .entry)) i ⌝ }
-{
-    let name = cell(t, i, 0);
-    let len = cell(t, i, 1);
-    let up = cell(t, i, 2);
-    let file = cell(t, i, 3);
-    let kind = cell(t, i, 4);
-    let start = cell(t, i, 5);
-    let end = cell(t, i, 6);
-    Row {
-        name,
-        len,
-        up,
-        file,
-        kind,
-        start,
-        end,
-    }
 }
 
 // Is there room for row `i`?

@@ -66,16 +66,6 @@ fn put_home(t: &mut [u8], home: &[u8]) -> usize
     writer::put_byte(t, a, 0)
 }
 
-// The row of a name in a home.
-pub fn put_row(t: &mut [u8], at: usize, home: &[u8], name: &[u8]) -> usize
-    ensures { λ r. ⌜ Wrote (now (t .entry)) at (row (now (home .entry)) (now (name .entry))) (now (t .exit)) r ⌝ }
-{
-    let mut key = [0u8; KEY];
-    let a = put_home(&mut key, home);
-    writer::put(&mut key, a, name);
-    put_key(t, at, &key)
-}
-
 // The row of its snake name.
 pub fn put_snake_row(t: &mut [u8], at: usize, home: &[u8], name: &[u8]) -> usize
     ensures { λ r. ⌜ Wrote (now (t .entry)) at (row (now (home .entry)) (to-snake (now (name .entry)))) (now (t .exit)) r ⌝ }

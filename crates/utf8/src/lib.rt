@@ -1,7 +1,7 @@
-// UTF-8: the character at a place, and whether bytes are well-formed.
+// UTF-8: the character at a place.
 ghost use mathlib.Core.Path.{_≡_};
 ghost use lib.ListN.{getD};
-ghost use Rattle.utf8.specs.Utf8.{between, second-low, second-high, second, later, two, three, four, charAt, is-utf8};
+ghost use Rattle.utf8.specs.Utf8.{between, second-low, second-high, second, later, two, three, four, charAt};
 
 // What decoding at a place finds: a character with the place behind it, or none.
 pub enum Decoded {
@@ -137,18 +137,4 @@ pub fn char_at(s: &[u8], i: usize) -> Decoded
         return four(a, x, y, z, i + 4);
     }
     Decoded::Fault
-}
-
-// Is s well-formed UTF-8?
-pub fn is_utf8(s: &[u8]) -> bool
-    ensures { λ r. ⌜ r ≡ is-utf8 (now (s .entry)) ⌝ }
-{
-    let mut i = 0;
-    while i < s.len() {
-        let Decoded::Character(_, next) = char_at(s, i) else {
-            return false;
-        };
-        i = next;
-    }
-    true
 }

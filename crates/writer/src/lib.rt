@@ -74,16 +74,6 @@ pub fn put_if(t: &mut [u8], at: usize, on: bool, s: &[u8]) -> usize
     at
 }
 
-// p where first holds, and else q.
-pub fn put_either(t: &mut [u8], at: usize, first: bool, p: &[u8], q: &[u8]) -> usize
-    ensures { λ r. ⌜ Wrote (now (t .entry)) at (pick first (now (p .entry)) (now (q .entry))) (now (t .exit)) r ⌝ }
-{
-    if first {
-        return put(t, at, p);
-    }
-    put(t, at, q)
-}
-
 // The last k digits of n at most.
 fn put_digits(t: &mut [u8], at: usize, n: u32, k: usize) -> usize
     ensures { λ r. ⌜ Wrote (now (t .entry)) at (digits k n) (now (t .exit)) r ⌝ }
@@ -164,13 +154,4 @@ pub fn put_two(t: &mut [u8], at: usize, p: &[u8], q: &[u8]) -> usize
 {
     let a = put(t, at, p);
     put(t, a, q)
-}
-
-// Three texts, one after the other.
-pub fn put_three(t: &mut [u8], at: usize, p: &[u8], q: &[u8], s: &[u8]) -> usize
-    ensures { λ r. ⌜ Wrote (now (t .entry)) at (now (p .entry) ++ now (q .entry) ++ now (s .entry)) (now (t .exit)) r ⌝ }
-{
-    let a = put(t, at, p);
-    let a = put(t, a, q);
-    put(t, a, s)
 }
