@@ -9,7 +9,7 @@ use native.Mathlib.Nat.{sub-zero}
 use native.Mathlib.Decide.{decLe}
 use lib.Dec.{eqb}
 use lib.ListN.{length, take, drop, getD, drop-of-length-le}
-use lib.Seq.{take-nil}
+use lib.Seq.{take-nil, getD-take, getD-drop}
 use borrow.Author.Tests.{eq-eqb, ne-eqb, eqb-true}
 use Rattle.base.specs.Choose.{choose}
 use Rattle.base.specs.Tests.{both-ways}
@@ -35,6 +35,14 @@ place-behind at x x' l p m pp xx mm = omega arith
 pub row-is : (o : List ℕ) (i at k p v e : ℕ) → k ≡ kind-at o i → p ≡ min at (length o) → v ≡ min (at + path-length o i) (length o) → e ≡ min (at + path-length o i + value-length o i) (length o) → record { kind = k; path = p; value = v; end = e } ≡ row o i at
 unfolding row
 row-is o i at k p v e kk pp vv ee = rw (kk, pp, vv, ee)
+
+-- the number at a place, from the two bytes there in the part from another place on
+pub number-in : (o : List ℕ) (from i at x : ℕ) → i + 1 < length o - from → at ≡ from + i → x ≡ getD (take (length o - from) (drop from o)) i 0 + getD (take (length o - from) (drop from o)) (i + 1) 0 * 256 → x ≡ number o at
+unfolding number
+number-in o from i at x inside place sum =
+    let low : getD (take (length o - from) (drop from o)) i 0 ≡ getD o at 0 = getD-take (length o - from) (drop from o) i 0 (omega arith) ∙ getD-drop from o i 0 ∙ ap (λ (k : ℕ). getD o k 0) (sym place) in
+    let high : getD (take (length o - from) (drop from o)) (i + 1) 0 ≡ getD o (at + 1) 0 = getD-take (length o - from) (drop from o) (i + 1) 0 inside ∙ getD-drop from o (i + 1) 0 ∙ ap (λ (k : ℕ). getD o k 0) (omega arith) in
+    omega (arith, low, high)
 
 -- bytes between places that count as the end where they lie past it
 cut : (o : List ℕ) (at n : ℕ) → between o (min at (length o)) (min (at + n) (length o)) ≡ part o at n

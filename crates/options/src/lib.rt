@@ -94,18 +94,55 @@ pub fn bodies_at(o: &[u8]) -> usize
     2 + behind(row_count(o))
 }
 
+// The three numbers at the head of a row: its kind, the lengths of its path and value.
+struct Head {
+    pub kind: u16,
+    pub path: u16,
+    pub value: u16,
+}
+
+fn pair(low: u8, high: u8) -> u16
+    ensures { λ r. ⌜ r ≡ low + high * 256 ⌝ }
+{
+    wider(low) + wider(high) * 256
+}
+
+// The head of row i. Where it lies whole in o, it is read without a test for each byte.
+fn head_of(o: &[u8], i: u32) -> Head
+    ensures { λ r. ⌜ (r .kind ≡ kind-at (now (o .entry)) i) × (r .path ≡ path-length (now (o .entry)) i) × (r .value ≡ value-length (now (o .entry)) i) ⌝ }
+{
+    let first = 2 + behind(i);
+    let last = first + 5;
+    if last < o.len() {
+        let h = &o[first..];
+        return Head {
+            kind: pair(h[0], h[1]),
+            path: pair(h[2], h[3]),
+            value: pair(h[4], h[5]),
+        };
+    }
+    let path = first + 2;
+    let value = first + 4;
+    Head {
+        kind: number_at(o, first),
+        path: number_at(o, path),
+        value: number_at(o, value),
+    }
+}
+
 // Row i, whose body starts at `at`. The next row's body starts at its end.
 pub fn row_from(o: &[u8], i: u32, at: usize) -> Row
     ensures { λ r. ⌜ r ≡ row (now (o .entry)) i at ⌝ }
 {
+    let head = head_of(o, i);
     let path = writer::within(at, o.len());
     let room = o.len() - path;
-    let m = writer::within(path_length(o, i), room);
+    let m = writer::within(wide(head.path), room);
     let value = path + m;
     let rest = o.len() - value;
-    let n = writer::within(value_length(o, i), rest);
+    let n = writer::within(wide(head.value), rest);
     Row {
-        kind: kind_at(o, i),
+        kind: head.kind,
         path: path,
         value: value,
         end: value + n,
