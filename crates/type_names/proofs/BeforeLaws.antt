@@ -2,7 +2,8 @@
 use mathlib.Core.Path.{_≡_, refl, sym, ap, _∙_}
 use mathlib.Core.Bool.{Bool, true, false, not}
 use mathlib.Core.List.{List, [], _∷_, _++_}
-use Prim.Native.Nat.{ℕ, zero, suc, _+_, _-_, _≤_, _<_}
+use Prim.Native.Nat.{ℕ, zero, suc, _+_, _-_, _%_, _≤_, _<_}
+use native.Mathlib.Decide.{decLe}
 use native.Mathlib.Omega.{arith}
 use lib.ListN.{length, getD, length-append}
 use lib.Dec.{eqb}
@@ -13,11 +14,11 @@ use Rattle.descriptor.specs.Descriptor.{Bytes}
 use Rattle.declarations.specs.Rows.{cell-at}
 use Rattle.declarations.specs.Listed.{full}
 use Rattle.type_names.specs.Cursors.{spelled, Sits, Entered, Prior}
-use Rattle.type_names.specs.LookUp.{same-row, before-by, declared-before, row-sums}
-use Rattle.type_names.specs.RowSums.{Apart}
+use Rattle.type_names.specs.LookUp.{same-row, before-by, declared-before, row-sum, row-sums}
+use Rattle.type_names.specs.RowSums.{Apart, Others}
 use Rattle.type_names.specs.declared.Cursor.{Cursor}
 use Rattle.type_names.specs.declared.Back.{Back}
-use Rattle.type_names.proofs.RowSumLaws.{full-apart}
+use Rattle.type_names.proofs.RowSumLaws.{full-apart, full-other}
 use Rattle.type_names.proofs.CursorLaws.{last-alike, last-unlike, longer, shorter}
 
 module _ (bytes t : List ℕ) (i j : ℕ) where
@@ -75,6 +76,19 @@ module _ (bytes t : List ℕ) (i : ℕ) where
   unfolding declared-before choose
   past h = rw (lt-ltb 65535 i h)
 
+  not-same : (j : ℕ) → same (full bytes t (j + 1)) (full bytes t (i + 1)) ≡ false → false ≡ same-row bytes t i j
+  unfolding same-row
+  not-same j e = rw e (choose-case (λ (r : Bool). false ≡ r) (eqb (cell-at t j 4) 0) (λ _. refl) (λ _. refl))
+
+  skipped : (k j : ℕ) → k ≤ j → ((m : ℕ) → k ≤ m → m < j → false ≡ same-row bytes t i m) → before-by bytes t i k ≡ before-by bytes t i j
+  unfolding before-by choose
+  skipped k zero l none = ap (before-by bytes t i) (let e : k ≡ 0 = omega arith in e)
+  skipped k (suc j) l none = by (decLe k j) (λ a. skipped k j a (λ m b h. none m b (omega arith)))
+    where
+      by : Dec (k ≤ j) → (k ≤ j → before-by bytes t i k ≡ before-by bytes t i j) → before-by bytes t i k ≡ before-by bytes t i (suc j)
+      by (yes a) rest = rest a ∙ rw (← none j a (omega arith))
+      by (no a) rest = ap (before-by bytes t i) (let e : k ≡ suc j = omega arith in e)
+
   module _ (sums : List ℕ) where
     abbrev Are : Type 0
     Are = sums ≡ row-sums bytes t (length sums)
@@ -107,10 +121,18 @@ module _ (bytes t : List ℕ) (i : ℕ) where
         left-more e = let k = left .inside in record { few = left .few; inside = omega arith; is = λ are. rw e at (opened are) }
 
       -- the rows' full names have other checksums
-      pub left-apart : 0 < j → (i < length sums) × Apart sums (j - 1) (getD sums i 0) → Left (j - 1)
-      unfolding same-row
+      pub left-apart : 0 < j → (i < length sums) × Apart sums (j - 1) (getD sums i 0 % 4294967296) → Left (j - 1)
       left-apart h apart =
           let few = left .few in
           let inside = left .inside in
-          left-more h false
-          (λ are. rw (full-apart bytes t sums are i (j - 1) few (omega arith) (apart .0) (apart .1)) (choose-case (λ (r : Bool). false ≡ r) (eqb (cell-at t (j - 1) 4) 0) (λ _. refl) (λ _. refl))) refl
+          left-more h false (λ are. not-same (j - 1) (full-apart bytes t sums are i (j - 1) few (omega arith) (apart .0) (apart .1))) refl
+
+      pub left-skip : (k : ℕ) → k ≤ j → ((bytes t : List ℕ) → sums ≡ row-sums bytes t (length sums) → Others bytes t (row-sum bytes t i) k j) → Left k
+      left-skip k l others =
+          let few = left .few in
+          let inside = left .inside in
+          record {
+            few = few;
+            inside = omega arith;
+            is = λ are. skipped k j l (λ m a h. not-same m (full-other bytes t (row-sum bytes t i) k j (others bytes t are) m a h i few (omega arith) refl)) ∙ left .is are;
+          }

@@ -1,3 +1,4 @@
+pub mod ChainLaws
 pub mod CursorLaws
 pub mod NamedLaws
 pub mod RowSumLaws

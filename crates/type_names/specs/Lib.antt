@@ -1,3 +1,4 @@
 pub mod Cursors
+pub mod Chains
 pub mod LookUp
 pub mod RowSums

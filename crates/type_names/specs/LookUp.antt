@@ -8,8 +8,8 @@ use Rattle.base.specs.Choose.{choose}
 use Rattle.descriptor.specs.Descriptor.{Bytes}
 use Rattle.declarations.specs.Rows.{cell-at}
 use Rattle.declarations.specs.Listed.{full}
-use Rattle.message_graph.specs.Tab.{tab}
 use Rattle.checksums.specs.Sums.{sum-of}
+use Rattle.type_names.specs.Chains.{cells}
 
 -- a table has no row past 65,535
 unfoldable pub named : Bytes → List ℕ → Bytes → ℕ → Bool
@@ -50,6 +50,6 @@ declared-before bytes t i = choose (ltb 65535 i) false (before-by bytes t i i)
 unfoldable pub row-sum : Bytes → List ℕ → ℕ → ℕ
 row-sum bytes t i = choose (ltb 65535 i) 0 (sum-of (full bytes t (i + 1)))
 
--- those of the first n rows
+-- those of the first n rows, with the chains of the rows
 unfoldable pub row-sums : Bytes → List ℕ → ℕ → List ℕ
-row-sums bytes t n = tab n (row-sum bytes t)
+row-sums bytes t n = cells (row-sum bytes t) n

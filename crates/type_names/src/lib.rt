@@ -1,8 +1,9 @@
-// Type names: which declaration of a set has a full name. Checksums are compared first, then full names from their ends, row by row;
-// none is built.
+// Type names: which declaration of a set has a full name. Rows with other checksums are passed over, by chains of the rows whose
+// checksums leave one remainder; full names are compared from their ends, and none is built.
 ghost use mathlib.Core.Path.{_≡_};
 ghost use mathlib.Core.Bool.{true, false};
-ghost use Prim.Native.Nat.{ℕ, _+_, _-_, _<_};
+ghost use mathlib.Core.List.{List};
+ghost use Prim.Native.Nat.{ℕ, _+_, _-_, _/_, _%_, _≤_, _<_};
 ghost use lib.Dec.{ltb, eqb};
 ghost use lib.ListN.{length, getD};
 ghost use Rattle.base.specs.Choose.{choose};
@@ -10,8 +11,10 @@ ghost use Rattle.base.specs.Bytes.{same};
 ghost use Rattle.checksums.specs.Sums.{sum-of};
 ghost use Rattle.declarations.specs.Listed.{full};
 ghost use Rattle.type_names.specs.Cursors.{Sits, Prior, Entered};
+ghost use Rattle.message_graph.specs.Tab.{tab};
+ghost use Rattle.type_names.specs.Chains.{packed, chained, Linked, Chained};
 ghost use Rattle.type_names.specs.LookUp.{named, wanted, fits, find-row, same-row, declared-before, row-sum, row-sums};
-ghost use Rattle.type_names.specs.RowSums.{Summed, Apart};
+ghost use Rattle.type_names.specs.RowSums.{Summed, Apart, Others};
 use descriptor::Text;
 
 // What is left of a full name, without its end: nothing, or the full name with the code `up`, a dot, and `left` bytes of the
@@ -153,14 +156,151 @@ fn row_sum(set: &[u8], t: &[usize], sums: &[u64], i: usize) -> u64
 }
 
 // For each place of `sums`, the checksum of the full name of the row there.
-pub fn fill_sums(set: &[u8], t: &[usize], sums: &mut [u64])
-    ensures { λ _. ⌜ now (sums .exit) ≡ row-sums (now (set .entry)) (now (t .entry)) (length (now (sums .entry))) ⌝ }
+fn sum_rows(set: &[u8], t: &[usize], sums: &mut [u64])
+    ensures { λ _. ⌜ now (sums .exit) ≡ tab (length (now (sums .entry))) (row-sum (now (set .entry)) (now (t .entry))) ⌝ }
 {
     let mut i = 0;
     while i < sums.len() {
         sums[i] = row_sum(set, t, sums, i);
         i += 1;
     }
+}
+
+// A cell's parts: the checksum of its row, the row before in the same bucket, and the last row of the bucket with the cell's number;
+// rows are counted from 1.
+fn sum_in(cell: u64) -> u64
+    ensures { λ r. ⌜ r ≡ cell % 4294967296 ⌝ }
+    ensures { λ r. ⌜ r < 4294967296 ⌝ }
+{
+    cell % 4294967296
+}
+
+fn before_in(cell: u64) -> usize
+    ensures { λ r. ⌜ r ≡ cell / 4294967296 % 65536 ⌝ }
+    ensures { λ r. ⌜ r < 65536 ⌝ }
+{
+    let high = cell / 4294967296;
+    let low = high % 65536;
+    low as usize
+}
+
+fn last_in(cell: u64) -> usize
+    ensures { λ r. ⌜ r ≡ cell / 281474976710656 ⌝ }
+    ensures { λ r. ⌜ r < 65536 ⌝ }
+{
+    let high = cell / 281474976710656;
+    high as usize
+}
+
+fn pack(sum: u64, before: usize, last: usize) -> u64
+    requires { ⌜ (sum < 4294967296) × (before < 65536) × (last < 65536) ⌝ }
+    ensures { λ r. ⌜ r ≡ packed sum before last ⌝ }
+{
+    let shifted = 65536 * last;
+    let rows = before + shifted;
+    let high = rows as u64;
+    let upper = 4294967296 * high;
+    sum + upper
+}
+
+// So many rows of a list with `n` cells are in chains.
+fn chained(n: usize) -> usize
+    ensures { λ r. ⌜ r ≡ chained n ⌝ }
+{
+    if 65535 < n {
+        return 65535;
+    }
+    n
+}
+
+// The bucket of a checksum, of `n` buckets.
+fn bucket(sum: u64, n: usize) -> usize
+    requires { ⌜ (0 < n) × (n < 65536) ⌝ }
+    ensures { λ r. ⌜ r ≡ sum % n ⌝ }
+    ensures { λ r. ⌜ r < n ⌝ }
+{
+    let many = n as u64;
+    let rest = sum % many;
+    rest as usize
+}
+
+// Row `k` goes into the chain of its bucket, of `n`.
+fn link(sums: &mut [u64], n: usize, k: usize)
+    requires { ⌜ (k < n) × (n < 65536) × (n ≤ length (now sums)) ⌝ }
+    ensures { λ _. ⌜ Linked n k (now (sums .entry)) (now (sums .exit)) ⌝ }
+{
+    let cell = sums[k];
+    let sum = sum_in(cell);
+    let b = bucket(sum, n);
+    let before = last_in(sums[b]);
+    let own = last_in(cell);
+    sums[k] = pack(sum, before, own);
+    let first = sums[b];
+    let code = k + 1;
+    sums[b] = pack(sum_in(first), before_in(first), code);
+}
+
+// From the first row to the last.
+fn chain(sums: &mut [u64])
+    ensures { λ _. ⌜ Chained (now (sums .entry)) (now (sums .exit)) ⌝ }
+{
+    let n = chained(sums.len());
+    let mut k: usize = 0;
+    while k < n {
+        link(sums, n, k);
+        k = k + 1;
+    }
+}
+
+// For each place of `sums`, the checksum of the full name of the row there, with the chains of the rows.
+pub fn fill_sums(set: &[u8], t: &[usize], sums: &mut [u64])
+    ensures { λ _. ⌜ now (sums .exit) ≡ row-sums (now (set .entry)) (now (t .entry)) (length (now (sums .entry))) ⌝ }
+{
+    sum_rows(set, t, sums);
+    chain(sums);
+}
+
+// The last of the first `count` rows that may have this checksum, counted from 1; 0 where none has. The rows behind it have others,
+// where `sums` has those of the rows.
+pub fn last_like(sums: &[u64], count: usize, sum: u64) -> usize
+    ensures { λ r. ⌜ r ≤ count ⌝ }
+    ensures { λ r. ⌜ ((set t : List ℕ) → now (sums .entry) ≡ row-sums set t (length (now (sums .entry))) → Others set t sum r count) ⌝ }
+{
+    let n = chained(sums.len());
+    if count != n {
+        return count;
+    }
+    if n == 0 {
+        return count;
+    }
+    let b = bucket(sum, n);
+    let last = last_in(sums[b]);
+    if count < last {
+        return count;
+    }
+    last
+}
+
+// The same of the rows before row `k`, which may have it.
+pub fn like_before(sums: &[u64], k: usize, sum: u64) -> usize
+    ensures { λ r. ⌜ r ≤ k ⌝ }
+    ensures { λ r. ⌜ ((set t : List ℕ) → now (sums .entry) ≡ row-sums set t (length (now (sums .entry))) → Others set t sum r k) ⌝ }
+{
+    let n = chained(sums.len());
+    if n <= k {
+        return k;
+    }
+    let cell = sums[k];
+    let own = bucket(sum_in(cell), n);
+    let b = bucket(sum, n);
+    if own != b {
+        return k;
+    }
+    let before = before_in(cell);
+    if k < before {
+        return k;
+    }
+    before
 }
 
 // Has row `i` another checksum than `sum`? Most rows are told apart so.
@@ -170,7 +310,8 @@ fn sums_apart(sums: &[u64], i: usize, sum: u64) -> bool
     if sums.len() <= i {
         return false;
     }
-    if sums[i] == sum {
+    let own = sum_in(sums[i]);
+    if own == sum {
         return false;
     }
     true
@@ -256,14 +397,17 @@ pub fn find_row(
     ensures { λ r. ⌜ (now (sums .entry) ≡ row-sums (now (set .entry)) (now (t .entry)) (length (now (sums .entry))) → r ≡ find-row (now (set .entry)) (now (t .entry)) (now (name .entry)) sort count) ⌝ }
 {
     let sum = checksums::checksum(name);
-    let mut i: usize = 0;
-    while i < count {
-        if row_fits(set, t, sums, name, sum, sort, i) {
-            return i;
+    let mut first = count;
+    let mut j = last_like(sums, count, sum);
+    while 0 < j {
+        let k = j - 1;
+        let next = like_before(sums, k, sum);
+        if row_fits(set, t, sums, name, sum, sort, k) {
+            first = k;
         }
-        i = i + 1;
+        j = next;
     }
-    count
+    first
 }
 
 // Do two rows have one full name?
@@ -306,13 +450,25 @@ fn row_same(set: &[u8], t: &[usize], i: usize, j: usize) -> bool
 
 // Have two rows other checksums?
 fn rows_apart(sums: &[u64], i: usize, j: usize) -> bool
-    ensures { λ r. ⌜ (r ≡ true → (i < length (now (sums .entry))) × Apart (now (sums .entry)) j (getD (now (sums .entry)) i 0)) ⌝ }
+    ensures { λ r. ⌜ (r ≡ true → (i < length (now (sums .entry))) × Apart (now (sums .entry)) j (getD (now (sums .entry)) i 0 % 4294967296)) ⌝ }
 {
     if sums.len() <= i {
         return false;
     }
-    let sum = sums[i];
+    let sum = sum_in(sums[i]);
     sums_apart(sums, j, sum)
+}
+
+// The last row before row `j` that may have the full name of row `i`, counted from 1; 0 where none has.
+fn same_before(sums: &[u64], i: usize, j: usize) -> usize
+    ensures { λ r. ⌜ r ≤ j ⌝ }
+    ensures { λ r. ⌜ ((set t : List ℕ) → now (sums .entry) ≡ row-sums set t (length (now (sums .entry))) → Others set t (row-sum set t i) r j) ⌝ }
+{
+    if sums.len() <= i {
+        return j;
+    }
+    let sum = sum_in(sums[i]);
+    like_before(sums, j, sum)
 }
 
 // Is the full name of the row declared in a row before it? The answer is right where `sums` has the checksums of the rows.
@@ -322,15 +478,16 @@ pub fn declared_before(set: &[u8], t: &[usize], sums: &[u64], row: usize) -> boo
     if 65535 < row {
         return false;
     }
-    let mut j = row;
+    let mut j = same_before(sums, row, row);
     while 0 < j {
         let k = j - 1;
+        let next = same_before(sums, row, k);
         if !rows_apart(sums, row, k) {
             if row_same(set, t, row, k) {
                 return true;
             }
         }
-        j = k;
+        j = next;
     }
     false
 }

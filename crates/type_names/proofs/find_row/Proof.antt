@@ -1,4 +1,10 @@
-use Rattle.type_names.proofs.FindLaws.{Going, going-start, going-end, going-found, going-more}
+use Rattle.type_names.proofs.find_row.Reads as reads
+use Rattle.type_names.proofs.find_row.Lts as lts
+use Rattle.checksums.proofs.checksum.Reads as checksum-reads
+use Rattle.type_names.proofs.last_like.Reads as last-like-reads
+use Rattle.type_names.proofs.like_before.Reads as like-before-reads
+use Rattle.type_names.proofs.row_fits.Reads as row-fits-reads
+use Rattle.type_names.proofs.FindLaws.{Going, going-start, going-end, going-found, going-more, going-skip}
 use borrow.Author.Needs.{needs}
 use native.Mathlib.Omega.{arith}
 use Prim.Native.Nat.{_-_}
@@ -9,34 +15,48 @@ use Rattle.type_names.proofs.find_row.Statement.{statement}
 use Rattle.type_names.proofs.find_row.Tie as tie
 
 abbrev Inv-loop : tie.InvT-loop
-Inv-loop set t count sums name sort sum i₀ i = sums ≡ row-sums set t (length sums) → Going set t name sort count i
+Inv-loop set t count sums name sort sum first₀ j₀ first j = sums ≡ row-sums set t (length sums) → Going set t name sort count first j
 
 abbrev μ-loop : tie.MeasureT-loop
-μ-loop set t count sums name sort sum i₀ i = count - i
+μ-loop set t count sums name sort sum first₀ j₀ first j = j
 
 checksum-requires : tie.Need-checksum-requires Inv-loop μ-loop
 checksum-requires c κs = search needs
 
+-- src/lib.rt:401:9
+last-like-requires : tie.Need-last-like-requires Inv-loop μ-loop
+last-like-requires c κs = search needs
+
 loop-holds : tie.Need-loop-holds Inv-loop μ-loop
-loop-holds c = λ _. going-start _ _ _ _ _
+loop-holds c = λ are. going-skip _ _ _ _ _ _ _ (going-start _ _ _ _ _) _ _ (c .before .checksum .ensures) (c .last-like .ensures .0) (c .last-like .ensures .1 _ _ are)
+
+-- src/lib.rt:403:17
+sub-k : tie.Need-sub-k Inv-loop μ-loop
+sub-k c = search needs
+
+-- src/lib.rt:404:13
+like-before-requires : tie.Need-like-before-requires Inv-loop μ-loop
+like-before-requires c κs = search needs
 
 row-fits-requires : tie.Need-row-fits-requires Inv-loop μ-loop
 row-fits-requires c κs = search needs
 
-returns : tie.Need-returns Inv-loop μ-loop
-returns c = λ are. going-found _ _ _ _ _ _ (c .before .before .before .loop .inv are) (c .before .before .loop-test .taken) _ (c .before .row-fits .ensures are (c .before .before .before .before .checksum .ensures)) (c .if1 .taken)
-
-add-i : tie.Need-add-i Inv-loop μ-loop
-add-i c = search needs
-
+-- src/lib.rt:402:5
 loop-less : tie.Need-loop-less Inv-loop μ-loop
-loop-less c = omega (arith, c .before .before .loop-test .taken)
+loop-less c = omega (arith, c .before .before .before .loop-test .taken, c .before .before .like-before .ensures .0)
 
+-- src/lib.rt:402:5
 loop-again : tie.Need-loop-again Inv-loop μ-loop
-loop-again c = λ are. going-more _ _ _ _ _ _ (c .before .before .before .loop .inv are) (c .before .before .loop-test .taken) _ (c .before .row-fits .ensures are (c .before .before .before .before .checksum .ensures)) (c .if1 .left)
+loop-again c = λ are. going-skip _ _ _ _ _ _ _ (going-found _ _ _ _ _ _ _ (c .before .before .before .before .loop .inv are) (c .before .before .before .loop-test .taken) _ (c .before .row-fits .ensures are (c .before .before .before .before .before .before .checksum .ensures)) (c .if1 .taken)) _ _ (c .before .before .before .before .before .before .checksum .ensures) (c .before .before .like-before .ensures .0) (c .before .before .like-before .ensures .1 _ _ are)
 
-returns-2 : tie.Need-returns-2 Inv-loop μ-loop
-returns-2 c = λ are. going-end _ _ _ _ _ _ (c .before .loop .inv are) (c .loop-test .left)
+loop-less-2 : tie.Need-loop-less-2 Inv-loop μ-loop
+loop-less-2 c = omega (arith, c .before .before .before .loop-test .taken, c .before .before .like-before .ensures .0)
+
+loop-again-2 : tie.Need-loop-again-2 Inv-loop μ-loop
+loop-again-2 c = λ are. going-skip _ _ _ _ _ _ _ (going-more _ _ _ _ _ _ _ (c .before .before .before .before .loop .inv are) (c .before .before .before .loop-test .taken) _ (c .before .row-fits .ensures are (c .before .before .before .before .before .before .checksum .ensures)) (c .if1 .left)) _ _ (c .before .before .before .before .before .before .checksum .ensures) (c .before .before .like-before .ensures .0) (c .before .before .like-before .ensures .1 _ _ are)
+
+returns : tie.Need-returns Inv-loop μ-loop
+returns c = λ are. going-end _ _ _ _ _ _ _ (c .before .loop .inv are) (c .loop-test .left)
 
 pub find-row-spec : {M : Type 1} → statement M
 find-row-spec =
@@ -45,10 +65,13 @@ find-row-spec =
     Inv-loop
     μ-loop
     checksum-requires
+    last-like-requires
     loop-holds
+    sub-k
+    like-before-requires
     row-fits-requires
-    returns
-    add-i
     loop-less
     loop-again
-    returns-2)
+    loop-less-2
+    loop-again-2
+    returns)

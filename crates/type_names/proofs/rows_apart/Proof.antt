@@ -7,18 +7,31 @@ use Rattle.type_names.proofs.rows_apart.Tie as tie
 returns : tie.Need-returns
 returns c = λ e. both-ways e refl
 
-mul-sum : tie.Need-mul-sum
-mul-sum c = search needs
+-- src/lib.rt:458:22
+mul-sum-in : tie.Need-mul-sum-in
+mul-sum-in c = search needs
 
-shared-slice-read-sum : tie.Need-shared-slice-read-sum
-shared-slice-read-sum c = search needs
+-- src/lib.rt:458:22
+shared-slice-read-sum-in : tie.Need-shared-slice-read-sum-in
+shared-slice-read-sum-in c = search needs
+
+-- src/lib.rt:458:9
+sum-in-requires : tie.Need-sum-in-requires
+sum-in-requires c κs = search needs
 
 sums-apart-requires : tie.Need-sums-apart-requires
 sums-apart-requires c κs = search needs
 
 returns-2 : tie.Need-returns-2
-returns-2 c = λ e. (c .before .before .if1 .left, c .sums-apart .ensures e)
+returns-2 c = λ e. (c .before .before .before .if1 .left, rw (← c .before .sum-in .ensures .0) (c .sums-apart .ensures e))
 
 pub rows-apart-spec : {M : Type 1} → statement M
 rows-apart-spec =
-    tie.close (tie.spec returns mul-sum shared-slice-read-sum sums-apart-requires returns-2)
+    tie.close
+    (tie.spec
+    returns
+    mul-sum-in
+    shared-slice-read-sum-in
+    sum-in-requires
+    sums-apart-requires
+    returns-2)
