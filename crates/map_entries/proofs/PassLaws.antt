@@ -4,9 +4,10 @@ use mathlib.Core.Bool.{Bool, true, false, not}
 use mathlib.Core.List.{List, [], _∷_, _++_, append-nil}
 use Prim.Native.Nat.{ℕ, zero, suc, _+_, _-_, _≤_, _<_}
 use native.Mathlib.Numerals.{add-one}
+use native.Mathlib.Decide.{decLe}
 use native.Mathlib.Omega.{arith}
 use lib.ListN.{length, getD, set, drop, replicate, length-set, length-replicate, drop-of-length-le}
-use lib.Seq.{drop-cons, set-at, set-out}
+use lib.Seq.{drop-cons, set-at, set-out, getD-set-other, set-comm}
 use borrow.Author.Tests.{lt-ltb, le-ltb}
 use Rattle.base.specs.Choose.{choose, choose-case}
 use Rattle.base.specs.Lists.{all-of}
@@ -18,7 +19,10 @@ use Rattle.descriptor.specs.declared.FieldView.{FieldView}
 use Rattle.parts.proofs.PartLaws.{parts-from}
 use Rattle.declarations.specs.Rows.{cell-at, row-at}
 use Rattle.declarations.specs.Listed.{full, listed-row, listed}
+use Rattle.checksums.specs.Sums.{sum-of}
 use Rattle.type_names.specs.LookUp.{named}
+use Rattle.type_names.specs.RowSums.{Others}
+use Rattle.type_names.proofs.RowSumLaws.{name-other}
 use Rattle.map_entries.specs.Named.{Use, is-mapping, part-use, row-uses, uses, vote, joined, noted, noted-rows, tally, naming}
 use Rattle.map_entries.proofs.UseLaws.{field-none, field-some, uses-append, uses-row}
 
@@ -67,6 +71,12 @@ pub noted-length : (i v : ℕ) (who : List ℕ) → length (noted i v who) ≡ l
 unfolding noted
 noted-length i v who = length-set who i (joined (getD who i 0) v)
 
+noted-swap : (i j v : ℕ) (who : List ℕ) → (i ≡ j → ⊥) → noted i v (noted j v who) ≡ noted j v (noted i v who)
+unfolding noted
+noted-swap i j v who d =
+    rw (getD-set-other who j i (joined (getD who j 0) v) 0 d, getD-set-other who i j (joined (getD who i 0) v) 0 (λ e. d (sym e)))
+    (set-comm who j i (joined (getD who j 0) v) (joined (getD who i 0) v) (λ e. d (sym e)))
+
 module _ (bytes t : List ℕ) where
   pub rows-length : (name : Bytes) (v n : ℕ) (who : List ℕ) → length (noted-rows bytes t name v n who) ≡ length who
   unfolding noted-rows
@@ -75,18 +85,62 @@ module _ (bytes t : List ℕ) where
       choose-case (λ (w : List ℕ). length w ≡ length who) (named bytes t name n)
       (λ _. noted-length n v (noted-rows bytes t name v n who) ∙ rows-length name v n who) (λ _. rows-length name v n who)
 
-  module _ (name : Bytes) (v : ℕ) (who₀ who : List ℕ) (i : ℕ) (is : who ≡ noted-rows bytes t name v i who₀) where
-    module _ (r : Bool) (r-is : r ≡ named bytes t name i) where
-      pub rows-more : r ≡ true → (w : List ℕ) → w ≡ noted i v who → w ≡ noted-rows bytes t name v (i + 1) who₀
-      unfolding noted-rows choose
-      rows-more e w w-is = let z : named bytes t name i ≡ true = sym r-is ∙ e in rw (add-one, z) (w-is ∙ ap (noted i v) is)
+  -- a row behind them is noted before them or after them
+  rows-on : (name : Bytes) (v i n : ℕ) (who : List ℕ) → n ≤ i → noted-rows bytes t name v n (noted i v who) ≡ noted i v (noted-rows bytes t name v n who)
+  unfolding noted-rows choose
+  rows-on name v i zero who l = refl
+  rows-on name v i (suc n) who l = by (named bytes t name n) (rows-on name v i n who (omega arith))
+    where
+      rows : List ℕ → List ℕ
+      rows w = noted-rows bytes t name v n w
 
-      pub rows-skip : r ≡ false → who ≡ noted-rows bytes t name v (i + 1) who₀
-      unfolding noted-rows choose
-      rows-skip e = let z : named bytes t name i ≡ false = sym r-is ∙ e in rw (add-one, z) is
+      by : (r : Bool) → rows (noted i v who) ≡ noted i v (rows who)
+          → choose r (noted n v (rows (noted i v who))) (rows (noted i v who)) ≡ noted i v (choose r (noted n v (rows who)) (rows who))
+      by true e = ap (noted n v) e ∙ noted-swap n i v (rows who) (λ q. omega arith)
+      by false e = e
 
-    pub rows-end : (n : ℕ) → i ≤ n → n ≤ i → who ≡ noted-rows bytes t name v n who₀
-    rows-end n a b = is ∙ ap (λ (k : ℕ). noted-rows bytes t name v k who₀) (let e : i ≡ n = omega arith in e)
+  rows-none : (name : Bytes) (v k : ℕ) (who : List ℕ) (m : ℕ) → k ≤ m → ((j : ℕ) → k ≤ j → j < m → false ≡ named bytes t name j) → noted-rows bytes t name v k who ≡ noted-rows bytes t name v m who
+  unfolding noted-rows choose
+  rows-none name v k who zero l none = ap (λ (q : ℕ). noted-rows bytes t name v q who) (let e : k ≡ 0 = omega arith in e)
+  rows-none name v k who (suc m) l none = by (decLe k m) (λ c. rows-none name v k who m c (λ j d h. none j d (omega arith)))
+    where
+      by : Dec (k ≤ m) → (k ≤ m → noted-rows bytes t name v k who ≡ noted-rows bytes t name v m who) → noted-rows bytes t name v k who ≡ noted-rows bytes t name v (suc m) who
+      by (yes c) rest = rest c ∙ rw (← none m c (omega arith))
+      by (no c) rest = ap (λ (q : ℕ). noted-rows bytes t name v q who) (let e : k ≡ suc m = omega arith in e)
+
+  module _ (name : Bytes) (v n : ℕ) (who₀ : List ℕ) where
+    -- the rows from row i on are noted
+    pub record Noted (who : List ℕ) (i : ℕ) : Type 0 where
+      pub is : noted-rows bytes t name v i who ≡ noted-rows bytes t name v n who₀
+      pub size : length who ≡ length who₀
+
+    pub rows-start : Noted who₀ n
+    rows-start = record { is = refl; size = refl }
+
+    module _ (who : List ℕ) (i : ℕ) (p : Noted who i) where
+      pub rows-end : i ≤ 0 → who ≡ noted-rows bytes t name v n who₀
+      unfolding noted-rows
+      rows-end h = let z : i ≡ 0 = omega arith in rw z at (p .is)
+
+      module _ (h : 0 < i) (r : Bool) (r-is : r ≡ named bytes t name (i - 1)) where
+        one : noted-rows bytes t name v i who ≡ choose r (noted (i - 1) v (noted-rows bytes t name v (i - 1) who)) (noted-rows bytes t name v (i - 1) who)
+        unfolding noted-rows
+        one = let z : i ≡ suc (i - 1) = omega arith in rw r-is (ap (λ (m : ℕ). noted-rows bytes t name v m who) z)
+
+        pub rows-more : r ≡ true → (w : List ℕ) → w ≡ noted (i - 1) v who → Noted w (i - 1)
+        unfolding choose
+        rows-more e w w-is = record {
+          is = rw w-is (rows-on name v (i - 1) (i - 1) who (omega arith) ∙ sym (one ∙ rw e) ∙ p .is);
+          size = ap length w-is ∙ noted-length (i - 1) v who ∙ p .size;
+        }
+
+        pub rows-less : r ≡ false → Noted who (i - 1)
+        unfolding choose
+        rows-less e = record { is = sym (one ∙ rw e) ∙ p .is; size = p .size }
+
+      -- rows with other checksums
+      pub rows-skip : (sum k : ℕ) → sum ≡ sum-of name → k ≤ i → Others bytes t sum k i → Noted who k
+      rows-skip sum k sum-is l others = record { is = rows-none name v k who i l (λ j a h. name-other bytes t sum k i others j a h name sum-is) ∙ p .is; size = p .size }
 
   module _ (n : ℕ) where
     pub tally-length : (us : List Use) (who : List ℕ) → length (tally bytes t n us who) ≡ length who

@@ -78,13 +78,14 @@ fn note_rows(
     ensures { λ _. ⌜ now (who .exit) ≡ noted-rows (now (set .entry)) (now (t .entry)) (now (name .entry)) v count (now (who .entry)) ⌝ }
 {
     let sum = checksums::checksum(name);
-    let mut i: usize = 0;
-    while i < count {
-        let next = i + 1;
-        if type_names::is_named(set, t, sums, name, sum, i) {
-            note(who, i, v);
+    let mut j = type_names::last_like(sums, count, sum);
+    while 0 < j {
+        let k = j - 1;
+        let next = type_names::like_before(sums, k, sum);
+        if type_names::is_named(set, t, sums, name, sum, k) {
+            note(who, k, v);
         }
-        i = next;
+        j = next;
     }
 }
 
