@@ -3,7 +3,6 @@ use mathlib.Core.Path.{_≡_, refl, sym, ap, _∙_}
 use mathlib.Core.Bool.{Bool, true, false}
 use mathlib.Core.List.{List, [], _∷_}
 use Prim.Native.Nat.{ℕ, zero, suc, _+_, _*_, _/_, _%_, _≤_, _<_}
-use native.Mathlib.Nat.{suc-inj, suc-ne-zero, zero-lt-suc}
 use native.Mathlib.Numerals.{add-one}
 use native.Mathlib.Omega.{arith}
 use lib.Dec.{eqb, ltb}
@@ -16,23 +15,23 @@ use Rattle.type_names.specs.Chains.{last-in, packed, cell-by, chained, c
 
 -- ---- a cell's parts
 module _ (sum before last : ℕ) (sum-small : sum < 4294967296) (before-small : before < 65536) where
-  pub sum-part : packed sum before last % 4294967296 ≡ sum
+  sum-part : packed sum before last % 4294967296 ≡ sum
   unfolding packed
   sum-part = omega arith
 
-  pub before-part : packed sum before last / 4294967296 % 65536 ≡ before
+  before-part : packed sum before last / 4294967296 % 65536 ≡ before
   unfolding packed
   before-part = omega arith
 
-  pub last-part : packed sum before last / 281474976710656 ≡ last
+  last-part : packed sum before last / 281474976710656 ≡ last
   unfolding packed
   last-part = omega arith
 
-pub chained-le : (n : ℕ) → chained n ≤ n
+chained-le : (n : ℕ) → chained n ≤ n
 unfolding chained
 chained-le n = choose-case (λ (r : ℕ). r ≤ n) (ltb 65535 n) (λ e. let l = ltb-true 65535 n e in omega arith) (λ _. omega arith)
 
-pub chained-few : (n : ℕ) → chained n ≤ 65535
+chained-few : (n : ℕ) → chained n ≤ 65535
 unfolding chained
 chained-few n = choose-case (λ (r : ℕ). r ≤ 65535) (ltb 65535 n) (λ _. omega arith) (λ e. let l = ltb-false 65535 n e in omega arith)
 
@@ -41,13 +40,13 @@ chained-within n many e = let a = chained-le many in let b = chained-few many in
 
 -- ---- the last row of a bucket
 module _ (s : ℕ → ℕ) (n : ℕ) where
-  pub last-le : (b k : ℕ) → last-in s n b k ≤ k
+  last-le : (b k : ℕ) → last-in s n b k ≤ k
   unfolding last-in
   last-le b zero = omega arith
   last-le b (suc k) = let l = last-le b k in choose-case (λ (r : ℕ). r ≤ suc k) (eqb (s k % n) b) (λ _. omega arith) (λ _. omega arith)
 
   -- the rows behind it are in other buckets
-  pub last-behind : (b k j : ℕ) → last-in s n b k ≤ j → j < k → s j % n ≡ b → ⊥
+  last-behind : (b k j : ℕ) → last-in s n b k ≤ j → j < k → s j % n ≡ b → ⊥
   unfolding last-in choose
   last-behind b zero j l h e = omega arith
   last-behind b (suc k) j l h e = by (eqb (s k % n) b) refl l (λ m g. last-behind b k j m g e)
@@ -69,7 +68,7 @@ module _ (s : ℕ → ℕ) (n : ℕ) where
   last-other b k d = rw (add-one, ne-eqb (s k % n) b d)
 
   -- the row before row i in its bucket, where the first k rows are in the chains
-  abbrev pub before-at : ℕ → ℕ → ℕ
+  abbrev before-at : ℕ → ℕ → ℕ
   before-at k i = choose (ltb i k) (last-in s n (s i % n) i) 0
 
   before-few : (k i : ℕ) → k ≤ 65535 → before-at k i < 65536
@@ -77,20 +76,20 @@ module _ (s : ℕ → ℕ) (n : ℕ) where
       choose-case (λ (r : ℕ). r < 65536) (ltb i k) (λ e. let l = last-le (s i % n) i in let m = ltb-true i k e in omega arith) (λ _. omega arith)
 
   module _ (small : (i : ℕ) → s i < 4294967296) (k i x : ℕ) (few : k ≤ 65535) (x-is : x ≡ cell-by s n k i) where
-    pub cell-sum : x % 4294967296 ≡ s i
+    cell-sum : x % 4294967296 ≡ s i
     unfolding cell-by
     cell-sum = rw x-is (sum-part (s i) (before-at k i) (last-in s n i k) (small i) (before-few k i few))
 
-    pub cell-before : x / 4294967296 % 65536 ≡ before-at k i
+    cell-before : x / 4294967296 % 65536 ≡ before-at k i
     unfolding cell-by
     cell-before = rw x-is (before-part (s i) (before-at k i) (last-in s n i k) (small i) (before-few k i few))
 
-    pub cell-last : x / 281474976710656 ≡ last-in s n i k
+    cell-last : x / 281474976710656 ≡ last-in s n i k
     unfolding cell-by
     cell-last = rw x-is (last-part (s i) (before-at k i) (last-in s n i k) (small i) (before-few k i few))
 
 -- ---- one row more
-module _ (s : ℕ → ℕ) (n k : ℕ) (small : (i : ℕ) → s i < 4294967296) (few : k < 65535) (l : List ℕ) (inside : k < length l) (staged : Staged s n k l) where
+module _ (s : ℕ → ℕ) (n k : ℕ) (l : List ℕ) (inside : k < length l) (staged : Staged s n k l) where
   -- row k leads to the one before, and is not yet the last one of its bucket
   mid : ℕ → ℕ
   mid i = packed (s i) (before-at s n (k + 1) i) (last-in s n i k)
@@ -155,7 +154,7 @@ module _ (l : List ℕ) (n k : ℕ) (pre : (k < n) × (n < 65536) × (n ≤ leng
     y-packed =
         let few : k < 65535 = omega (arith, pre .0, pre .1) in
         let m : getD (set l k x) b 0 ≡ packed (s b) (before-at s n (k + 1) b) (last-in s n b k) =
-        mid-at s n k small few l (omega (arith, pre .0, pre .2)) staged b bucket-is (omega (arith, pre .2)) x x-packed b (omega (arith, pre .2)) in
+        mid-at s n k l (omega (arith, pre .0, pre .2)) staged b bucket-is (omega (arith, pre .2)) x x-packed b (omega (arith, pre .2)) in
         let low = before-few s n (k + 1) b (omega arith) in
         y-is
         ∙ rw (first-sum-is, first-before-is, m, sum-part (s b) (before-at s n (k + 1) b) (last-in s n b k) (small b) low, before-part (s b) (before-at s n (k + 1) b) (last-in s n b k) (small b) low)
@@ -167,7 +166,7 @@ module _ (l : List ℕ) (n k : ℕ) (pre : (k < n) × (n < 65536) × (n ≤ leng
         size = size;
         next = λ s small staged. record {
           at = λ i h.
-              more-at s n k small (omega (arith, pre .0, pre .1)) l (omega (arith, pre .0, pre .2)) staged b (bucket-is s small staged) (omega (arith, pre .2)) x (x-packed s small staged) y (y-packed s small staged) i (omega (arith, size));
+              more-at s n k l (omega (arith, pre .0, pre .2)) staged b (bucket-is s small staged) (omega (arith, pre .2)) x (x-packed s small staged) y (y-packed s small staged) i (omega (arith, size));
         };
       }
 

@@ -104,9 +104,6 @@ module _ (bytes t : List ℕ) where
     pub full-other : (i : ℕ) → i ≤ 65535 → j ≤ 65535 → sum ≡ row-sum bytes t i → same (full bytes t (j + 1)) (full bytes t (i + 1)) ≡ false
     full-other i few-i few-j is = unlike (full bytes t (j + 1)) (full bytes t (i + 1)) (λ e. others .other j l h (sum-is j few-j ∙ ap sum-of e ∙ sym (sum-is i few-i) ∙ sym is))
 
-  pub others-none : (sum k : ℕ) → Others bytes t sum k k
-  others-none sum k = record { other = λ j l h. absurd (omega arith) }
-
   module _ (sums : List ℕ) (sums-are : sums ≡ row-sums bytes t (length sums)) where
     cells-are : sums ≡ cells (row-sum bytes t) (length sums)
     unfolding row-sums
@@ -118,7 +115,7 @@ module _ (bytes t : List ℕ) where
     pub others-before : (n k b own r sum : ℕ) → n ≡ chained (length sums) → k < n → own ≡ getD sums k 0 % 4294967296 % n → b ≡ sum % n → own ≡ b → r ≡ getD sums k 0 / 4294967296 % 65536 → Others bytes t sum r k
     others-before n k b own r sum n-is k-less own-is b-is alike r-is = record { other = λ j. behind-before (row-sum bytes t) row-small sums cells-are n k b own r sum j n-is k-less own-is b-is alike r-is }
 
-    pub sum-row : (k : ℕ) → k < length sums → getD sums k 0 % 4294967296 ≡ row-sum bytes t k
+    sum-row : (k : ℕ) → k < length sums → getD sums k 0 % 4294967296 ≡ row-sum bytes t k
     sum-row = sum-cell (row-sum bytes t) row-small sums cells-are
 
     pub others-row : (i sum from to : ℕ) → i < length sums → sum ≡ getD sums i 0 % 4294967296 → Others bytes t sum from to → Others bytes t (row-sum bytes t i) from to

@@ -1,17 +1,6 @@
-use Rattle.map_entries.proofs.note_rows.Reads as reads
-use Rattle.map_entries.proofs.note_rows.Lts as lts
-use Rattle.checksums.proofs.checksum.Reads as checksum-reads
-use Rattle.map_entries.proofs.note.Reads as note-reads
-use Rattle.type_names.proofs.is_named.Reads as is-named-reads
-use Rattle.type_names.proofs.last_like.Reads as last-like-reads
-use Rattle.type_names.proofs.like_before.Reads as like-before-reads
-use Rattle.map_entries.proofs.PassLaws.{rows-length, rows-more, rows-skip, rows-end, Noted, rows-start, rows-less}
+use Rattle.map_entries.proofs.PassLaws.{rows-more, rows-skip, rows-end, Noted, rows-start, rows-less}
 use borrow.Author.Needs.{needs}
 use native.Mathlib.Omega.{arith}
-use Prim.Native.Nat.{_-_, _≤_}
-use lib.ListN.{length}
-use mathlib.Core.Path.{_≡_, refl, ap, _∙_}
-use Rattle.map_entries.specs.Named.{noted-rows}
 use Rattle.map_entries.proofs.note_rows.Statement.{statement}
 use Rattle.map_entries.proofs.note_rows.Tie as tie
 
@@ -24,18 +13,15 @@ abbrev μ-loop : tie.MeasureT-loop
 checksum-requires : tie.Need-checksum-requires Inv-loop μ-loop
 checksum-requires c κs = search needs
 
--- src/lib.rt:81:9
 last-like-requires : tie.Need-last-like-requires Inv-loop μ-loop
 last-like-requires c κs = search needs
 
 loop-holds : tie.Need-loop-holds Inv-loop μ-loop
 loop-holds c = rows-skip _ _ _ _ _ _ _ _ (rows-start _ _ _ _ _ _) _ _ (c .before .checksum .ensures) (c .last-like .ensures .0) (c .last-like .ensures .1 _ _ (c .before .before .before .before .before .before .before .pre))
 
--- src/lib.rt:83:17
 sub-k : tie.Need-sub-k Inv-loop μ-loop
 sub-k c = search needs
 
--- src/lib.rt:84:13
 like-before-requires : tie.Need-like-before-requires Inv-loop μ-loop
 like-before-requires c κs = search needs
 

@@ -3,14 +3,10 @@ use native.Mathlib.Nat.{mod-lt}
 use borrow.Author.Needs.{needs}
 use Rattle.type_names.proofs.bucket.Statement.{statement}
 use Rattle.type_names.proofs.bucket.Tie as tie
-use Rattle.type_names.proofs.bucket.Reads as reads
-use Rattle.type_names.proofs.bucket.Lts as lts
 
--- src/lib.rt:223:16
 rem-rest : tie.Need-rem-rest
 rem-rest c = search needs
 
--- src/lib.rt:217:1
 returns : tie.Need-returns
 returns c = (refl, mod-lt _ (c .pre .0))
 

@@ -2,15 +2,11 @@ use Rattle.base.specs.Choose.{choices}
 use Rattle.type_names.specs.Chains.{chained}
 use Rattle.type_names.proofs.chained.Statement.{statement}
 use Rattle.type_names.proofs.chained.Tie as tie
-use Rattle.type_names.proofs.chained.Reads as reads
-use Rattle.type_names.proofs.chained.Lts as lts
 
--- src/lib.rt:211:9
 returns : tie.Need-returns
 unfolding chained
 returns c = search choices depth 12
 
--- src/lib.rt:207:1
 returns-2 : tie.Need-returns-2
 unfolding chained
 returns-2 c = search choices depth 12

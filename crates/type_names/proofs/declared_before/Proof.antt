@@ -1,8 +1,3 @@
-use Rattle.type_names.proofs.declared_before.Reads as reads
-use Rattle.type_names.proofs.declared_before.Lts as lts
-use Rattle.type_names.proofs.row_same.Reads as row-same-reads
-use Rattle.type_names.proofs.rows_apart.Reads as rows-apart-reads
-use Rattle.type_names.proofs.same_before.Reads as same-before-reads
 use borrow.Author.Tests.{not-false}
 use Rattle.type_names.proofs.BeforeLaws.{past, Left, left-start, left-end, left-found, left-more, left-apart, left-skip}
 use native.Mathlib.Omega.{arith}
@@ -19,7 +14,6 @@ abbrev μ-loop : tie.MeasureT-loop
 returns : tie.Need-returns Inv-loop μ-loop
 returns c = λ _. past _ _ _ (c .if1 .taken)
 
--- src/lib.rt:481:9
 same-before-requires : tie.Need-same-before-requires Inv-loop μ-loop
 same-before-requires c κs = search needs
 
@@ -29,7 +23,6 @@ loop-holds c = left-skip _ _ _ _ _ (left-start _ _ _ _ (c .before .if1 .left)) _
 sub-k : tie.Need-sub-k Inv-loop μ-loop
 sub-k c = search needs
 
--- src/lib.rt:484:13
 same-before-requires-2 : tie.Need-same-before-requires-2 Inv-loop μ-loop
 same-before-requires-2 c κs = search needs
 

@@ -1,13 +1,6 @@
-use Rattle.type_names.proofs.find_row.Reads as reads
-use Rattle.type_names.proofs.find_row.Lts as lts
-use Rattle.checksums.proofs.checksum.Reads as checksum-reads
-use Rattle.type_names.proofs.last_like.Reads as last-like-reads
-use Rattle.type_names.proofs.like_before.Reads as like-before-reads
-use Rattle.type_names.proofs.row_fits.Reads as row-fits-reads
 use Rattle.type_names.proofs.FindLaws.{Going, going-start, going-end, going-found, going-more, going-skip}
 use borrow.Author.Needs.{needs}
 use native.Mathlib.Omega.{arith}
-use Prim.Native.Nat.{_-_}
 use mathlib.Core.Path.{_≡_}
 use lib.ListN.{length}
 use Rattle.type_names.specs.LookUp.{row-sums}
@@ -23,29 +16,24 @@ abbrev μ-loop : tie.MeasureT-loop
 checksum-requires : tie.Need-checksum-requires Inv-loop μ-loop
 checksum-requires c κs = search needs
 
--- src/lib.rt:401:9
 last-like-requires : tie.Need-last-like-requires Inv-loop μ-loop
 last-like-requires c κs = search needs
 
 loop-holds : tie.Need-loop-holds Inv-loop μ-loop
 loop-holds c = λ are. going-skip _ _ _ _ _ _ _ (going-start _ _ _ _ _) _ _ (c .before .checksum .ensures) (c .last-like .ensures .0) (c .last-like .ensures .1 _ _ are)
 
--- src/lib.rt:403:17
 sub-k : tie.Need-sub-k Inv-loop μ-loop
 sub-k c = search needs
 
--- src/lib.rt:404:13
 like-before-requires : tie.Need-like-before-requires Inv-loop μ-loop
 like-before-requires c κs = search needs
 
 row-fits-requires : tie.Need-row-fits-requires Inv-loop μ-loop
 row-fits-requires c κs = search needs
 
--- src/lib.rt:402:5
 loop-less : tie.Need-loop-less Inv-loop μ-loop
 loop-less c = omega (arith, c .before .before .before .loop-test .taken, c .before .before .like-before .ensures .0)
 
--- src/lib.rt:402:5
 loop-again : tie.Need-loop-again Inv-loop μ-loop
 loop-again c = λ are. going-skip _ _ _ _ _ _ _ (going-found _ _ _ _ _ _ _ (c .before .before .before .before .loop .inv are) (c .before .before .before .loop-test .taken) _ (c .before .row-fits .ensures are (c .before .before .before .before .before .before .checksum .ensures)) (c .if1 .taken)) _ _ (c .before .before .before .before .before .before .checksum .ensures) (c .before .before .like-before .ensures .0) (c .before .before .like-before .ensures .1 _ _ are)
 

@@ -2,58 +2,41 @@ use native.Mathlib.Omega.{arith}
 use mathlib.Core.Path.{ap, _∙_}
 use Prim.Native.Nat.{ℕ, _%_}
 use Rattle.type_names.proofs.ChainLaws.{chained-within}
-use Rattle.type_names.proofs.RowSumLaws.{others-none, others-before}
+use Rattle.type_names.proofs.RowSumLaws.{others-before}
 use borrow.Author.Needs.{needs}
 use Rattle.type_names.proofs.like_before.Statement.{statement}
 use Rattle.type_names.proofs.like_before.Tie as tie
-use Rattle.type_names.proofs.like_before.Reads as reads
-use Rattle.type_names.proofs.like_before.Lts as lts
-use Rattle.type_names.proofs.before_in.Reads as before-in-reads
-use Rattle.type_names.proofs.bucket.Reads as bucket-reads
-use Rattle.type_names.proofs.chained.Reads as chained-reads
-use Rattle.type_names.proofs.sum_in.Reads as sum-in-reads
 
--- src/lib.rt:289:9
 chained-requires : tie.Need-chained-requires
 chained-requires c κs = search needs
 
--- src/lib.rt:291:9
 returns : tie.Need-returns
 returns c = search needs
 
--- src/lib.rt:293:16
 mul-cell : tie.Need-mul-cell
 mul-cell c = omega (arith, c .if1 .left, chained-within _ _ (c .before .chained .ensures) .1)
 
--- src/lib.rt:293:16
 shared-slice-read-cell : tie.Need-shared-slice-read-cell
 shared-slice-read-cell c = omega (arith, c .before .if1 .left, chained-within _ _ (c .before .before .chained .ensures) .0)
 
--- src/lib.rt:294:22
 sum-in-requires : tie.Need-sum-in-requires
 sum-in-requires c κs = search needs
 
--- src/lib.rt:294:9
 bucket-requires : tie.Need-bucket-requires
 bucket-requires c κs = let w = chained-within _ _ (c .before .before .before .chained .ensures) in (omega (arith, c .before .before .if1 .left), w .1)
 
--- src/lib.rt:295:9
 bucket-requires-2 : tie.Need-bucket-requires-2
 bucket-requires-2 c κs = let w = chained-within _ _ (c .before .before .before .before .chained .ensures) in (omega (arith, c .before .before .before .if1 .left), w .1)
 
--- src/lib.rt:297:9
 returns-2 : tie.Need-returns-2
 returns-2 c = search needs
 
--- src/lib.rt:299:9
 before-in-requires : tie.Need-before-in-requires
 before-in-requires c κs = search needs
 
--- src/lib.rt:301:9
 returns-3 : tie.Need-returns-3
 returns-3 c = search needs
 
--- src/lib.rt:285:1
 returns-4 : tie.Need-returns-4
 returns-4 c = (c .if3 .left, λ set t are. others-before set t _ are _ _ _ _ _ _ (c .before .before .before .before .before .before .before .before .chained .ensures) (c .before .before .before .before .before .before .before .if1 .left) (c .before .before .before .before .bucket .ensures .0 ∙ ap (λ (v : ℕ). v % c .before .before .before .before .before .before .before .before .chained .result) (c .before .before .before .before .before .sum-in .ensures .0)) (c .before .before .before .bucket2 .ensures .0) (c .before .before .if2 .left) (c .before .before-in .ensures .0))
 

@@ -4,95 +4,67 @@ use Rattle.type_names.proofs.ChainLaws.{linked}
 use borrow.Author.Needs.{needs}
 use Rattle.type_names.proofs.link.Statement.{statement}
 use Rattle.type_names.proofs.link.Tie as tie
-use Rattle.type_names.proofs.link.Reads as reads
-use Rattle.type_names.proofs.link.Lts as lts
-use Rattle.type_names.proofs.before_in.Reads as before-in-reads
-use Rattle.type_names.proofs.bucket.Reads as bucket-reads
-use Rattle.type_names.proofs.last_in.Reads as last-in-reads
-use Rattle.type_names.proofs.pack.Reads as pack-reads
-use Rattle.type_names.proofs.sum_in.Reads as sum-in-reads
 
--- src/lib.rt:232:16
 mul-cell : tie.Need-mul-cell
 mul-cell c = search needs
 
--- src/lib.rt:232:16
 slice-read-cell : tie.Need-slice-read-cell
 slice-read-cell c = search needs
 
--- src/lib.rt:233:9
 sum-in-requires : tie.Need-sum-in-requires
 sum-in-requires c κs = search needs
 
--- src/lib.rt:234:9
 bucket-requires : tie.Need-bucket-requires
 bucket-requires c κs = search needs
 
--- src/lib.rt:235:26
 mul-last-in : tie.Need-mul-last-in
 mul-last-in c = search needs
 
--- src/lib.rt:235:26
 slice-read-last-in : tie.Need-slice-read-last-in
 slice-read-last-in c = search needs
 
--- src/lib.rt:235:9
 last-in-requires : tie.Need-last-in-requires
 last-in-requires c κs = search needs
 
--- src/lib.rt:236:9
 last-in-requires-2 : tie.Need-last-in-requires-2
 last-in-requires-2 c κs = search needs
 
--- src/lib.rt:237:15
 pack-requires : tie.Need-pack-requires
 pack-requires c κs = search needs
 
--- src/lib.rt:237:5
 mul-sums : tie.Need-mul-sums
 mul-sums c = search needs
 
--- src/lib.rt:237:5
 slice-write-sums : tie.Need-slice-write-sums
 slice-write-sums c = search needs
 
--- src/lib.rt:238:17
 mul-first : tie.Need-mul-first
 mul-first c = search needs
 
--- src/lib.rt:238:17
 slice-read-first : tie.Need-slice-read-first
 slice-read-first c = omega (arith, c .before .before .before .before .before .bucket .ensures .1, c .before .before .before .before .before .before .before .before .before .pre .2, length-set (c .before .before .before .before .before .before .before .before .before .args .sums .now) (c .before .before .before .before .before .before .before .before .before .args .k) (c .before .pack .result))
 
--- src/lib.rt:239:16
 add-code : tie.Need-add-code
 add-code c = search needs
 
--- src/lib.rt:240:20
 sum-in-requires-2 : tie.Need-sum-in-requires-2
 sum-in-requires-2 c κs = search needs
 
--- src/lib.rt:240:35
 before-in-requires : tie.Need-before-in-requires
 before-in-requires c κs = search needs
 
--- src/lib.rt:240:15
 pack-requires-2 : tie.Need-pack-requires-2
 pack-requires-2 c κs = search needs
 
--- src/lib.rt:240:5
 mul-sums-2 : tie.Need-mul-sums-2
 mul-sums-2 c = search needs
 
--- src/lib.rt:240:5
 slice-write-sums-2 : tie.Need-slice-write-sums-2
 slice-write-sums-2 c = omega (arith, c .before .before .before .before .before .before .before .before .bucket .ensures .1, c .before .before .before .before .before .before .before .before .before .before .before .before .pre .2, length-set (c .before .before .before .before .before .before .before .before .before .before .before .before .args .sums .now) (c .before .before .before .before .before .before .before .before .before .before .before .before .args .k) (c .before .before .before .before .pack .result))
 
--- src/lib.rt:228:1
 same-length : tie.Need-same-length
 same-length c = search needs
 
--- src/lib.rt:228:1
 returns : tie.Need-returns
 returns c = linked _ _ _ (c .before .before .before .before .before .before .before .before .before .before .before .before .pre) _ _ _ _ _ (c .before .before .before .before .before .before .before .before .before .sum-in .ensures .0) (c .before .before .before .before .before .before .before .before .bucket .ensures .0) (c .before .before .before .before .before .before .before .before .bucket .ensures .1) (c .before .before .before .before .before .before .last-in .ensures .0) (c .before .before .before .before .before .last-in2 .ensures .0) (c .before .before .before .before .pack .ensures) _ _ _ (c .before .before .sum-in2 .ensures .0) (c .before .before-in .ensures .0) (c .pack2 .ensures)
 

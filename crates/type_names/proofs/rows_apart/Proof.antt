@@ -7,15 +7,12 @@ use Rattle.type_names.proofs.rows_apart.Tie as tie
 returns : tie.Need-returns
 returns c = λ e. both-ways e refl
 
--- src/lib.rt:458:22
 mul-sum-in : tie.Need-mul-sum-in
 mul-sum-in c = search needs
 
--- src/lib.rt:458:22
 shared-slice-read-sum-in : tie.Need-shared-slice-read-sum-in
 shared-slice-read-sum-in c = search needs
 
--- src/lib.rt:458:9
 sum-in-requires : tie.Need-sum-in-requires
 sum-in-requires c κs = search needs
 

@@ -2,32 +2,22 @@ use Rattle.type_names.proofs.RowSumLaws.{others-row}
 use borrow.Author.Needs.{needs}
 use Rattle.type_names.proofs.same_before.Statement.{statement}
 use Rattle.type_names.proofs.same_before.Tie as tie
-use Rattle.type_names.proofs.same_before.Reads as reads
-use Rattle.type_names.proofs.same_before.Lts as lts
-use Rattle.type_names.proofs.like_before.Reads as like-before-reads
-use Rattle.type_names.proofs.sum_in.Reads as sum-in-reads
 
--- src/lib.rt:468:9
 returns : tie.Need-returns
 returns c = search needs
 
--- src/lib.rt:470:22
 mul-sum-in : tie.Need-mul-sum-in
 mul-sum-in c = search needs
 
--- src/lib.rt:470:22
 shared-slice-read-sum-in : tie.Need-shared-slice-read-sum-in
 shared-slice-read-sum-in c = search needs
 
--- src/lib.rt:470:9
 sum-in-requires : tie.Need-sum-in-requires
 sum-in-requires c κs = search needs
 
--- src/lib.rt:471:5
 like-before-requires : tie.Need-like-before-requires
 like-before-requires c κs = search needs
 
--- src/lib.rt:463:1
 returns-2 : tie.Need-returns-2
 returns-2 c = (c .like-before .ensures .0, λ set t are. others-row set t _ are _ _ _ _ (c .before .before .before .if1 .left) (c .before .sum-in .ensures .0) (c .like-before .ensures .1 set t are))
 

@@ -4,7 +4,7 @@ use native.Mathlib.Omega.{arith}
 use Prim.Native.Nat.{_-_}
 use lib.ListN.{length}
 use Rattle.message_graph.specs.Tab.{Filled, filled-none, filled-more, filled-all}
-use Rattle.type_names.specs.LookUp.{row-sum, row-sums}
+use Rattle.type_names.specs.LookUp.{row-sum}
 use Rattle.type_names.proofs.RowSumLaws.{filled-summed}
 use Rattle.type_names.proofs.sum_rows.Statement.{statement}
 use Rattle.type_names.proofs.sum_rows.Tie as tie
@@ -40,7 +40,6 @@ same-length : tie.Need-same-length Inv-loop μ-loop
 same-length c = c .before .loop .inv .size
 
 returns : tie.Need-returns Inv-loop μ-loop
-unfolding row-sums
 returns c = filled-all (c .before .loop .inv) _ refl (omega (arith, c .before .loop .inv .size))
 
 pub sum-rows-spec : {M : Type 1} → statement M
