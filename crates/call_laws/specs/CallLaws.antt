@@ -37,7 +37,8 @@ part-there [] x h = absurd (not-suc-le-zero h)
 part-there (p ∷ ps) zero h = first refl
 part-there (p ∷ ps) (suc x) h = next (part-there ps x (le-of-suc-le-suc h))
 
-file-is : (ps : List Bytes) (x : ℕ) → decode-file (part-at ps x) ≡ file-at (map decode-file ps) x
+-- the file with an index, by its bytes
+pub file-is : (ps : List Bytes) (x : ℕ) → decode-file (part-at ps x) ≡ file-at (map decode-file ps) x
 unfolding part-at decode-file decode-messages entries entries-of records scan last-from parts
 file-is [] x = refl
 file-is (p ∷ ps) zero = refl

@@ -1,14 +1,15 @@
 -- A file of an accepted set by the tables: refusals 8, 9 and 10. Assumes nothing.
 use mathlib.Core.Path.{_≡_, refl, sym, ap, _∙_, subst}
 use mathlib.Core.Bool.{true, false}
-use mathlib.Core.List.{List}
+use mathlib.Core.List.{List, [], _∷_, map}
 use Prim.Native.Nat.{ℕ, _*_, _-_, _^_, _≤_, _<_, min}
 use native.Mathlib.Omega.{arith}
+use borrow.Author.Tests.{le-leb}
 use lib.ListN.{length, length-replicate, replicate, take, drop}
 use Rattle.base.specs.Choose.{choose}
-use Rattle.base.specs.Lists.{map-length}
-use Rattle.descriptor.specs.Descriptor.{Bytes, FileDescriptor}
-use Rattle.descriptor.specs.Decode.{entries, parts, decode-file, decode-set}
+use Rattle.base.specs.Lists.{map-length, any}
+use Rattle.descriptor.specs.Descriptor.{Bytes, done, FileDescriptor}
+use Rattle.descriptor.specs.Decode.{entries, parts, decode-messages, decode-enum, decode-file, decode-set}
 use Rattle.limits.specs.Short.{short}
 use Rattle.options.specs.Settings.{settings}
 use Rattle.table_says.specs.Says.{Says}
@@ -20,19 +21,39 @@ use Rattle.message_text.specs.MessageText.{text-of-file}
 use Rattle.file_faults.specs.FileFaults.{faults-of-file}
 use Rattle.file_faults.specs.declared.Faults.{Faults}
 use Rattle.file_parts.specs.FileParts.{part-at, first-number}
-use Rattle.code_generator.specs.Refusals.{variants-overlap, defaults-fail}
+use Rattle.code_generator.specs.Enums.{append-enums}
+use Rattle.code_generator.specs.Generate.{append-messages, generate, file-text}
+use Rattle.code_generator.specs.Refusals.{any-message, variants-overlap, defaults-fail}
 use Rattle.calls.specs.TextCall.{Outcome, by-room, by-text, file-at, call-text}
-use Rattle.call_laws.specs.CallLaws.{call-number-within, call-text-is, call-faults-are, call-bounded}
-use Rattle.text_call.specs.Answer.{Accepted, Roomy, Answers, Whole}
+use Rattle.call_laws.specs.CallLaws.{file-is as file-by-bytes, call-number-within, call-text-is, call-faults-are, call-bounded}
+use Rattle.text_call.specs.Answer.{left-by, Accepted, Roomy, Answers, Whole}
 use Rattle.text_call.specs.declared.TextAnswer.{TextAnswer}
-use Rattle.text_call.specs.declared.TextAnswer.the-variants.{Variants, Defaults}
+use Rattle.text_call.specs.declared.TextAnswer.the-variants.{Length, Variants, Defaults}
 use Rattle.text_call.proofs.RoomLaws.{refuses}
 
 pub files-counted : (set : Bytes) → length (parts 1 (entries set)) ≡ length (decode-set set)
 unfolding decode-set
 files-counted set = sym (map-length decode-file (parts 1 (entries set)))
 
--- fresh tables, as long as the set needs
+-- ---- a file without messages and enums
+pub none-counted : {A : Type 0} (xs : List A) (n : ℕ) → n ≡ length xs → n ≡ 0 → xs ≡ []
+none-counted [] n counted none = refl
+none-counted (x ∷ xs) n counted none = absurd (omega arith)
+
+module _ (set o : Bytes) (file : ℕ) (t : List ℕ) where
+  blank : (f : FileDescriptor) → f .messages ≡ done → f .enums ≡ [] → Answers (by-text (settings o) (decode-set set) (length t) f) (file-text (settings o) (decode-set set) f) t t (Length 0)
+  unfolding by-text by-room left-by choose any variants-overlap defaults-fail any-message generate append-messages append-enums
+  blank f no-messages no-enums = rw (no-messages, no-enums, le-leb 0 (length t) (omega arith)) (record { outcome = refl; left = refl })
+
+  pub empty-file : (p : Bytes) → p ≡ part-at (parts 1 (entries set)) file → (parts 4 (entries p) ≡ []) × (parts 5 (entries p) ≡ [])
+      → Answers (by-text (settings o) (decode-set set) (length t) (file-at (decode-set set) file)) (call-text set o file) t t (Length 0)
+  unfolding decode-set decode-file decode-messages
+  empty-file p part-is none =
+      subst (λ (f : FileDescriptor). Answers (by-text (settings o) (decode-set set) (length t) f) (file-text (settings o) (decode-set set) f) t t (Length 0))
+      (ap decode-file part-is ∙ file-by-bytes (parts 1 (entries set)) file)
+      (blank (decode-file p) (ap (decode-messages 16) (none .0)) (ap (map decode-enum) (none .1)))
+
+-- ---- fresh tables, as long as the set needs
 fresh : (set o : Bytes) (file k n : ℕ) → Accepted set o file → k ≡ min (length set * 2) 1024 → field-count set * 8 ≤ n
     → Roomy set (take (k - 0) (drop 0 (replicate 1024 0))) (replicate n 0)
 fresh set o file k n accepted k-is h =

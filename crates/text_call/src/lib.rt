@@ -2,7 +2,9 @@
 ghost use mathlib.Core.Path.{_≡_};
 ghost use Prim.Native.Nat.{_^_, _<_};
 ghost use lib.ListN.{length};
-ghost use Rattle.descriptor.specs.Decode.{decode-set};
+ghost use mathlib.Core.Bool.{true};
+ghost use mathlib.Core.List.{[]};
+ghost use Rattle.descriptor.specs.Decode.{entries, parts, decode-set};
 ghost use Rattle.options.specs.Settings.{settings};
 ghost use Rattle.message_text.specs.MessageText.{text-of-file};
 ghost use Rattle.calls.specs.TextCall.{by-index, by-text, file-at, call-text, text-call, text-left};
@@ -113,11 +115,24 @@ fn answer_by(
     put_whole(t, o, set, messages, fields, i, p)
 }
 
-// The same, by tables as small as the set allows.
+// Does a file hold neither messages nor enums?
+fn declares_none(p: &[u8]) -> bool
+    ensures { λ r. ⌜ (r ≡ true → (parts 4 (entries (now (p .entry))) ≡ []) × (parts 5 (entries (now (p .entry))) ≡ [])) ⌝ }
+{
+    if parts::count_parts(p, 4) == 0 {
+        return parts::count_parts(p, 5) == 0;
+    }
+    false
+}
+
+// The same, by tables as small as the set allows; the text of a file without declarations is empty.
 fn file_answer(set: &[u8], o: &[u8], file: usize, t: &mut [u8]) -> TextAnswer
     requires { ⌜ Accepted (now set) (now o) file ⌝ }
     ensures { λ r. ⌜ Answers (by-text (settings (now (o .entry))) (decode-set (now (set .entry))) (length (now (t .entry))) (file-at (decode-set (now (set .entry))) file)) (call-text (now (set .entry)) (now (o .entry)) file) (now (t .entry)) (now (t .exit)) r ⌝ }
 {
+    if declares_none(file_parts::file_part(set, file)) {
+        return TextAnswer::Length(0);
+    }
     let mut messages = [0u16; MESSAGE_NUMBERS];
     let n = writer::within(set.len() * 2, MESSAGE_NUMBERS);
     if set.len() <= SHORT {
