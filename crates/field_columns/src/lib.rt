@@ -1,13 +1,13 @@
-// Columns over the fields of a set in declaration order: whose field each is, its type and label, and where each message's
-// fields begin.
+// Columns over the fields of a set in declaration order: whose field each is, and where each message's fields begin; and what
+// the columns of types and labels are read from.
 ghost use mathlib.Core.Path.{_≡_};
 ghost use Prim.Native.Nat.{_<_, _≤_};
 ghost use lib.ListN.{length};
 ghost use Rattle.base.specs.Lists.{first-failing};
-ghost use Rattle.message_graph.specs.Tab.{tab, Filled};
+ghost use Rattle.message_graph.specs.Tab.{tab};
 ghost use Rattle.descriptor.specs.Views.{number-of};
 ghost use Rattle.name_rules.specs.Accessors.{or-else};
-ghost use Rattle.field_columns.specs.Columns.{owner-of, owner-at, viewed, view-at, byte-of, column-at, rows-counted, first-rows, before, start-at};
+ghost use Rattle.field_columns.specs.Columns.{owner-of, owner-at, view-at, byte-of, rows-counted, first-rows, before, start-at};
 use descriptor::FieldView;
 use descriptor::Number;
 use message_graph::Index;
@@ -51,17 +51,8 @@ pub fn fill_owners(fields: &[u16], owner: &mut [Index])
     }
 }
 
-fn number_of(v: FieldView, column: Column) -> Number
-    ensures { λ r. ⌜ r ≡ viewed column v ⌝ }
-{
-    match column {
-        Column::Kind => v.kind,
-        Column::Label => v.label,
-    }
-}
-
 // A number in one byte; 1 where it is not given, 0 where it is over 255.
-fn byte_of(n: Number) -> u8
+pub fn byte_of(n: Number) -> u8
     ensures { λ r. ⌜ r ≡ byte-of (or-else 1 (number-of n)) ⌝ }
 {
     if n.given {
@@ -74,49 +65,13 @@ fn byte_of(n: Number) -> u8
 }
 
 // The view of field `i`.
-fn view_at(set: &[u8], fields: &[u16], i: usize) -> FieldView
+pub fn view_at(set: &[u8], fields: &[u16], i: usize) -> FieldView
     ensures { λ r. ⌜ r ≡ view-at (now (set .entry)) (now (fields .entry)) i ⌝ }
 {
     let row = index::row_of(fields, i);
     let start = wide(row.start);
     let end = wide(row.end);
     descriptor::field_view(set, start, end)
-}
-
-fn column_at(set: &[u8], fields: &[u16], column: Column, i: usize) -> u8
-    ensures { λ r. ⌜ r ≡ column-at (now (set .entry)) (now (fields .entry)) column i ⌝ }
-{
-    let view = view_at(set, fields, i);
-    byte_of(number_of(view, column))
-}
-
-// For each place of `t` from `from` on, the type or the label of the field there.
-fn fill_column(set: &[u8], fields: &[u16], column: Column, t: &mut [u8], from: usize)
-    requires { ⌜ Filled (column-at (now set) (now fields) column) (now t) (now t) from ⌝ }
-    ensures { λ _. ⌜ now (t .exit) ≡ tab (length (now (t .entry))) (column-at (now (set .entry)) (now (fields .entry)) column) ⌝ }
-{
-    let mut i = from;
-    while i < t.len() {
-        t[i] = column_at(set, fields, column, i);
-        i += 1;
-    }
-}
-
-// For each place of both, the type and the label of the field there, by one view where both have the place.
-pub fn fill_columns(set: &[u8], fields: &[u16], kind: &mut [u8], label: &mut [u8])
-    ensures { λ _. ⌜ now (kind .exit) ≡ tab (length (now (kind .entry))) (column-at (now (set .entry)) (now (fields .entry)) Column.Kind) ⌝ }
-    ensures { λ _. ⌜ now (label .exit) ≡ tab (length (now (label .entry))) (column-at (now (set .entry)) (now (fields .entry)) Column.Label) ⌝ }
-{
-    let both = writer::within(kind.len(), label.len());
-    let mut i = 0;
-    while i < both {
-        let view = view_at(set, fields, i);
-        kind[i] = byte_of(view.kind);
-        label[i] = byte_of(view.label);
-        i += 1;
-    }
-    fill_column(set, fields, Column::Kind, kind, i);
-    fill_column(set, fields, Column::Label, label, i);
 }
 
 fn rows_counted(count: usize) -> usize

@@ -28,29 +28,42 @@ const FIELD_CELLS: usize = 10240;
 
 const SHORT_FIELD_CELLS: usize = 750;
 
-// The messages that the fields' types are, with a table for the declarations, and for the checksums of their names.
-fn targets_by(set: &[u8], fields: &[u16], t: &mut [usize], sums: &mut [u64], target: &mut [Index])
+// The messages that the fields' types are, the types and the labels, with a table for the declarations, and for the checksums of
+// their names.
+fn columns_by(
+    set: &[u8],
+    fields: &[u16],
+    t: &mut [usize],
+    sums: &mut [u64],
+    target: &mut [Index],
+    kind: &mut [u8],
+    label: &mut [u8],
+)
     ensures { λ _. ⌜ now (target .exit) ≡ tab (length (now (target .entry))) (target-by (now (set .entry)) (now (fields .entry)) (now (t .entry))) ⌝ }
+    ensures { λ _. ⌜ now (kind .exit) ≡ tab (length (now (kind .entry))) (column-at (now (set .entry)) (now (fields .entry)) Kind) ⌝ }
+    ensures { λ _. ⌜ now (label .exit) ≡ tab (length (now (label .entry))) (column-at (now (set .entry)) (now (fields .entry)) Label) ⌝ }
 {
     let count = declarations::declare_set(set, t);
     let rows = count.rows;
     let n = writer::within(rows, sums.len());
-    targets::fill_targets(set, fields, t, rows, &mut sums[0..n], target);
+    targets::fill_columns(set, fields, t, rows, &mut sums[0..n], target, kind, label);
 }
 
-// The messages that the fields' types are.
-fn fill_targets(set: &[u8], fields: &[u16], target: &mut [Index])
+// The messages that the fields' types are, the types and the labels.
+fn fill_columns(set: &[u8], fields: &[u16], target: &mut [Index], kind: &mut [u8], label: &mut [u8])
     ensures { λ _. ⌜ now (target .exit) ≡ tab (length (now (target .entry))) (target-in (now (set .entry)) (now (fields .entry))) ⌝ }
+    ensures { λ _. ⌜ now (kind .exit) ≡ tab (length (now (kind .entry))) (column-at (now (set .entry)) (now (fields .entry)) Kind) ⌝ }
+    ensures { λ _. ⌜ now (label .exit) ≡ tab (length (now (label .entry))) (column-at (now (set .entry)) (now (fields .entry)) Label) ⌝ }
 {
     if set.len() <= SHORT {
         let mut t = [0usize; SHORT_CELLS];
         let mut sums = [0u64; SHORT_ROWS];
-        targets_by(set, fields, &mut t, &mut sums, target);
+        columns_by(set, fields, &mut t, &mut sums, target, kind, label);
         return;
     }
     let mut t = [0usize; CELLS];
     let mut sums = [0u64; ROWS];
-    targets_by(set, fields, &mut t, &mut sums, target);
+    columns_by(set, fields, &mut t, &mut sums, target, kind, label);
 }
 
 // Its bytes, which are 0 so far, become those that have the boxed settings: without a row of kind 4 they stay as they are.
@@ -104,8 +117,7 @@ fn fill_fields(
     ensures { λ _. ⌜ now (settings .exit) ≡ tab (length (now (settings .entry))) (is-set-at (setting-bytes (now (set .entry)) (now (o .entry)))) ⌝ }
 {
     field_columns::fill_owners(fields, owner);
-    fill_targets(set, fields, target);
-    field_columns::fill_columns(set, fields, kind, label);
+    fill_columns(set, fields, target, kind, label);
     fill_settings(set, o, settings);
 }
 

@@ -1,2 +1,3 @@
 pub mod TypeLaws
+pub mod PutLaws
 pub mod TargetTheorem

@@ -120,7 +120,7 @@ module _ (set t : List ℕ) (count : ℕ) (few-rows : count ≤ 65536) (lists : 
         ap (type-number set t count) own
         ∙ rw (is, named-is (type-name-of r), lt-ltb (number-of es (type-name-of r)) 256 (number-below es (type-name-of r) (s .distinct) (s .few)))
 
-    -- as `fill_targets` leaves it
+    -- as `fill_columns` leaves it
     pub targets-are : (size : ℕ) → n ≤ size → (r : Row) (k : ℕ) → At r (rows-of es) k → k < n → (is-message (r .field) || is-group (r .field)) ≡ true
         → getD (tab size (target-at set fields t count)) k 0 ≡ number-of es (type-name-of r)
     targets-are size wide r k p within is = tab-at size (target-at set fields t count) 0 k (omega arith) ∙ target-is r k p is

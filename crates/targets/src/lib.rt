@@ -1,18 +1,15 @@
-// The column of the messages that the type names of a set's fields name.
+// The columns of the messages that the type names of a set's fields name, and of the fields' types and labels.
 ghost use mathlib.Core.Path.{_≡_};
-ghost use Prim.Native.Nat.{_-_};
-ghost use lib.ListN.{length};
+ghost use Prim.Native.Nat.{_-_, max};
+ghost use lib.ListN.{length, set as store};
+ghost use Rattle.descriptor.specs.Views.{field-of};
 ghost use Rattle.message_graph.specs.Tab.{tab};
-ghost use Rattle.field_columns.specs.Columns.{byte-of};
+ghost use Rattle.field_columns.specs.Columns.{byte-of, column-at};
+ghost use Rattle.field_columns.specs.declared.Column.the-variants.{Kind, Label};
 ghost use Rattle.type_names.specs.LookUp.{row-sums};
-ghost use Rattle.targets.specs.Targets.{message-named, target-at};
+ghost use Rattle.targets.specs.Targets.{message-named, type-number, target-at};
+use descriptor::FieldView;
 use message_graph::Index;
-
-fn wide(x: u16) -> usize
-    ensures { λ r. ⌜ r ≡ x ⌝ }
-{
-    x as usize
-}
 
 // The number of a message whose row has this kind; 0 where a byte has no room for it.
 fn number_of(kind: usize) -> Index
@@ -41,15 +38,11 @@ fn message_named(set: &[u8], t: &[usize], count: usize, sums: &[u64], name: &[u8
     0
 }
 
-// That of the type of field `k`, where it is a message (11) or group (10).
-fn target_at(set: &[u8], fields: &[u16], t: &[usize], count: usize, sums: &[u64], k: usize) -> Index
+// That of the type of the field with this view, where it is a message (11) or group (10).
+fn target_of(set: &[u8], view: FieldView, t: &[usize], count: usize, sums: &[u64]) -> Index
     requires { ⌜ now sums ≡ row-sums (now set) (now t) (length (now sums)) ⌝ }
-    ensures { λ r. ⌜ r ≡ target-at (now (set .entry)) (now (fields .entry)) (now (t .entry)) count k ⌝ }
+    ensures { λ r. ⌜ r ≡ type-number (now (set .entry)) (now (t .entry)) count (field-of (now (set .entry)) view) ⌝ }
 {
-    let row = index::row_of(fields, k);
-    let start = wide(row.start);
-    let end = wide(row.end);
-    let view = descriptor::field_view(set, start, end);
     let kind = accessors::kind(set, view);
     let name = accessors::type_name(set, view);
     if kind == 11 {
@@ -61,37 +54,69 @@ fn target_at(set: &[u8], fields: &[u16], t: &[usize], count: usize, sums: &[u64]
     0
 }
 
-// The same for each place of `out`, given the checksums of the rows.
-fn targets_by(
+// The larger of the two.
+fn longer(a: usize, b: usize) -> usize
+    ensures { λ r. ⌜ r ≡ max a b ⌝ }
+{
+    if a < b {
+        return b;
+    }
+    a
+}
+
+// A number at place `i`, where the column has that place.
+fn put(column: &mut [u8], i: usize, number: u8)
+    ensures { λ _. ⌜ now (column .exit) ≡ store (now (column .entry)) i number ⌝ }
+{
+    if i < column.len() {
+        column[i] = number;
+    }
+}
+
+// The columns below, given the checksums of the rows: by one view of each field.
+fn columns_by(
     set: &[u8],
     fields: &[u16],
     t: &[usize],
     count: usize,
     sums: &[u64],
-    out: &mut [Index],
+    target: &mut [Index],
+    kind: &mut [u8],
+    label: &mut [u8],
 )
     requires { ⌜ now sums ≡ row-sums (now set) (now t) (length (now sums)) ⌝ }
-    ensures { λ _. ⌜ now (out .exit) ≡ tab (length (now (out .entry))) (target-at (now (set .entry)) (now (fields .entry)) (now (t .entry)) count) ⌝ }
+    ensures { λ _. ⌜ now (target .exit) ≡ tab (length (now (target .entry))) (target-at (now (set .entry)) (now (fields .entry)) (now (t .entry)) count) ⌝ }
+    ensures { λ _. ⌜ now (kind .exit) ≡ tab (length (now (kind .entry))) (column-at (now (set .entry)) (now (fields .entry)) Kind) ⌝ }
+    ensures { λ _. ⌜ now (label .exit) ≡ tab (length (now (label .entry))) (column-at (now (set .entry)) (now (fields .entry)) Label) ⌝ }
 {
+    let most = longer(target.len(), longer(kind.len(), label.len()));
     let mut i = 0;
-    while i < out.len() {
-        out[i] = target_at(set, fields, t, count, sums, i);
+    while i < most {
+        let view = field_columns::view_at(set, fields, i);
+        put(target, i, target_of(set, view, t, count, sums));
+        put(kind, i, field_columns::byte_of(view.kind));
+        put(label, i, field_columns::byte_of(view.label));
         i += 1;
     }
 }
 
-// For each place of `out`, the number of the message that the type of the field there is; 0 where it is none. `t` is a table of
-// declarations with `count` rows; the checksums of rows go into `sums`.
-pub fn fill_targets(
+// For each place of `target`, the number of the message that the type of the field there is, 0 where it is none; for each place
+// of `kind` and `label`, the field's type and label. `t` is a table of declarations with `count` rows; the checksums of rows go
+// into `sums`.
+pub fn fill_columns(
     set: &[u8],
     fields: &[u16],
     t: &[usize],
     count: usize,
     sums: &mut [u64],
-    out: &mut [Index],
+    target: &mut [Index],
+    kind: &mut [u8],
+    label: &mut [u8],
 )
-    ensures { λ _. ⌜ now (out .exit) ≡ tab (length (now (out .entry))) (target-at (now (set .entry)) (now (fields .entry)) (now (t .entry)) count) ⌝ }
+    ensures { λ _. ⌜ now (target .exit) ≡ tab (length (now (target .entry))) (target-at (now (set .entry)) (now (fields .entry)) (now (t .entry)) count) ⌝ }
+    ensures { λ _. ⌜ now (kind .exit) ≡ tab (length (now (kind .entry))) (column-at (now (set .entry)) (now (fields .entry)) Kind) ⌝ }
+    ensures { λ _. ⌜ now (label .exit) ≡ tab (length (now (label .entry))) (column-at (now (set .entry)) (now (fields .entry)) Label) ⌝ }
 {
     type_names::fill_sums(set, t, sums);
-    targets_by(set, fields, t, count, sums, out);
+    columns_by(set, fields, t, count, sums, target, kind, label);
 }

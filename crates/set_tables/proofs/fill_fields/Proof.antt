@@ -5,9 +5,6 @@ use Rattle.set_tables.proofs.fill_fields.Tie as tie
 fill-owners-requires : tie.Need-fill-owners-requires
 fill-owners-requires c κs = search needs
 
-fill-targets-requires : tie.Need-fill-targets-requires
-fill-targets-requires c κs = search needs
-
 fill-columns-requires : tie.Need-fill-columns-requires
 fill-columns-requires c κs = search needs
 
@@ -30,14 +27,13 @@ same-length-5 : tie.Need-same-length-5
 same-length-5 c = search needs
 
 returns : tie.Need-returns
-returns c = (c .before .before .before .before .before .before .before .before .before .before .before .before .before .before .before .before .before .fill-owners .ensures, (c .before .before .before .before .before .before .before .before .before .before .before .before .before .fill-targets .ensures, (c .before .before .before .before .before .before .before .before .fill-columns .ensures .0, (c .before .before .before .before .before .before .before .before .fill-columns .ensures .1, c .before .before .fill-settings .ensures))))
+returns c = (c .before .before .before .before .before .before .before .before .before .before .before .before .before .before .before .before .fill-owners .ensures, (c .before .before .before .before .before .before .before .before .before .before .fill-columns .ensures .0, (c .before .before .before .before .before .before .before .before .before .before .fill-columns .ensures .1 .0, (c .before .before .before .before .before .before .before .before .before .before .fill-columns .ensures .1 .1, c .before .before .fill-settings .ensures))))
 
 pub fill-fields-spec : {M : Type 1} → statement M
 fill-fields-spec =
     tie.close
     (tie.spec
     fill-owners-requires
-    fill-targets-requires
     fill-columns-requires
     fill-settings-requires
     same-length
