@@ -4,12 +4,11 @@ use mathlib.Core.List.{List}
 use Prim.Native.Nat.{ℕ, _-_}
 use borrow.Author.Tests.{eq-eqb, ne-eqb}
 use Rattle.base.specs.Choose.{choose}
-use Rattle.descriptor.specs.Decode.{decode-field}
 use Rattle.descriptor.specs.Views.{field-of}
 use Rattle.descriptor.specs.declared.FieldView.{FieldView}
 use Rattle.descriptor.proofs.ViewTheorems.{field-view-is}
 use Rattle.name_rules.specs.Accessors.{text, type}
-use Rattle.index.specs.Tree.{row-at, row-bytes}
+use Rattle.index.specs.Tree.{row-at}
 use Rattle.field_columns.specs.Columns.{view-at}
 use Rattle.targets.specs.Targets.{message-named, type-number, target-at}
 
