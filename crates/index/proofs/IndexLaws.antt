@@ -1,11 +1,10 @@
 -- The loop of `index_in`: what holds before each record. Assumes nothing.
 use mathlib.Core.Path.{_≡_, refl, ap, _∙_, subst}
 use mathlib.Core.List.{List, [], _∷_}
-use Prim.Native.Nat.{ℕ, _+_, _*_, _-_, _≤_}
+use Prim.Native.Nat.{ℕ, _+_, _-_, _≤_}
 use native.Mathlib.Omega.{arith}
-use lib.ListN.{length, length-set}
-use lib.Dec.{ltb}
-use Rattle.base.specs.Choose.{choose-case}
+use native.Mathlib.Nat.{le-refl}
+use lib.ListN.{length}
 use Rattle.wire.specs.Step.{stepAt}
 use Rattle.wire.specs.Records.{part}
 use Rattle.wire.proofs.StepLaws.{Lies, lies}
@@ -14,15 +13,11 @@ use Rattle.wire.specs.declared.Step.{Step}
 use Rattle.wire.specs.declared.Step.the-variants.{Found}
 use Rattle.descriptor.specs.Descriptor.{Forest, done, node}
 use Rattle.index.specs.Places.{end-in}
-use Rattle.index.specs.Sizes.{size-in}
 use Rattle.index.specs.Tree.{Place, forest-from, forest-in, size, rows, put, fill, Indexed}
 use Rattle.index.specs.declared.Row.{Row}
 use Rattle.index.proofs.SizeLaws.{grown}
-use Rattle.index.proofs.TreeLaws.{forest-is, forest-node, forest-skip, size-forest, node-counted, node-filled}
-
-pub put-length : (t : List ℕ) (i : ℕ) (r : Row) → length (put t i r) ≡ length t
-unfolding put
-put-length t i r = choose-case (λ (u : List ℕ). length u ≡ length t) (ltb (i * 5 + 4) (length t)) (λ _. simp length-set) (λ _. refl)
+use Rattle.index.proofs.PutLaws.{put-length, put-fill}
+use Rattle.index.proofs.TreeLaws.{forest-is, forest-node, forest-skip, node-counted, node-filled}
 
 fill-length : (rs : List Row) (t : List ℕ) (i : ℕ) → length (fill t i rs) ≡ length t
 unfolding fill
@@ -31,6 +26,15 @@ fill-length (r ∷ rs) t i = fill-length rs (put t i r) (i + 1) ∙ put-length t
 
 pub indexed-length : (F : Forest Place) (file up : ℕ) (t : List ℕ) (i : ℕ) (u : List ℕ) (next : ℕ) → Indexed F file up t i u next → length u ≡ length t
 indexed-length F file up t i u next h = ap length (h .table) ∙ fill-length (rows file up i F) t i
+
+-- the row before those of a forest may be put after them
+put-first : (F : Forest Place) (file up : ℕ) (t : List ℕ) (k : ℕ) (w : List ℕ) (next : ℕ) (row : Row) (u : List ℕ)
+    → Indexed F file up t (k + 1) w next → u ≡ put w k row → Indexed F file up (put t k row) (k + 1) u next
+put-first F file up t k w next row u inner put-is =
+    record {
+      table = put-is ∙ ap (λ (x : List ℕ). put x k row) (inner .table) ∙ put-fill (rows file up (k + 1) F) t (k + 1) k row (omega arith);
+      counted = inner .counted;
+    }
 
 module _ (left number : ℕ) (s : List ℕ) (base file up : ℕ) (t₀ : List ℕ) (i : ℕ) where
   -- with the rows that are left from position at on, table and count are those of the whole
@@ -74,30 +78,31 @@ module _ (left number : ℕ) (s : List ℕ) (base file up : ℕ) (t₀ : List �
             counted = ap (λ (F : Forest Place). k + size F) same ∙ going .counted;
           }
 
-      pub going-node : f .number ≡ number → (end count : ℕ) → end ≡ end-in f → f .start ≤ end → end ≤ f .next
-          → count ≡ size-in (left - 1) 3 (part s (f .start) (end - f .start)) → count ≤ length (part s (f .start) (end - f .start))
-          → (row : Row) → row ≡ record { start = base + f .start; end = base + end; file = file; up = up; after = k + 1 + count }
-          → (u w : List ℕ) (up₂ next : ℕ) → u ≡ put t k row → up₂ ≡ k + 1 → Indexed (forest-in (left - 1) 3 (part s (f .start) (end - f .start)) (base + f .start)) file up₂ u (k + 1) w next
-          → Going w (f .next) next
-      going-node q end count end-is a c count-is few row row-is u w up₂ next put-is up-is inner =
+      pub going-node : f .number ≡ number → (end : ℕ) → end ≡ end-in f → f .start ≤ end → end ≤ f .next
+          → (w : List ℕ) (up₂ next : ℕ) → up₂ ≡ k + 1 → Indexed (forest-in (left - 1) 3 (part s (f .start) (end - f .start)) (base + f .start)) file up₂ t (k + 1) w next
+          → next ≤ k + 1 + length (part s (f .start) (end - f .start))
+          → (row : Row) → row ≡ record { start = base + f .start; end = base + end; file = file; up = up; after = next }
+          → (u : List ℕ) → u ≡ put w k row
+          → Going u (f .next) next
+      going-node q end end-is a c w up₂ next up-is inner few row row-is u put-is =
           let l : Lies (length s) at f = lies s at r f e is in
           let rm = going .room in
-          let g : at + 1 + count ≤ f .next = grown s at r f e is end at count a c (omega arith) few in
+          let g : at + 1 + length (part s (f .start) (end - f .start)) ≤ f .next = grown s at r f e is end at (length (part s (f .start) (end - f .start))) a c (le-refl at) (le-refl (length (part s (f .start) (end - f .start)))) in
           let nested : Forest Place = forest-in (left - 1) 3 (part s (f .start) (end - f .start)) (base + f .start) in
           let following : Forest Place = forest-from (forest-in (left - 1) 3) number s base (f .next) in
           let p : Place = record { start = base + f .start; end = base + end } in
           let same : node p nested following ≡ forest-from (forest-in (left - 1) 3) number s base at =
           ap (λ (x : ℕ). node (record { start = base + f .start; end = base + x }) (forest-in (left - 1) 3 (part s (f .start) (x - f .start)) (base + f .start)) following) end-is
           ∙ forest-node (forest-in (left - 1) 3) number s base at r e f is q in
-          let count-as : count ≡ size nested = count-is ∙ size-forest (left - 1) 3 (part s (f .start) (end - f .start)) (base + f .start) in
-          let row-as : row ≡ record { start = p .start; end = p .end; file = file; up = up; after = k + 1 + size nested } =
-          row-is ∙ ap (λ (x : ℕ). record { start = base + f .start; end = base + end; file = file; up = up; after = k + 1 + x }) count-as in
-          let inner-as : Indexed nested file (k + 1) u (k + 1) w next = subst (λ (x : ℕ). Indexed nested file x u (k + 1) w next) up-is inner in
           let n : next ≡ k + 1 + size nested = inner .counted in
+          let row-as : row ≡ record { start = p .start; end = p .end; file = file; up = up; after = k + 1 + size nested } =
+          row-is ∙ ap (λ (x : ℕ). record { start = base + f .start; end = base + end; file = file; up = up; after = x }) n in
+          let inner-as : Indexed nested file (k + 1) t (k + 1) w next = subst (λ (x : ℕ). Indexed nested file x t (k + 1) w next) up-is inner in
+          let first : Indexed nested file (k + 1) (put t k row) (k + 1) u next = put-first nested file (k + 1) t k w next row u inner-as put-is in
           record {
             room = omega arith;
             in-part = l .to;
-            long = indexed-length nested file (k + 1) u (k + 1) w next inner-as ∙ ap length put-is ∙ put-length t k row ∙ going .long;
-            table = node-filled p nested following file up t k row u w next row-as put-is inner-as ∙ ap (λ (F : Forest Place). fill t k (rows file up k F)) same ∙ going .table;
-            counted = node-counted p nested following file up t k row u w next row-as put-is inner-as ∙ ap (λ (F : Forest Place). k + size F) same ∙ going .counted;
+            long = indexed-length nested file (k + 1) (put t k row) (k + 1) u next first ∙ put-length t k row ∙ going .long;
+            table = node-filled p nested following file up t k row (put t k row) u next row-as refl first ∙ ap (λ (F : Forest Place). fill t k (rows file up k F)) same ∙ going .table;
+            counted = node-counted p nested following file up t k row (put t k row) u next row-as refl first ∙ ap (λ (F : Forest Place). k + size F) same ∙ going .counted;
           }

@@ -1,4 +1,5 @@
 pub mod SizeLaws
+pub mod PutLaws
 pub mod TreeLaws
 pub mod IndexLaws
 pub mod FileLaws

@@ -10,11 +10,7 @@ use borrow.Author.Tests.{lt-ltb}
 use Rattle.base.specs.Choose.{choose, choose-case}
 use Rattle.index.specs.Tree.{put, fill, row-in, row-at}
 use Rattle.index.specs.declared.Row.{Row}
-use Rattle.index.proofs.IndexLaws.{put-length}
-
--- five numbers stored from place b on
-abbrev five : List ℕ → ℕ → Row → List ℕ
-five t b r = set (set (set (set (set t b (r .start)) (b + 1) (r .end)) (b + 2) (r .file)) (b + 3) (r .up)) (b + 4) (r .after)
+use Rattle.index.proofs.PutLaws.{put-length, five, put-fits}
 
 five-other : (t : List ℕ) (b : ℕ) (r : Row) (x : ℕ) → (b ≤ x → x ≤ b + 4 → ⊥) → getD (five t b r) x 0 ≡ getD t x 0
 five-other t b r x h =
@@ -79,10 +75,6 @@ module _ (t : List ℕ) (b : ℕ) (r : Row) (fits : b + 4 < length t) where
   five-after : getD (five t b r) (b + 4) 0 ≡ r .after
   unfolding one two three four
   five-after = getD-set-same four (b + 4) (r .after) 0 (simp length-set (omega arith))
-
-put-fits : (t : List ℕ) (i : ℕ) (r : Row) → i * 5 + 4 < length t → put t i r ≡ five t (i * 5) r
-unfolding put choose
-put-fits t i r fits = rw (lt-ltb (i * 5 + 4) (length t) fits)
 
 row-here : (t : List ℕ) (i : ℕ) (r : Row) → i * 5 + 4 < length t → row-in (put t i r) i ≡ r
 unfolding row-in

@@ -1,23 +1,19 @@
 -- One record more of a forest, its size, and its rows in a table. Assumes nothing.
 use mathlib.Core.Path.{_≡_, refl, sym, ap, _∙_}
-use mathlib.Core.Bool.{Bool, true, false}
 use mathlib.Core.List.{List, [], _∷_, _++_}
 use Prim.Native.Nat.{ℕ, zero, suc, _+_, _-_}
 use native.Mathlib.Numerals.{sub-one}
 use native.Mathlib.Omega.{arith}
 use lib.ListN.{length, length-append}
-use lib.Dec.{eqb}
-use Rattle.base.specs.Choose.{choose, choices}
+use Rattle.base.specs.Choose.{choices}
 use Rattle.wire.specs.Step.{stepAt}
-use Rattle.wire.specs.Records.{records, pass, over}
 use Rattle.wire.proofs.RecordsLaws.{passes}
 use Rattle.wire.specs.declared.Record.{Record}
 use Rattle.wire.specs.declared.Step.{Step}
 use Rattle.wire.specs.declared.Step.the-variants.{End, Fault, Found}
 use Rattle.descriptor.specs.Descriptor.{Forest, done, node}
 use Rattle.index.specs.Places.{inside}
-use Rattle.index.specs.Sizes.{size-in, size-record}
-use Rattle.index.specs.Tree.{Place, place, Inner, forest-record, forest-from, forest-in, size, rows, put, fill, Indexed}
+use Rattle.index.specs.Tree.{Place, place, Inner, forest-from, forest-in, size, rows, put, fill, Indexed}
 use Rattle.index.specs.declared.Row.{Row}
 
 pub forest-is : (left number : ℕ) (s : List ℕ) (base : ℕ) → (left ≡ 0 → ⊥) → forest-from (forest-in (left - 1) 3) number s base 0 ≡ forest-in left number s base
@@ -39,28 +35,6 @@ module _ (inner : Inner) (number : ℕ) (s : List ℕ) (base at : ℕ) (r : Step
 
     pub forest-skip : (f .number ≡ number → ⊥) → forest-from inner number s base (f .next) ≡ forest-from inner number s base at
     forest-skip q = search (passes, choices) depth 12
-
--- a count is the size of the forest
-both : (b : Bool) (n x y : ℕ) (F G : Forest Place) → x ≡ n + size F → y ≡ n + size G → choose b x y ≡ n + size (choose b F G)
-unfolding choose
-both true n x y F G p q = p
-both false n x y F G p q = q
-
-pass-size : (inner : Inner) (count : List ℕ → ℕ) → ((p : List ℕ) (b : ℕ) → count p ≡ size (inner p b)) → (number : ℕ) (s : List ℕ) (base : ℕ) (rs : List Step) (n : ℕ)
-    → pass (size-record count number s) (λ key n. n) (λ n. n) rs n ≡ n + size (pass (forest-record inner number s base) (λ key x. done) (λ x. done) rs tt)
-unfolding pass size
-pass-size inner count same number s base [] n = omega arith
-pass-size inner count same number s base (End ∷ rs) n = omega arith
-pass-size inner count same number s base (Fault key ∷ rs) n = omega arith
-pass-size inner count same number s base (Found f ∷ rs) n =
-    let on = pass-size inner count same number s base rs (n + 1 + count (inside s f)) in
-    let inside-is : count (inside s f) ≡ size (inner (inside s f) (base + f .start)) = same (inside s f) (base + f .start) in
-    both (eqb (f .number) number) n _ _ _ _ (on ∙ omega arith) (pass-size inner count same number s base rs n)
-
-pub size-forest : (k number : ℕ) (s : List ℕ) (base : ℕ) → size-in k number s ≡ size (forest-in k number s base)
-unfolding size-in forest-in size over
-size-forest zero number s base = refl
-size-forest (suc k) number s base = pass-size (forest-in k 3) (size-in k 3) (λ p b. size-forest k 3 p b) number s base (records s 0) 0 ∙ omega arith
 
 -- rows
 pub rows-length : (F : Forest Place) (file up i : ℕ) → length (rows file up i F) ≡ size F

@@ -1,4 +1,3 @@
 pub mod Places
-pub mod Sizes
 pub mod Tree
 pub mod Owners

@@ -3,7 +3,6 @@ ghost use mathlib.Core.Path.{_≡_};
 ghost use Prim.Native.Nat.{ℕ, _+_, _*_, _-_, _<_, _≤_, _^_};
 ghost use lib.ListN.{length, getD};
 ghost use Rattle.index.specs.Places.{end-in};
-ghost use Rattle.index.specs.Sizes.{size-in};
 ghost use Rattle.index.specs.Tree.{forest-in, size, rows, put, fill, Indexed, file-forests, IndexedFiles, row-at, Holds, all-members};
 use wire::Record;
 use wire::Step;
@@ -17,34 +16,6 @@ fn end_of(f: Record) -> usize
         return f.next;
     }
     f.start
-}
-
-// How many embedded messages with this field number there are, with the messages nested in them, in so many levels.
-fn count_in(s: &[u8], number: u64, left: usize) -> usize
-    ensures { λ r. ⌜ (r ≡ size-in left number (now (s .entry))) × (r ≤ length (now (s .entry))) ⌝ }
-{
-    if left == 0 {
-        return 0;
-    }
-    let fewer = left - 1;
-    let mut at: usize = 0;
-    let mut n: usize = 0;
-    loop {
-        match wire::read_step(s, at) {
-            Step::End => return n,
-            Step::Fault(_) => return n,
-            Step::Found(f) => {
-                at = f.next;
-                if f.number == number {
-                    let start = f.start;
-                    let end = end_of(f);
-                    let inner = count_in(&s[start..end], 3, fewer);
-                    let one = n + 1;
-                    n = one + inner;
-                }
-            }
-        }
-    }
 }
 
 // A declaration: its place in the set, its file, what it stands in (0, or one more than the row of the message around it),
@@ -125,10 +96,9 @@ fn index_in(
                     let from = base + start;
                     let to = base + end;
                     let one = k + 1;
-                    let inner = count_in(&s[start..end], 3, fewer);
-                    let after = one + inner;
+                    let after = index_in(&s[start..end], from, 3, fewer, file, short(one), t, one);
                     put_row(t, k, made_row(from, to, file, up, after));
-                    k = index_in(&s[start..end], from, 3, fewer, file, short(one), t, one);
+                    k = after;
                 }
             }
         }

@@ -1,22 +1,20 @@
 use Rattle.index.proofs.made_row.Reads as made-row-reads
 use Rattle.wire.proofs.RecordsLaws.{places, length-part}
-use Rattle.wire.proofs.StepLaws.{Lies, lies}
+use Rattle.wire.proofs.StepLaws.{lies}
 use native.Mathlib.Omega.{arith}
-use native.Mathlib.Nat.{le-refl}
 use borrow.Author.Needs.{needs}
 use lib.ListN.{length}
-use mathlib.Core.Path.{_≡_, refl, ap}
+use mathlib.Core.Path.{refl}
 use Rattle.index.specs.Tree.{forest-in, rows, fill, size}
-use Rattle.index.proofs.SizeLaws.{grown, ends-in}
+use Rattle.index.proofs.SizeLaws.{ends-in}
 use Rattle.index.proofs.TreeLaws.{forest-end, forest-fault}
 use Rattle.index.proofs.IndexLaws.{Going, going-start, going-end, going-skip, going-node}
-use Prim.Native.Nat.{ℕ, _<_, _-_, _≤_, _+_}
+use Prim.Native.Nat.{ℕ, _<_, _-_}
 use borrow.Fn.Kinds.{In}
 use borrow.Fn.PlainCycle.{Measures, is, falls, and}
 use Rattle.index.proofs.index_in.Reads as index-in
 use Rattle.index.proofs.index_in.Kinds as index-in-kinds
 use Rattle.index.proofs.+index_in.Lts-index_in as index-in-lts
-use Rattle.index.proofs.count_in.Reads as count-in-reads
 use Rattle.index.proofs.end_of.Reads as end-of-reads
 use Rattle.index.proofs.put_row.Reads as put-row-reads
 use Rattle.index.proofs.short.Reads as short-reads
@@ -35,7 +33,7 @@ index-in-below t =
     and 2 index-in-kinds.ps (falls 2 index-in-kinds.ps _<_ μ-index-in t) index-in.Pre
 
 abbrev index-in-claims : ℕ → index-in-lts.Claims
-index-in-claims t = (read-step-reads.Asked, read-step-reads.Learnt, end-of-reads.Asked, end-of-reads.Learnt, count-in-reads.Asked, count-in-reads.Learnt, made-row-reads.Asked, made-row-reads.Learnt, put-row-reads.Asked, put-row-reads.Learnt, short-reads.Asked, short-reads.Learnt, index-in-below t, index-in.Post)
+index-in-claims t = (read-step-reads.Asked, read-step-reads.Learnt, end-of-reads.Asked, end-of-reads.Learnt, short-reads.Asked, short-reads.Learnt, index-in-below t, index-in.Post, made-row-reads.Asked, made-row-reads.Learnt, put-row-reads.Asked, put-row-reads.Learnt)
 
 abbrev index-in-Inv-loop : index-in-lts.InvT-loop
 index-in-Inv-loop s base number left file up t₀ i fewer at₀ k₀ t at k = Going left number s base file up t₀ i t at k
@@ -90,37 +88,6 @@ module _ (t : ℕ) where
   index-in-add-one : index-in-lts.Need-add-one (index-in-claims t) (index-in-at t) index-in.Post index-in-Inv-loop index-in-μ-loop
   index-in-add-one c = let l = lies _ _ _ _ (c .before .before .before .before .before .before .read-step .ensures) (c .before .before .before .before .f .given .1) in omega (arith, c .before .before .before .before .before .before .before .loop .inv .room, c .before .before .before .before .before .before .before .before .before .before .before .pre .1 .1)
 
-  index-in-sub-count-in : index-in-lts.Need-sub-count-in (index-in-claims t) (index-in-at t) index-in.Post index-in-Inv-loop index-in-μ-loop
-  index-in-sub-count-in c = search needs
-
-  index-in-part-count-in-start : index-in-lts.Need-part-count-in-start (index-in-claims t) (index-in-at t) index-in.Post index-in-Inv-loop index-in-μ-loop
-  index-in-part-count-in-start c = search needs
-
-  index-in-part-count-in-end : index-in-lts.Need-part-count-in-end (index-in-claims t) (index-in-at t) index-in.Post index-in-Inv-loop index-in-μ-loop
-  index-in-part-count-in-end c = ends-in _ _ _ _ (c .before .before .before .before .before .before .read-step .ensures) (c .before .before .before .before .f .given .1) _ (c .end-of .ensures .2)
-
-  index-in-count-in-requires : index-in-lts.Need-count-in-requires (index-in-claims t) (index-in-at t) index-in.Post index-in-Inv-loop index-in-μ-loop
-  index-in-count-in-requires c κs = search needs
-
-  index-in-add-after : index-in-lts.Need-add-after (index-in-claims t) (index-in-at t) index-in.Post index-in-Inv-loop index-in-μ-loop
-  index-in-add-after c =
-      let l = lies _ _ _ _ (c .before .before .before .before .before .before .before .before .read-step .ensures) (c .before .before .before .before .before .before .f .given .1) in
-      let g : c .before .before .before .before .before .before .before .before .before .loop .at + 1 + c .count-in .result ≤ c .before .before .before .before .before .before .f .given .0 .0 .next = grown _ _ _ _ (c .before .before .before .before .before .before .before .before .read-step .ensures) (c .before .before .before .before .before .before .f .given .1) _ _ _ (c .before .before .end-of .ensures .1) (c .before .before .end-of .ensures .2) (le-refl (c .before .before .before .before .before .before .before .before .before .loop .at)) (c .count-in .ensures .1) in
-      omega (arith, c .before .before .before .before .before .before .before .before .before .loop .inv .room, c .before .before .before .before .before .before .before .before .before .before .before .before .before .pre .1 .1)
-
-  index-in-made-row-requires : index-in-lts.Need-made-row-requires (index-in-claims t) (index-in-at t) index-in.Post index-in-Inv-loop index-in-μ-loop
-  index-in-made-row-requires c κs =
-      let l = lies _ _ _ _ (c .before .before .before .before .before .before .before .before .before .read-step .ensures) (c .before .before .before .before .before .before .before .f .given .1) in
-      let g : c .before .before .before .before .before .before .before .before .before .before .loop .at + 1 + c .before .count-in .result ≤ c .before .before .before .before .before .before .before .f .given .0 .0 .next = grown _ _ _ _ (c .before .before .before .before .before .before .before .before .before .read-step .ensures) (c .before .before .before .before .before .before .before .f .given .1) _ _ _ (c .before .before .before .end-of .ensures .1) (c .before .before .before .end-of .ensures .2) (le-refl (c .before .before .before .before .before .before .before .before .before .before .loop .at)) (c .before .count-in .ensures .1) in
-      let r = c .before .before .before .before .before .before .before .before .before .before .loop .inv .room in
-      let p = c .before .before .before .before .before .before .before .before .before .before .before .before .before .before .pre .1 .0 in
-      let q = c .before .before .before .before .before .before .before .before .before .before .before .before .before .before .pre .1 .1 in
-      let e = c .before .before .before .end-of .ensures .2 in
-      (omega arith, omega arith, omega arith)
-
-  index-in-put-row-requires : index-in-lts.Need-put-row-requires (index-in-claims t) (index-in-at t) index-in.Post index-in-Inv-loop index-in-μ-loop
-  index-in-put-row-requires c κs = omega (arith, c .before .before .before .before .before .before .before .before .before .before .before .loop .inv .room, c .before .before .before .before .before .before .before .before .before .before .before .before .before .before .before .pre .1 .1)
-
   index-in-sub-index-in : index-in-lts.Need-sub-index-in (index-in-claims t) (index-in-at t) index-in.Post index-in-Inv-loop index-in-μ-loop
   index-in-sub-index-in c = search needs
 
@@ -128,27 +95,42 @@ module _ (t : ℕ) where
   index-in-part-index-in-start c = search needs
 
   index-in-part-index-in-end : index-in-lts.Need-part-index-in-end (index-in-claims t) (index-in-at t) index-in.Post index-in-Inv-loop index-in-μ-loop
-  index-in-part-index-in-end c = ends-in _ _ _ _ (c .before .before .before .before .before .before .before .before .before .before .before .before .before .read-step .ensures) (c .before .before .before .before .before .before .before .before .before .before .before .f .given .1) _ (c .before .before .before .before .before .before .before .end-of .ensures .2)
+  index-in-part-index-in-end c = ends-in _ _ _ _ (c .before .before .before .before .before .before .read-step .ensures) (c .before .before .before .before .f .given .1) _ (c .end-of .ensures .2)
 
   index-in-short-requires : index-in-lts.Need-short-requires (index-in-claims t) (index-in-at t) index-in.Post index-in-Inv-loop index-in-μ-loop
-  index-in-short-requires c κs = let l = lies _ _ _ _ (c .before .before .before .before .before .before .before .before .before .before .before .before .before .before .read-step .ensures) (c .before .before .before .before .before .before .before .before .before .before .before .before .f .given .1) in omega (arith, c .before .before .before .before .before .before .before .before .before .before .before .before .before .before .before .loop .inv .room, c .before .before .before .before .before .before .before .before .before .before .before .before .before .before .before .before .before .before .before .pre .1 .1)
+  index-in-short-requires c κs = let l = lies _ _ _ _ (c .before .before .before .before .before .before .before .read-step .ensures) (c .before .before .before .before .before .f .given .1) in omega (arith, c .before .before .before .before .before .before .before .before .loop .inv .room, c .before .before .before .before .before .before .before .before .before .before .before .before .pre .1 .1)
 
   index-in-index-in-requires : index-in-lts.Need-index-in-requires (index-in-claims t) (index-in-at t) index-in.Post index-in-Inv-loop index-in-μ-loop
   index-in-index-in-requires c κs =
-      let l = lies _ _ _ _ (c .before .before .before .before .before .before .before .before .before .before .before .before .before .before .before .before .read-step .ensures) (c .before .before .before .before .before .before .before .before .before .before .before .before .before .before .f .given .1) in
-      let m = length-part (c .before .before .before .before .before .before .before .before .before .before .before .before .before .before .before .before .before .before .before .before .before .args .s .now) (c .before .before .before .before .before .before .before .before .before .before .before .before .before .before .f .given .0 .0 .start) (c .before .before .before .before .before .before .before .before .before .before .end-of .result) (ends-in _ _ _ _ (c .before .before .before .before .before .before .before .before .before .before .before .before .before .before .before .before .read-step .ensures) (c .before .before .before .before .before .before .before .before .before .before .before .before .before .before .f .given .1) _ (c .before .before .before .before .before .before .before .before .before .before .end-of .ensures .2)) in
-      let a = c .before .before .before .before .before .before .before .before .before .before .before .before .before .before .before .before .before .before .before .before .before .pre .1 .0 in
-      let b = c .before .before .before .before .before .before .before .before .before .before .end-of .ensures .2 in
-      let d = c .before .before .before .before .before .before .before .before .before .before .end-of .ensures .1 in
-      let r = c .before .before .before .before .before .before .before .before .before .before .before .before .before .before .before .before .before .loop .inv .room in
-      let q = c .before .before .before .before .before .before .before .before .before .before .before .before .before .before .before .before .before .before .before .before .before .pre .1 .1 in
-      (omega (arith, c .before .before .before .before .before .before .before .before .before .before .before .before .before .before .before .before .before .before .if1 .left, c .before .before .before .before .before .before .before .before .before .before .before .before .before .before .before .before .before .before .before .before .before .pre .0), (omega arith, omega arith))
+      let l = lies _ _ _ _ (c .before .before .before .before .before .before .before .before .before .read-step .ensures) (c .before .before .before .before .before .before .before .f .given .1) in
+      let m = length-part (c .before .before .before .before .before .before .before .before .before .before .before .before .before .before .args .s .now) (c .before .before .before .before .before .before .before .f .given .0 .0 .start) (c .before .before .before .end-of .result) (ends-in _ _ _ _ (c .before .before .before .before .before .before .before .before .before .read-step .ensures) (c .before .before .before .before .before .before .before .f .given .1) _ (c .before .before .before .end-of .ensures .2)) in
+      let a = c .before .before .before .before .before .before .before .before .before .before .before .before .before .before .pre .1 .0 in
+      let b = c .before .before .before .end-of .ensures .2 in
+      let d = c .before .before .before .end-of .ensures .1 in
+      let r = c .before .before .before .before .before .before .before .before .before .before .loop .inv .room in
+      let q = c .before .before .before .before .before .before .before .before .before .before .before .before .before .before .pre .1 .1 in
+      (omega (arith, c .before .before .before .before .before .before .before .before .before .before .before .if1 .left, c .before .before .before .before .before .before .before .before .before .before .before .before .before .before .pre .0), (omega arith, omega arith))
+
+  index-in-made-row-requires : index-in-lts.Need-made-row-requires (index-in-claims t) (index-in-at t) index-in.Post index-in-Inv-loop index-in-μ-loop
+  index-in-made-row-requires c κs =
+      let l = lies _ _ _ _ (c .before .before .before .before .before .before .before .before .before .before .before .before .before .read-step .ensures) (c .before .before .before .before .before .before .before .before .before .before .before .f .given .1) in
+      let m = length-part (c .before .before .before .before .before .before .before .before .before .before .before .before .before .before .before .before .before .before .args .s .now) (c .before .before .before .before .before .before .before .before .before .before .before .f .given .0 .0 .start) (c .before .before .before .before .before .before .before .end-of .result) (ends-in _ _ _ _ (c .before .before .before .before .before .before .before .before .before .before .before .before .before .read-step .ensures) (c .before .before .before .before .before .before .before .before .before .before .before .f .given .1) _ (c .before .before .before .before .before .before .before .end-of .ensures .2)) in
+      let n = c .before .before .before .index-in .ensures .1 in
+      let r = c .before .before .before .before .before .before .before .before .before .before .before .before .before .before .loop .inv .room in
+      let p = c .before .before .before .before .before .before .before .before .before .before .before .before .before .before .before .before .before .before .pre .1 .0 in
+      let q = c .before .before .before .before .before .before .before .before .before .before .before .before .before .before .before .before .before .before .pre .1 .1 in
+      let a = c .before .before .before .before .before .before .before .end-of .ensures .1 in
+      let e = c .before .before .before .before .before .before .before .end-of .ensures .2 in
+      (omega arith, omega arith, omega arith)
+
+  index-in-put-row-requires : index-in-lts.Need-put-row-requires (index-in-claims t) (index-in-at t) index-in.Post index-in-Inv-loop index-in-μ-loop
+  index-in-put-row-requires c κs = omega (arith, c .before .before .before .before .before .before .before .before .before .before .before .before .before .before .before .loop .inv .room, c .before .before .before .before .before .before .before .before .before .before .before .before .before .before .before .before .before .before .before .pre .1 .1)
 
   index-in-loop-less : index-in-lts.Need-loop-less (index-in-claims t) (index-in-at t) index-in.Post index-in-Inv-loop index-in-μ-loop
   index-in-loop-less c = search places
 
   index-in-loop-again : index-in-lts.Need-loop-again (index-in-claims t) (index-in-at t) index-in.Post index-in-Inv-loop index-in-μ-loop
-  index-in-loop-again c = going-node _ _ _ _ _ _ _ _ _ _ _ (c .before .before .before .before .before .before .before .before .before .before .before .before .before .before .before .before .before .before .before .before .loop .inv) _ (c .before .before .before .before .before .before .before .before .before .before .before .before .before .before .before .before .before .before .before .read-step .ensures) _ (c .before .before .before .before .before .before .before .before .before .before .before .before .before .before .before .before .before .f .given .1) (c .before .before .before .before .before .before .before .before .before .before .before .before .before .before .if2 .taken) _ _ (c .before .before .before .before .before .before .before .before .before .before .before .before .before .end-of .ensures .0) (c .before .before .before .before .before .before .before .before .before .before .before .before .before .end-of .ensures .1) (c .before .before .before .before .before .before .before .before .before .before .before .before .before .end-of .ensures .2) (c .before .before .before .before .before .before .before .before .before .before .before .count-in .ensures .0) (c .before .before .before .before .before .before .before .before .before .before .before .count-in .ensures .1) _ (c .before .before .before .before .before .before .before .before .before .made-row .ensures) _ _ _ _ (c .before .before .before .before .before .before .before .before .put-row .ensures) (c .before .before .before .before .short .ensures) (c .before .before .index-in .ensures .0)
+  index-in-loop-again c = going-node _ _ _ _ _ _ _ _ _ _ _ (c .before .before .before .before .before .before .before .before .before .before .before .before .before .before .before .before .before .before .loop .inv) _ (c .before .before .before .before .before .before .before .before .before .before .before .before .before .before .before .before .before .read-step .ensures) _ (c .before .before .before .before .before .before .before .before .before .before .before .before .before .before .before .f .given .1) (c .before .before .before .before .before .before .before .before .before .before .before .before .if2 .taken) _ (c .before .before .before .before .before .before .before .before .before .before .before .end-of .ensures .0) (c .before .before .before .before .before .before .before .before .before .before .before .end-of .ensures .1) (c .before .before .before .before .before .before .before .before .before .before .before .end-of .ensures .2) _ _ _ (c .before .before .before .before .before .before .before .before .before .short .ensures) (c .before .before .before .before .before .before .before .index-in .ensures .0) (c .before .before .before .before .before .before .before .index-in .ensures .1) _ (c .before .before .before .made-row .ensures) _ (c .before .before .put-row .ensures)
 
   index-in-loop-less-2 : index-in-lts.Need-loop-less-2 (index-in-claims t) (index-in-at t) index-in.Post index-in-Inv-loop index-in-μ-loop
   index-in-loop-less-2 c = search places
@@ -177,18 +159,13 @@ pub +index-in-spec : {M : Type 1} → statement M
     (index-in-add-from t)
     (index-in-add-to t)
     (index-in-add-one t)
-    (index-in-sub-count-in t)
-    (index-in-part-count-in-start t)
-    (index-in-part-count-in-end t)
-    (index-in-count-in-requires t)
-    (index-in-add-after t)
-    (index-in-made-row-requires t)
-    (index-in-put-row-requires t)
     (index-in-sub-index-in t)
     (index-in-part-index-in-start t)
     (index-in-part-index-in-end t)
     (index-in-short-requires t)
     (index-in-index-in-requires t)
+    (index-in-made-row-requires t)
+    (index-in-put-row-requires t)
     (index-in-loop-less t)
     (index-in-loop-again t)
     (index-in-loop-less-2 t)
