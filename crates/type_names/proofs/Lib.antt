@@ -1,6 +1,7 @@
 pub mod ChainLaws
 pub mod CursorLaws
 pub mod NamedLaws
+pub mod StripLaws
 pub mod RowSumLaws
 pub mod FindLaws
 pub mod BeforeLaws

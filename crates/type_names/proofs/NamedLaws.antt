@@ -1,13 +1,12 @@
--- The cursors that `enter` and `read_back` give, and the loop of `is_named`. Assumes nothing.
+-- The cursors that `enter` and `read_back` give. Assumes nothing.
 use mathlib.Core.Path.{_≡_, refl, sym, ap, _∙_}
 use mathlib.Core.Bool.{Bool, true, false, not}
 use mathlib.Core.List.{List, [], _∷_, _++_, append-assoc}
-use Prim.Native.Nat.{ℕ, zero, suc, _+_, _-_, _≤_, _<_}
+use Prim.Native.Nat.{ℕ, _+_, _-_, _≤_, _<_}
 use native.Mathlib.Omega.{arith}
-use lib.ListN.{length, take, getD}
-use lib.Seq.{take-suc, take-length}
-use lib.Dec.{ltb, eqb}
-use borrow.Author.Tests.{not-true, not-false, le-ltb, lt-ltb, eqb-true, eqb-false}
+use lib.ListN.{length, getD}
+use lib.Dec.{ltb}
+use borrow.Author.Tests.{not-true, not-false, le-ltb, lt-ltb}
 use Rattle.base.specs.Bytes.{same}
 use Rattle.base.specs.Choose.{choose}
 use Rattle.base.specs.Tests.{both-ways}
@@ -20,8 +19,7 @@ use Rattle.declarations.proofs.FullLaws.{full-none}
 use Rattle.type_names.specs.Cursors.{spelled, Sits, Entered, Prior}
 use Rattle.type_names.specs.LookUp.{named}
 use Rattle.type_names.specs.declared.Cursor.{Cursor}
-use Rattle.type_names.specs.declared.Back.{Back}
-use Rattle.type_names.proofs.CursorLaws.{last-alike, last-unlike, longer, shorter, part-more, part-past, part-cut, full-cells}
+use Rattle.type_names.proofs.CursorLaws.{part-more, part-past, part-cut, full-cells}
 
 module _ (bytes t : List ℕ) (code : ℕ) where
   pub entered-none : code ≡ 0 → Entered bytes t code (record { some = false; up = 0; start = 0; left = 0 })
@@ -36,6 +34,9 @@ module _ (bytes t : List ℕ) (code : ℕ) where
         let k : code ≡ code - 1 + 1 = omega arith in
         let v : up ≡ above (code - 1) (row-at t (code - 1)) = rw u-is at up-is in
         ap (full bytes t) k ∙ full-cells bytes t (code - 1) ∙ rw (v, start-is, len-is)
+
+    pub row-own : (own : List ℕ) → own ≡ part bytes start len → full bytes t code ≡ full bytes t up · own
+    row-own own is = row-name ∙ ap (λ (s : Bytes). full bytes t up · s) (sym is)
 
     made : (a n : ℕ) → part bytes a n ≡ part bytes start len → a + n ≤ length bytes → Entered bytes t code (record { some = true; up = up; start = a; left = n })
     unfolding choose
@@ -83,52 +84,6 @@ module _ (bytes t : List ℕ) (c : Cursor) where
               ∙ sym (append-assoc (full bytes t (c .up)) (46 ∷ part bytes (c .start) (c .left - 1)) (byte ∷ []));
           sits = record { inside = omega arith };
         }
-
-module _ (bytes t name : List ℕ) (code : ℕ) where
-  pub record Going (c : Cursor) (end : ℕ) : Type 0 where
-    pub sits : Sits bytes c
-    pub inside : end ≤ length name
-    pub left : same (spelled bytes t c) (take end name) ≡ same (full bytes t code) name
-
-  pub going-start : (c : Cursor) → Entered bytes t code c → Going c (length name)
-  going-start c e = record { sits = e .sits; inside = omega arith; left = rw (e .whole, take-length name) }
-
-  module _ (c : Cursor) (end : ℕ) (going : Going c end) (r : Back) (prior : Prior bytes t c r) where
-    last-of : (end ≡ 0 → ⊥) → take end name ≡ take (end - 1) name ++ (getD name (end - 1) 0 ∷ [])
-    last-of ne =
-        let i = going .inside in
-        let k : end ≡ suc (end - 1) = omega arith in
-        ap (λ (n : ℕ). take n name) k ∙ take-suc name (end - 1) 0 (omega arith)
-
-    pub going-end : not (r .found) ≡ true → eqb end 0 ≡ same (full bytes t code) name
-    unfolding same
-    going-end h = by-zero (eqb end 0) refl
-      where
-        none : spelled bytes t c ≡ []
-        none = prior .ended (not-true (r .found) h)
-
-        by-zero : (b : Bool) → eqb end 0 ≡ b → b ≡ same (full bytes t code) name
-        by-zero true e = (let z : end ≡ 0 = eqb-true end 0 e in rw (none, z) at (going .left))
-        by-zero false e = sym (shorter (take (end - 1) name) (getD name (end - 1) 0)) ∙ (rw (none, last-of (eqb-false end 0 e)) at (going .left))
-
-    module _ (h : not (r .found) ≡ false) where
-      more : spelled bytes t c ≡ spelled bytes t (r .rest) ++ (r .byte ∷ [])
-      more = prior .read (not-false (r .found) h)
-
-      pub going-short : end ≡ 0 → false ≡ same (full bytes t code) name
-      going-short e = sym (longer (spelled bytes t (r .rest)) (r .byte)) ∙ rw (← more) (rw e at (going .left))
-
-      module _ (ne : end ≡ 0 → ⊥) where
-        both : same (spelled bytes t (r .rest) ++ (r .byte ∷ [])) (take (end - 1) name ++ (getD name (end - 1) 0 ∷ [])) ≡ same (full bytes t code) name
-        both = rw (← more, ← last-of ne) (going .left)
-
-        pub going-unlike : (getD name (end - 1) 0 ≡ r .byte → ⊥) → false ≡ same (full bytes t code) name
-        going-unlike n = sym (last-unlike (spelled bytes t (r .rest)) (take (end - 1) name) (r .byte) (getD name (end - 1) 0) (λ e. n (sym e))) ∙ both
-
-        pub going-more : getD name (end - 1) 0 ≡ r .byte → Going (r .rest) (end - 1)
-        going-more e =
-            let i = going .inside in
-            record { sits = prior .sits; inside = omega arith; left = sym (last-alike (spelled bytes t (r .rest)) (take (end - 1) name) (r .byte) (getD name (end - 1) 0) (sym e)) ∙ both }
 
 pub named-past : (bytes t name : List ℕ) (row : ℕ) → 65535 < row → false ≡ named bytes t name row
 unfolding named choose

@@ -10,7 +10,7 @@ ghost use Rattle.base.specs.Choose.{choose};
 ghost use Rattle.base.specs.Bytes.{same};
 ghost use Rattle.checksums.specs.Sums.{sum-of};
 ghost use Rattle.declarations.specs.Listed.{full};
-ghost use Rattle.type_names.specs.Cursors.{Sits, Prior, Entered};
+ghost use Rattle.type_names.specs.Cursors.{Sits, Prior, Entered, Stripped};
 ghost use Rattle.message_graph.specs.Tab.{tab};
 ghost use Rattle.type_names.specs.Chains.{packed, chained, Linked, Chained};
 ghost use Rattle.type_names.specs.LookUp.{named, wanted, fits, find-row, same-row, declared-before, row-sum, row-sums};
@@ -31,6 +31,14 @@ pub struct Back {
     pub found: bool,
     pub byte: u8,
     pub rest: Cursor,
+}
+
+// What is left of a name: its first `end` bytes are to be the full name with the code. Where it isn't good, the name is
+// another.
+pub struct Rest {
+    pub good: bool,
+    pub code: usize,
+    pub end: usize,
 }
 
 // The full name with a code: of nothing for 0, of row i for i + 1.
@@ -317,6 +325,47 @@ fn sums_apart(sums: &[u64], i: usize, sum: u64) -> bool
     true
 }
 
+// The first `end` bytes of a name, without a dot and the own name of the row with the code at their end: what is left is to be the
+// full name of what the row stands in.
+fn strip(set: &[u8], t: &[usize], name: &[u8], code: usize, end: usize) -> Rest
+    requires { ⌜ (0 < code) × (end ≤ length (now name)) ⌝ }
+    ensures { λ r. ⌜ Stripped (now (set .entry)) (now (t .entry)) (now (name .entry)) code end r ⌝ }
+{
+    let i = code - 1;
+    let start = declarations::cell(t, i, 0);
+    let len = declarations::cell(t, i, 1);
+    let up = above(declarations::cell(t, i, 2), i);
+    let text = Text {
+        given: true,
+        start,
+        len,
+    };
+    let own = name_rules::text_bytes(set, text);
+    let n = own.len();
+    if end <= n {
+        return Rest {
+            good: false,
+            code: up,
+            end,
+        };
+    }
+    let from = end - n;
+    let dot = from - 1;
+    if name[dot] != 46 {
+        return Rest {
+            good: false,
+            code: up,
+            end,
+        };
+    }
+    let good = base::same_bytes(&name[from..end], own);
+    Rest {
+        good,
+        code: up,
+        end: dot,
+    }
+}
+
 // Is this the full name of the row? The answer is right where `sums` has the checksums of the rows and `sum` is that of the name.
 pub fn is_named(set: &[u8], t: &[usize], sums: &[u64], name: &[u8], sum: u64, row: usize) -> bool
     ensures { λ r. ⌜ (now (sums .entry) ≡ row-sums (now (set .entry)) (now (t .entry)) (length (now (sums .entry))) → sum ≡ sum-of (now (name .entry)) → r ≡ named (now (set .entry)) (now (t .entry)) (now (name .entry)) row) ⌝ }
@@ -327,24 +376,17 @@ pub fn is_named(set: &[u8], t: &[usize], sums: &[u64], name: &[u8], sum: u64, ro
     if sums_apart(sums, row, sum) {
         return false;
     }
-    let code = row + 1;
-    let mut c = enter(set, t, code);
+    let mut code = row + 1;
     let mut end = name.len();
-    loop {
-        let b = read_back(set, t, c);
-        if !b.found {
-            return end == 0;
-        }
-        if end == 0 {
+    while code != 0 {
+        let rest = strip(set, t, name, code, end);
+        if !rest.good {
             return false;
         }
-        let last = end - 1;
-        if name[last] != b.byte {
-            return false;
-        }
-        end = last;
-        c = b.rest;
+        code = rest.code;
+        end = rest.end;
     }
+    end == 0
 }
 
 // Is a row of this kind wanted: any declaration (0), an enum (1), or a message (2)?
