@@ -7,7 +7,7 @@ use std::io::{self, BufReader};
 use std::time::{Duration, Instant};
 
 use oracle::answer::TEXT_LIMIT;
-use oracle::library::{text, Outcome};
+use oracle::library::{names, text, Outcome};
 use oracle::pack::{read_case, read_magic, Case};
 use oracle::timed::{generation, shortest, whole};
 
@@ -24,6 +24,15 @@ fn ours(case: &Case, file: usize) -> (Duration, Outcome) {
     (time, outcome)
 }
 
+/// The name check.
+fn check(case: &Case) -> Duration {
+    shortest(|| {
+        let start = Instant::now();
+        names(&case.set, &case.options);
+        start.elapsed()
+    })
+}
+
 fn micros(time: Duration) -> String {
     let micros = time.as_secs_f64() * 1e6;
     if micros < 10.0 {
@@ -36,9 +45,10 @@ fn micros(time: Duration) -> String {
 /// No set has so many files: the call judges options and set, and stops.
 const NO_FILE: usize = usize::MAX;
 
-const BOTH: &str = "| Set | Bytes | Text | Rust, generation alone | Rust, from the set's bytes | Text call | of it judging | Generation to generation | Call to the Rust from bytes | Call to the Rust's generation |
-|---|---|---|---|---|---|---|---|---|---|";
-const OURS: &str = "| Set | Bytes | Text | Text call |\n|---|---|---|---|";
+const BOTH: &str = "| Set | Bytes | Text | Rust, from the set's bytes | Rust, generation alone | Text call | of it judging | Name check | From the bytes | Generation | Whole call to generation |
+|---|---|---|---|---|---|---|---|---|---|---|";
+const OURS: &str = "| Set | Bytes | Text | Text call | of it judging | Name check |
+|---|---|---|---|---|---|";
 
 fn line(case: &Case, shared: &mut bool) {
     let output = std::str::from_utf8(&case.output).expect("a name");
@@ -50,25 +60,32 @@ fn line(case: &Case, shared: &mut bool) {
         (number, place) => format!("refused {number} {place}"),
     };
     let size = case.set.len();
+    let (judging, _) = ours(case, NO_FILE);
+    let checking = check(case);
     if let Some(name) = name.strip_prefix('!') {
         if std::mem::replace(shared, false) {
             println!("\n{OURS}");
         }
-        println!("| {name} | {size} | {given} | {} |", micros(time));
+        println!(
+            "| {name} | {size} | {given} | {} | {} | {} |",
+            micros(time),
+            micros(judging),
+            micros(checking)
+        );
         return;
     }
     let alone = generation(&case.set, &case.options, file);
     let all = whole(&case.set, &case.options, file);
-    let (judging, _) = ours(case, NO_FILE);
     let ratio = |a: Duration, b: Duration| a.as_secs_f64() / b.as_secs_f64();
     println!(
-        "| {name} | {size} | {given} | {} | {} | {} | {} | {:.1} | {:.1} | {:.1} |",
-        micros(alone),
+        "| {name} | {size} | {given} | {} | {} | {} | {} | {} | {:.1} | {:.1} | {:.1} |",
         micros(all),
+        micros(alone),
         micros(time),
         micros(judging),
-        ratio(time.saturating_sub(judging), alone),
+        micros(checking),
         ratio(time, all),
+        ratio(time.saturating_sub(judging), alone),
         ratio(time, alone),
     );
 }
