@@ -25,7 +25,7 @@ use Rattle.descriptor.proofs.LatestLaws.{Lie, latest-lie}
 use Rattle.descriptor.proofs.ViewLaws.{picked, held, latest-held, merged-held, number-same, bytes-of}
 
 -- a part of a part
-drop-take : (x m : ℕ) (l : List ℕ) → drop x (take m l) ≡ take (m - x) (drop x l)
+pub drop-take : (x m : ℕ) (l : List ℕ) → drop x (take m l) ≡ take (m - x) (drop x l)
 drop-take zero m l = ap (λ (k : ℕ). take k l) (let e : m ≡ m - 0 = omega arith in e)
 drop-take (suc x) zero l = sym (ap (λ (k : ℕ). take k (drop (suc x) l)) (let e : 0 - suc x ≡ 0 = omega arith in e))
 drop-take (suc x) (suc m) [] = sym (take-nil (suc m - suc x))

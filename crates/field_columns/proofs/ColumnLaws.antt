@@ -10,9 +10,7 @@ use Rattle.descriptor.proofs.ViewTheorems.{field-view-is}
 use Rattle.name_rules.specs.Accessors.{or-else}
 use Rattle.index.specs.Tree.{row-at, row-bytes}
 use Rattle.index.specs.declared.Row.{Row}
-use Rattle.field_columns.specs.Columns.{column-of, viewed, byte-of, column-at, view-at}
-use Rattle.field_columns.specs.declared.Column.{Column}
-use Rattle.field_columns.specs.declared.Column.the-variants.{Kind, Label}
+use Rattle.field_columns.specs.Columns.{column-of, viewed, byte-of, column-at, view-at, Column, Kind, Label}
 
 viewed-is : (set : List ℕ) (column : Column) (v : FieldView) → or-else 1 (number-of (viewed column v)) ≡ column-of column (field-of set v)
 unfolding field-of

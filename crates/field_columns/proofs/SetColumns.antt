@@ -21,8 +21,7 @@ use Rattle.index.specs.Owners.{owners}
 use Rattle.index.specs.declared.Row.{Row}
 use Rattle.index.proofs.TableLaws.{no-row, Stands, fill-stands}
 use Rattle.index.proofs.SetLaws.{MessageTable, HoldsMembers, members-fit, fields-of, fields-hold}
-use Rattle.field_columns.specs.Columns.{owner-of, owner-at, column-of, byte-of, column-at, rows-counted, first-rows, before, start-at, fields-before}
-use Rattle.field_columns.specs.declared.Column.{Column}
+use Rattle.field_columns.specs.Columns.{owner-of, owner-at, column-of, byte-of, column-at, rows-counted, first-rows, before, start-at, fields-before, Column}
 
 -- ---- tables as lists
 

@@ -16,8 +16,6 @@ use Rattle.index.specs.declared.Row.{Row}
 use Rattle.message_graph.specs.Limit.{messages}
 use Rattle.message_graph.specs.Tab.{tab}
 use Rattle.name_rules.specs.Accessors.{type, label}
-use Rattle.field_columns.specs.declared.Column.{Column}
-use Rattle.field_columns.specs.declared.Column.the-variants.{Kind, Label}
 
 -- the number of the message that a row stands in; 0 for a number that no message can have
 unfoldable pub owner-of : ℕ → ℕ
@@ -25,6 +23,10 @@ owner-of up = choose (ltb (up - 1) messages) (up - 1) 0
 
 abbrev pub owner-at : List ℕ → ℕ → ℕ
 owner-at fields i = owner-of (row-at fields i .up)
+
+-- the columns that hold a number of the field's descriptor
+pub data Column : Type 0 where
+  Kind Label : Column
 
 -- a field's type or label
 abbrev pub column-of : Column → FieldDescriptor → ℕ

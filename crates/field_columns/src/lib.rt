@@ -13,12 +13,6 @@ use descriptor::Number;
 use message_graph::Index;
 use message_graph::MESSAGES;
 
-// The columns that hold a number of the field's descriptor: its type, its label.
-pub enum Column {
-    Kind,
-    Label,
-}
-
 // The number of the message that a row with this `up` stands in.
 fn owner_of(up: u16) -> Index
     ensures { λ r. ⌜ r ≡ owner-of up ⌝ }

@@ -1,12 +1,13 @@
 -- Rows put in a table: where there is room for them, and that their order does not matter. Assumes nothing.
 use mathlib.Core.Path.{_≡_, refl, sym, ap, _∙_}
-use mathlib.Core.Bool.{Bool, true, false}
 use mathlib.Core.List.{List, [], _∷_}
-use Prim.Native.Nat.{ℕ, zero, suc, _+_, _*_, _≤_, _<_}
+use Prim.Native.Nat.{ℕ, _+_, _*_, _≤_, _<_}
+use native.Mathlib.Decide.{decLe}
 use native.Mathlib.Omega.{arith}
 use lib.ListN.{length, set, length-set}
+use lib.Seq.{set-comm}
 use lib.Dec.{ltb}
-use borrow.Author.Tests.{ltb-true, ltb-false, lt-ltb, le-ltb}
+use borrow.Author.Tests.{lt-ltb, le-ltb}
 use Rattle.base.specs.Choose.{choose, choose-case}
 use Rattle.index.specs.Tree.{put, fill}
 use Rattle.index.specs.declared.Row.{Row}
@@ -27,24 +28,16 @@ put-out : (t : List ℕ) (i : ℕ) (r : Row) → length t ≤ i * 5 + 4 → put 
 unfolding put choose
 put-out t i r out = rw (le-ltb (i * 5 + 4) (length t) out)
 
--- stores at two places
-set-swap : (l : List ℕ) (x y a b : ℕ) → (x ≡ y → ⊥) → set (set l x a) y b ≡ set (set l y b) x a
-set-swap [] x y a b ne = refl
-set-swap (e ∷ l) zero zero a b ne = absurd (ne refl)
-set-swap (e ∷ l) zero (suc y) a b ne = refl
-set-swap (e ∷ l) (suc x) zero a b ne = refl
-set-swap (e ∷ l) (suc x) (suc y) a b ne = ap (λ (u : List ℕ). e ∷ u) (set-swap l x y a b (λ h. ne (ap suc h)))
-
 five-set : (t : List ℕ) (b : ℕ) (r : Row) (x v : ℕ) → b + 4 < x → set (five t b r) x v ≡ five (set t x v) b r
 five-set t b r x v h =
-    set-swap (set (set (set (set t b (r .start)) (b + 1) (r .end)) (b + 2) (r .file)) (b + 3) (r .up)) (b + 4) x (r .after) v (λ e. omega arith)
+    set-comm (set (set (set (set t b (r .start)) (b + 1) (r .end)) (b + 2) (r .file)) (b + 3) (r .up)) (b + 4) x (r .after) v (λ e. omega arith)
     ∙ ap (λ (u : List ℕ). set u (b + 4) (r .after))
-    (set-swap (set (set (set t b (r .start)) (b + 1) (r .end)) (b + 2) (r .file)) (b + 3) x (r .up) v (λ e. omega arith)
+    (set-comm (set (set (set t b (r .start)) (b + 1) (r .end)) (b + 2) (r .file)) (b + 3) x (r .up) v (λ e. omega arith)
     ∙ ap (λ (u : List ℕ). set u (b + 3) (r .up))
-    (set-swap (set (set t b (r .start)) (b + 1) (r .end)) (b + 2) x (r .file) v (λ e. omega arith)
+    (set-comm (set (set t b (r .start)) (b + 1) (r .end)) (b + 2) x (r .file) v (λ e. omega arith)
     ∙ ap (λ (u : List ℕ). set u (b + 2) (r .file))
-    (set-swap (set t b (r .start)) (b + 1) x (r .end) v (λ e. omega arith)
-    ∙ ap (λ (u : List ℕ). set u (b + 1) (r .end)) (set-swap t b x (r .start) v (λ e. omega arith)))))
+    (set-comm (set t b (r .start)) (b + 1) x (r .end) v (λ e. omega arith)
+    ∙ ap (λ (u : List ℕ). set u (b + 1) (r .end)) (set-comm t b x (r .start) v (λ e. omega arith)))))
 
 five-swap : (t : List ℕ) (b c : ℕ) (r q : Row) → b + 4 < c → five (five t b r) c q ≡ five (five t c q) b r
 five-swap t b c r q h =
@@ -53,10 +46,6 @@ five-swap t b c r q h =
     ∙ ap (λ (u : List ℕ). set (set u (c + 3) (q .up)) (c + 4) (q .after)) (five-set (set (set t c (q .start)) (c + 1) (q .end)) b r (c + 2) (q .file) (omega arith))
     ∙ ap (λ (u : List ℕ). set u (c + 4) (q .after)) (five-set (set (set (set t c (q .start)) (c + 1) (q .end)) (c + 2) (q .file)) b r (c + 3) (q .up) (omega arith))
     ∙ five-set (set (set (set (set t c (q .start)) (c + 1) (q .end)) (c + 2) (q .file)) (c + 3) (q .up)) b r (c + 4) (q .after) (omega arith)
-
-by-test : (A : Type 0) (b : Bool) → (b ≡ true → A) → (b ≡ false → A) → A
-by-test A true f g = f refl
-by-test A false f g = g refl
 
 module _ (t : List ℕ) (i j : ℕ) (r q : Row) (before : i < j) where
   swap-in : j * 5 + 4 < length t → put (put t j q) i r ≡ put (put t i r) j q
@@ -71,7 +60,11 @@ module _ (t : List ℕ) (i j : ℕ) (r q : Row) (before : i < j) where
   swap-out out = ap (λ (u : List ℕ). put u i r) (put-out t j q out) ∙ sym (put-out (put t i r) j q (let l = put-length t i r in omega arith))
 
   put-swap : put (put t j q) i r ≡ put (put t i r) j q
-  put-swap = by-test _ (ltb (j * 5 + 4) (length t)) (λ e. swap-in (ltb-true _ _ e)) (λ e. swap-out (ltb-false _ _ e))
+  put-swap = on (decLe (length t) (j * 5 + 4))
+    where
+      on : Dec (length t ≤ j * 5 + 4) → put (put t j q) i r ≡ put (put t i r) j q
+      on (yes out) = swap-out out
+      on (no fits) = swap-in (omega arith)
 
 -- a row may be put after those behind it
 pub put-fill : (rs : List Row) (t : List ℕ) (i k : ℕ) (r : Row) → k < i → put (fill t i rs) k r ≡ fill (put t k r) i rs

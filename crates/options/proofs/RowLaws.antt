@@ -9,11 +9,11 @@ use native.Mathlib.Nat.{sub-zero}
 use native.Mathlib.Decide.{decLe}
 use lib.Dec.{eqb}
 use lib.ListN.{length, take, drop, getD, drop-of-length-le}
-use lib.Seq.{take-nil, getD-take, getD-drop}
-use borrow.Author.Tests.{eq-eqb, ne-eqb, eqb-true}
+use lib.Seq.{getD-take, getD-drop}
+use borrow.Author.Tests.{eq-eqb, ne-eqb}
 use Rattle.base.specs.Choose.{choose}
 use Rattle.base.specs.Tests.{both-ways}
-use Rattle.options.specs.Settings.{number, row-count, kind-at, path-length, value-length, bodies, part, between, Setting, settings-from, settings, row, setting-of, row-by, row-number, found-at, not-found, first-of-kind, value-of}
+use Rattle.options.specs.Settings.{number, row-count, kind-at, path-length, value-length, bodies, part, between, settings-from, settings, row, setting-of, row-by, row-number, found-at, not-found, first-of-kind, value-of}
 use Rattle.options.specs.declared.Row.{Row}
 use Rattle.options.specs.declared.Found.{Found}
 use Rattle.writer.specs.Text.{part-cut}

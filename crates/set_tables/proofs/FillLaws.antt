@@ -15,8 +15,7 @@ use Rattle.options.specs.declared.Found.{Found}
 use Rattle.index.specs.Tree.{file-forests, IndexedFiles, fill, Holds, all-members}
 use Rattle.message_graph.specs.Fields.{Fields}
 use Rattle.message_graph.specs.Tab.{tab}
-use Rattle.field_columns.specs.Columns.{owner-at, column-at}
-use Rattle.field_columns.specs.declared.Column.the-variants.{Kind, Label}
+use Rattle.field_columns.specs.Columns.{owner-at, column-at, Kind, Label}
 use Rattle.declarations.specs.Rows.{State, declared, Became}
 use Rattle.declarations.specs.declared.Count.{Count}
 use Rattle.boxed_settings.specs.Flags.{set-flags}

@@ -13,8 +13,7 @@ use Rattle.index.specs.Tree.{file-forests, total, rows-of, fill, all-members}
 use Rattle.message_graph.specs.Limit.{messages}
 use Rattle.message_graph.specs.Fields.{Fields}
 use Rattle.message_graph.specs.Tab.{tab}
-use Rattle.field_columns.specs.Columns.{owner-at, column-at}
-use Rattle.field_columns.specs.declared.Column.the-variants.{Kind, Label}
+use Rattle.field_columns.specs.Columns.{owner-at, column-at, Kind, Label}
 use Rattle.declarations.specs.Rows.{declared}
 use Rattle.boxed_settings.specs.Flags.{set-flags}
 use Rattle.targets.specs.Targets.{target-at}

@@ -29,8 +29,7 @@ use Rattle.derives.specs.declared.Derive.{Derive}
 use Rattle.derives.specs.declared.Derive.the-variants.{Copy, Eq}
 use Rattle.derives.specs.Can.{can-message-derive, can-field-derive}
 use Rattle.derives.specs.Depth.{answers}
-use Rattle.field_columns.specs.Columns.{owner-at, column-at, start-at}
-use Rattle.field_columns.specs.declared.Column.the-variants.{Kind, Label}
+use Rattle.field_columns.specs.Columns.{owner-at, column-at, start-at, Kind, Label}
 use Rattle.context_laws.specs.At.{At, at-within}
 use Rattle.context_laws.specs.Tables.{Row, rows-of, number-of, type-name-of, tables-of, settings-of, Sound}
 use Rattle.context_laws.specs.Numbers.{number-below}

@@ -24,9 +24,7 @@ use Rattle.index.specs.declared.Row as index-row
 use Rattle.index.proofs.TableLaws.{no-row}
 use Rattle.index.proofs.SetLaws.{MessageTable, fields-of}
 use Rattle.message_graph.specs.Tab.{tab, length-tab, tab-at}
-use Rattle.field_columns.specs.Columns.{owner-at, column-of, column-at, first-rows, start-at, fields-before}
-use Rattle.field_columns.specs.declared.Column.{Column}
-use Rattle.field_columns.specs.declared.Column.the-variants.{Kind, Label}
+use Rattle.field_columns.specs.Columns.{owner-at, column-of, column-at, first-rows, start-at, fields-before, Column, Kind, Label}
 use Rattle.field_columns.proofs.SetColumns.{rows-decoded, owners-are, column-is, starts-are}
 use Rattle.field_columns.proofs.EntryLaws.{set-messages, set-fields-are}
 use Rattle.context_laws.specs.At.{At, at-within, at-getD, at-map}

@@ -20,8 +20,7 @@ use Rattle.index.proofs.SetLaws.{MessageTable}
 use Rattle.message_graph.specs.Limit.{messages}
 use Rattle.message_graph.specs.Fields.{Fields}
 use Rattle.message_graph.specs.Tab.{tab}
-use Rattle.field_columns.specs.Columns.{owner-at, column-at}
-use Rattle.field_columns.specs.declared.Column.the-variants.{Kind, Label}
+use Rattle.field_columns.specs.Columns.{owner-at, column-at, Kind, Label}
 use Rattle.field_columns.proofs.SetColumns.{fields-counted}
 use Rattle.boxed_settings.specs.Flags.{set-flags}
 use Rattle.context_laws.specs.At.{At, at-within, mem-of-at}

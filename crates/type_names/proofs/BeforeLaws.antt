@@ -10,7 +10,6 @@ use lib.Dec.{eqb}
 use borrow.Author.Tests.{not-true, not-false, le-ltb, lt-ltb, eq-eqb, ne-eqb}
 use Rattle.base.specs.Bytes.{same}
 use Rattle.base.specs.Choose.{choose, choose-case}
-use Rattle.descriptor.specs.Descriptor.{Bytes}
 use Rattle.declarations.specs.Rows.{cell-at}
 use Rattle.declarations.specs.Listed.{full}
 use Rattle.type_names.specs.Cursors.{spelled, Sits, Entered, Prior}

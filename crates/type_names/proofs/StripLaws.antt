@@ -2,28 +2,23 @@
 use mathlib.Core.Path.{_≡_, refl, sym, ap, _∙_}
 use mathlib.Core.Bool.{Bool, true, false, not}
 use mathlib.Core.List.{List, [], _∷_, _++_, append-assoc, append-nil}
-use Prim.Native.Nat.{ℕ, zero, suc, _+_, _-_, _≤_, _<_}
+use Prim.Native.Nat.{ℕ, _+_, _-_, _≤_, _<_}
 use native.Mathlib.Numerals.{add-one}
 use native.Mathlib.Omega.{arith}
 use lib.ListN.{length, take, drop, getD, length-append, take-append-drop}
-use lib.Seq.{take-nil, take-length, length-take-le, drop-cons, getD-take, take-take, drop-append-add, getD-append-seam}
+use lib.Seq.{take-length, length-take-le, drop-cons, getD-take, take-take, drop-append-add, getD-append-seam}
 use lib.Dec.{eqb}
 use borrow.Author.Tests.{not-true, not-false, eqb-true, eqb-false}
 use Rattle.base.specs.Bytes.{same, same-refl, same-sound, same-length}
 use Rattle.base.specs.Tests.{both-ways}
 use Rattle.checksums.specs.SumLaws.{unlike}
+use Rattle.descriptor.proofs.ViewTheorems.{drop-take}
 use Rattle.name_rules.specs.FullNames.{_·_}
 use Rattle.declarations.specs.Listed.{full}
 use Rattle.declarations.proofs.FullLaws.{full-none}
 use Rattle.type_names.specs.Cursors.{Stripped}
 use Rattle.type_names.specs.declared.Rest.{Rest}
 use Rattle.type_names.proofs.CursorLaws.{last-alike}
-
-drop-take : (x m : ℕ) (l : List ℕ) → drop x (take m l) ≡ take (m - x) (drop x l)
-drop-take zero m l = ap (λ (k : ℕ). take k l) (let e : m ≡ m - 0 = omega arith in e)
-drop-take (suc x) zero l = sym (ap (λ (k : ℕ). take k (drop (suc x) l)) (let e : 0 - suc x ≡ 0 = omega arith in e))
-drop-take (suc x) (suc m) [] = sym (take-nil (suc m - suc x))
-drop-take (suc x) (suc m) (a ∷ l) = drop-take x m l ∙ ap (λ (k : ℕ). take k (drop x l)) (let e : m - x ≡ suc m - suc x = omega arith in e)
 
 -- an end that both have
 same-front : (zs xs ys : List ℕ) → same (xs ++ zs) (ys ++ zs) ≡ same xs ys

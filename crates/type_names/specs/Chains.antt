@@ -13,7 +13,7 @@ unfoldable pub last-in : (ℕ → ℕ) → ℕ → ℕ → ℕ → ℕ
 last-in s n b zero = 0
 last-in s n b (suc k) = choose (eqb (s k % n) b) (suc k) (last-in s n b k)
 
--- a checksum, the row before in its bucket, and the last row of another bucket
+-- a cell: the checksum of its row, the row before that in its bucket, and the last row of the bucket with the cell's number
 unfoldable pub packed : ℕ → ℕ → ℕ → ℕ
 packed sum before last = sum + 4294967296 * (before + 65536 * last)
 
@@ -21,6 +21,7 @@ packed sum before last = sum + 4294967296 * (before + 65536 * last)
 unfoldable pub cell-by : (ℕ → ℕ) → ℕ → ℕ → ℕ → ℕ
 cell-by s n k i = packed (s i) (choose (ltb i k) (last-in s n (s i % n) i) 0) (last-in s n i k)
 
+-- a list with these cells
 pub record Staged (s : ℕ → ℕ) (n k : ℕ) (sums : List ℕ) : Type 0 where
   pub at : (i : ℕ) → i < length sums → getD sums i 0 ≡ cell-by s n k i
 
@@ -33,6 +34,7 @@ pub record Linked (n k : ℕ) (sums out : List ℕ) : Type 0 where
 unfoldable pub chained : ℕ → ℕ
 chained n = choose (ltb 65535 n) 65535 n
 
+-- the cells of n rows
 unfoldable pub cells : (ℕ → ℕ) → ℕ → List ℕ
 cells s n = tab n (cell-by s (chained n) (chained n))
 

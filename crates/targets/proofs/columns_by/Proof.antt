@@ -4,8 +4,7 @@ use Rattle.targets.proofs.TypeLaws.{target-read}
 use borrow.Author.Needs.{needs}
 use Prim.Native.Nat.{_-_}
 use Rattle.targets.specs.Targets.{target-at}
-use Rattle.field_columns.specs.Columns.{column-at}
-use Rattle.field_columns.specs.declared.Column.the-variants.{Kind, Label}
+use Rattle.field_columns.specs.Columns.{column-at, Kind, Label}
 use Rattle.targets.proofs.PutLaws.{FilledTo, put-none, put-more, put-all}
 use Rattle.targets.proofs.columns_by.Statement.{statement}
 use Rattle.targets.proofs.columns_by.Tie as tie
