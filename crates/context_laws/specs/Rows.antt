@@ -55,7 +55,7 @@ column_last {A} g es e =
 unfoldable pub first_row : List Entry → ℕ → ℕ
 first_row es a = length (fields_of_entries (take a es))
 
-row_from : (i : ℕ) {e : Entry} {es : List Entry} {a : ℕ} → At e es a → {f : FieldDescriptor} {j : ℕ} → At f e.message.fields j → At (field_row (i + a) e f) (rows_from i es) (first_row es a + j)
+row_from : {e : Entry} (i : ℕ) {es : List Entry} {a : ℕ} → At e es a → {f : FieldDescriptor} {j : ℕ} → At f e.message.fields j → At (field_row (i + a) e f) (rows_from i es) (first_row es a + j)
 unfolding rows_from first_row fields_of_entries
 row_from i (first {y} {xs} q) {f} {j} h =
     rw (add-zero, zero-add, q) (at_left (rows_from (suc i) xs) (at_map (field_row i y) (subst (λ (g : Entry). At f g.message.fields j) q h)))

@@ -20,10 +20,10 @@ pub apart_tail : {A : Type 0} {R : A → A → Type 0} {x : A} {xs : List A} →
 apart_tail (apart_cons f r) = r
 
 -- so two elements that R relates stand at one place
-pub apart_same : {A : Type 0} (R : A → A → Type 0) → ((a b : A) → R a b → R b a) → {xs : List A} → Apart R xs → {a b : A} → Memᴰ a xs → Memᴰ b xs → R a b → a ≡ b
+pub apart_same : {A : Type 0} (R : A → A → Type 0) → ((a b : A) → R a b → R b a) → {a : A} {xs : List A} → Apart R xs → {b : A} → Memᴰ a xs → Memᴰ b xs → R a b → a ≡ b
 apart_same R s c (Memᴰ.head e) (Memᴰ.head f) r = e ∙ sym f
-apart_same R s {xs = x ∷ xs} c {a} {b} (Memᴰ.head e) (Memᴰ.tail m) r = absurd (apart_head c b m (subst (λ z. R z b) e r))
-apart_same R s {xs = x ∷ xs} c {a} {b} (Memᴰ.tail m) (Memᴰ.head e) r = absurd (apart_head c a m (subst (λ z. R z a) e (s a b r)))
+apart_same R s {a} {xs = x ∷ xs} c {b} (Memᴰ.head e) (Memᴰ.tail m) r = absurd (apart_head c b m (subst (λ z. R z b) e r))
+apart_same R s {a} {xs = x ∷ xs} c {b} (Memᴰ.tail m) (Memᴰ.head e) r = absurd (apart_head c a m (subst (λ z. R z a) e (s a b r)))
 apart_same R s c (Memᴰ.tail m) (Memᴰ.tail n) r = apart_same R s (apart_tail c) m n r
 
 pub apart_map : {A B : Type 0} (R : A → A → Type 0) (S : B → B → Type 0) (f : A → B) (xs : List A)

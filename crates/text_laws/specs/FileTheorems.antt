@@ -35,7 +35,7 @@ abbrev pub first_message : List FileDescriptor → ℕ → ℕ
 first_message fs n = first_from 0 fs n
 
 -- that of the next file
-first_from_next : (i : ℕ) {f : FileDescriptor} {fs : List FileDescriptor} {n : ℕ} → At f fs n → first_from i fs (suc n) ≡ first_from i fs n + size f.messages
+first_from_next : {f : FileDescriptor} (i : ℕ) {fs : List FileDescriptor} {n : ℕ} → At f fs n → first_from i fs (suc n) ≡ first_from i fs n + size f.messages
 unfolding first_from
 first_from_next i (first e) = ap (λ (g : FileDescriptor). i + size g.messages) (sym e)
 first_from_next i (next {y = g} p) = first_from_next (i + size g.messages) p
@@ -47,7 +47,7 @@ every_at : {A : Type 0} (P : A → Type 0) {x : A} {xs : List A} {n : ℕ} → A
 every_at P (first e) h = subst P (sym e) h.0
 every_at P (next p) h = every_at P p h.1
 
-numbered_at : (P : Bytes → MessageDescriptor → Forest MessageDescriptor → ℕ → Type 0) (i : ℕ) {f : FileDescriptor} {fs : List FileDescriptor} {n : ℕ} → At f fs n → NumberedFiles P i fs
+numbered_at : (P : Bytes → MessageDescriptor → Forest MessageDescriptor → ℕ → Type 0) {f : FileDescriptor} (i : ℕ) {fs : List FileDescriptor} {n : ℕ} → At f fs n → NumberedFiles P i fs
     → Numbered P (package_scope f.package_name) (first_from i fs n) f.messages
 unfolding first_from
 numbered_at P i (first e) h = subst (λ (g : FileDescriptor). Numbered P (package_scope g.package_name) i g.messages) (sym e) h.0
