@@ -1,4 +1,6 @@
 // prost-types' accessors over a field's view: what is missing reads as its default.
+#![tactic(auto)]
+
 ghost use Rattle.std.specs.Prelude.{◌≡◌, ℕ};
 ghost use Rattle.descriptor.specs.Views.{text_of, number_of, field_of};
 ghost use Rattle.field_types.specs.Types.{sort_of};

@@ -1,4 +1,6 @@
 // code_generator.rs: the lines that stand before a declaration, a field or a variant.
+#![tactic(auto)]
+
 ghost use Rattle.std.specs.Prelude.{[], ◌++◌};
 ghost use Rattle.writer.specs.Wrote.{Wrote};
 ghost use Rattle.writer.specs.Text.{pick, indent};

@@ -1,4 +1,6 @@
 // What all crates share: a test of two byte strings, and a byte by its index.
+#![tactic(auto)]
+
 ghost use Rattle.std.specs.Prelude.{◌≡◌, get_or};
 ghost use Rattle.base.specs.Bytes.{same};
 

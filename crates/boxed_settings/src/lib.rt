@@ -1,4 +1,6 @@
 // Which fields of a set have a boxed setting at `.M.f`, by bytes of a table: 1 for each that has, 0 for each other.
+#![tactic(auto)]
+
 ghost use Rattle.writer.specs.Wrote.{Wrote};
 ghost use Rattle.descriptor.specs.Decode.{entries, parts};
 ghost use Rattle.options.specs.Settings.{settings};

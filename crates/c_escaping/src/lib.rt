@@ -1,4 +1,6 @@
 // The bytes of a bytes default, which stand in it with C's escapes (c_escaping.rs).
+#![tactic(auto)]
+
 ghost use Rattle.std.specs.Prelude.{◌≡◌, ◌+◌, ◌-◌, ◌≤◌, length, get_or};
 ghost use Rattle.writer.specs.Wrote.{Wrote};
 ghost use Rattle.literal.specs.Escape.{escape_bytes};

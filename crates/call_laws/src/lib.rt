@@ -1,1 +1,2 @@
 // The file with an index, of an accepted set: specs/.
+#![tactic(auto)]

@@ -1,1 +1,2 @@
 // What the bench's calls give: specs/.
+#![tactic(auto)]

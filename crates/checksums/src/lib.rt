@@ -1,4 +1,6 @@
 // Checksums of byte strings, and tables of them: the same strings have the same checksum.
+#![tactic(auto)]
+
 ghost use Rattle.std.specs.Prelude.{◌≡◌, ◌<◌, ◌%◌, ◌^◌};
 ghost use Rattle.checksums.specs.Sums.{sum_from, sum_of, holds, repeats, Put};
 

@@ -1,4 +1,6 @@
 // collections.rs: which collection type a map field and a bytes field have.
+#![tactic(auto)]
+
 ghost use Rattle.std.specs.Prelude.{◌≡◌};
 ghost use Rattle.writer.specs.Wrote.{Wrote};
 ghost use Rattle.collections.specs.Collections.{map_type, map_annotation, bytes_type, bytes_annotation};

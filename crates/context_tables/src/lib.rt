@@ -1,4 +1,6 @@
 // The two tables that the text's writers read: four numbers for each message of a set, and eight for each field.
+#![tactic(auto)]
+
 ghost use Rattle.std.specs.Prelude.{◌≡◌, false, ◌+◌, ◌*◌, ◌/◌, ◌%◌, ◌<◌, ◌≤◌, length, get_or};
 ghost use Rattle.derives.specs.Rules.{rule};
 ghost use Rattle.message_graph.specs.Fields.{message_at};

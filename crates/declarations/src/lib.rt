@@ -1,4 +1,6 @@
 // The declarations of a set: a table of its messages and enums in declaration order, with what each stands in.
+#![tactic(auto)]
+
 ghost use Rattle.std.specs.Prelude.{◌≡◌, true, false, ℕ, ◌+◌, ◌*◌, ◌-◌, ◌<◌, ◌≤◌, length};
 ghost use Rattle.index.specs.Places.{end_in};
 ghost use Rattle.declarations.specs.Rows.{cell_at, has_room, put, push_message, state, Became, places, declaration_row, declare_enums, declare_messages, declare_members, declare_file, declared};
@@ -20,7 +22,7 @@ pub struct Row {
 }
 
 // How many rows there are, and how many of them are messages.
-#[derive(Drop)]
+#[derive(Clone, Copy)]
 pub struct Count {
     pub rows: usize,
     pub messages: usize,

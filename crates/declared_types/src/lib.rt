@@ -1,4 +1,6 @@
 // Refusal 7: the first file with a type name that the set doesn't declare, or with a full name declared before.
+#![tactic(auto)]
+
 ghost use Rattle.std.specs.Prelude.{◌≡◌, true, false, ℕ, ltb, length};
 ghost use Rattle.base.specs.Lists.{all};
 ghost use Rattle.name_rules.specs.Accessors.{or_else, text};

@@ -1,4 +1,6 @@
 // context.rs: can a message, or a field, derive Copy or Eq?
+#![tactic(auto)]
+
 ghost use Rattle.std.specs.Prelude.{◌≡◌, false, ◌≤◌, ◌<◌, length, get_or};
 ghost use Rattle.field_types.specs.Types.{type_eq};
 ghost use Rattle.message_graph.specs.Limit.{messages};
@@ -15,7 +17,7 @@ use message_graph::{Index, LABEL_REPEATED, MESSAGES, TYPE_MESSAGE};
 const PLACES: usize = 512;
 
 // The trait that is asked for.
-#[derive(Drop)]
+#[derive(Clone, Copy)]
 pub enum Derive {
     Copy,
     Eq,

@@ -1,5 +1,7 @@
 // The descriptors of a set: views of its parts, by value. A part is bytes of the set from start to end; a view's texts are
 // places in the set.
+#![tactic(auto)]
+
 ghost use Rattle.std.specs.Prelude.{◌≡◌, ◌+◌, ◌-◌, ◌<◌, ◌≤◌, ◌^◌, length};
 ghost use Rattle.wire.specs.Records.{part};
 ghost use Rattle.descriptor.specs.Views.{length_in, value_in, file_in, message_in, field_in, value_view_in, name_in};
@@ -15,7 +17,7 @@ pub struct Latest {
 }
 
 // A string of bytes, where it is given: its place and length.
-#[derive(Drop)]
+#[derive(Clone, Copy)]
 pub struct Text {
     pub given: bool,
     pub start: usize,
@@ -23,7 +25,7 @@ pub struct Text {
 }
 
 // A number of 32 bits, where it is given; a signed one in two's complement.
-#[derive(Drop)]
+#[derive(Clone, Copy)]
 pub struct Number {
     pub given: bool,
     pub value: u32,
@@ -48,7 +50,7 @@ pub struct MessageView {
     pub entry: bool,
 }
 
-#[derive(Drop)]
+#[derive(Clone, Copy)]
 pub struct FieldView {
     pub name: Text,
     pub number: Number,

@@ -1,4 +1,6 @@
 // What is written for an enum's values: their variants, and their arms of as_str_name and from_str_name.
+#![tactic(auto)]
+
 ghost use Rattle.std.specs.Prelude.{◌≡◌, []};
 ghost use Rattle.writer.specs.Wrote.{Wrote};
 ghost use Rattle.writer.specs.Text.{pick};

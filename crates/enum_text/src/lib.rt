@@ -1,4 +1,6 @@
 // code_generator.rs, append_enum: the text of an enum.
+#![tactic(auto)]
+
 ghost use Rattle.writer.specs.Wrote.{Wrote};
 ghost use Rattle.options.specs.Settings.{settings};
 ghost use Rattle.descriptor.specs.Decode.{decode_enum};

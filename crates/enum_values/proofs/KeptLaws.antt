@@ -139,8 +139,7 @@ kept_from (v ∷ vs) us x ms ns same = on (dec_lt x.count 256) (kept_from vs)
         let mark : get_or (noted (more (value_number v) x) vs).marks x.count false ≡ not (is_used (value_number v) us) =
         stays x.count vs (more (value_number v) x) (omega arith) ∙ get_or-set_same x.marks x.count _ false (omega arith)
         ∙ ap not (sym (same (value_number v))) in
-        ap (λ (y : Kept). marked y.marks x.count (v ∷ vs)) (noted_more v vs x l)
-        ∙ rw (z, mark) (turn l (is_used (value_number v) us) refl rest)
+        ap (λ (y : Kept). marked y.marks x.count (v ∷ vs)) (noted_more v vs x l) ∙ rw (z, mark) (turn l (is_used (value_number v) us) refl rest)
     on (no l) rest =
         let z : 256 - x.count ≡ 0 = omega arith in
         none_marked (noted x (v ∷ vs)).marks x.count (v ∷ vs) (let q = as_many (v ∷ vs) x in omega arith)

@@ -1,4 +1,6 @@
 // build_enum_value_mappings: which values of an enum are kept, and the names of their variants.
+#![tactic(auto)]
+
 ghost use Rattle.std.specs.Prelude.{◌≡◌, false, ◌<◌, get_or};
 ghost use Rattle.writer.specs.Wrote.{Wrote};
 ghost use Rattle.options.specs.Settings.{settings, strips_prefix};
@@ -13,7 +15,7 @@ use descriptor::Number;
 use wire::Step;
 
 // How many values were met, their numbers, and a mark for each that is kept: its number was not used before.
-#[derive(Drop)]
+#[derive(Clone, Copy)]
 pub struct Kept {
     pub count: usize,
     pub numbers: [u32; 256],

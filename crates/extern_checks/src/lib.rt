@@ -1,4 +1,6 @@
 // Refusal 2: extern paths that are invalid or doubled.
+#![tactic(auto)]
+
 ghost use Rattle.std.specs.Prelude.{◌≡◌, not, ◌+◌, ◌<◌, length, drop};
 ghost use Rattle.path.specs.Forms.{among};
 ghost use Rattle.options.specs.Settings.{settings, settings_from, setting_of, bodies};

@@ -1,5 +1,5 @@
 -- Theorems about extern paths: what is taken stays taken under further segments, and document 01's row. Assumes nothing.
-use mathlib.Core.Path.{◌≡◌, refl, sym, ◌∙◌, subst}
+use mathlib.Core.Path.{◌≡◌, refl, subst, sym, ◌∙◌}
 use mathlib.Core.Logic.{◌⊎◌, ⊎_elim}
 use mathlib.Core.Bool.{Bool, true, false, ◌&&◌, ◌||◌, and-false}
 use mathlib.Core.List.{List, [], ◌∷◌, ◌++◌}
@@ -125,7 +125,7 @@ module _ (x y : List ℕ) where
   unfolding among
   forms_stay f z h =
       or_right (same z longer)
-      (⊎_elim (λ a. subst (λ (q : List ℕ). among q (prefixes longer) ≡ true) (sym (same_sound z x a)) (itself f)) (λ a. prefix_stays z a) (or_cases (same z x) (among z (prefixes x)) h))
+      (⊎_elim (λ a. subst (λ w. among w (prefixes longer) ≡ true) (sym (same_sound z x a)) (itself f)) (λ a. prefix_stays z a) (or_cases (same z x) (among z (prefixes x)) h))
 
 -- a full name that is taken is taken with further segments too. The name isn't empty: an empty path is no prefix
 pub taken_on : (rs : List Setting) (x y : List ℕ) → (length x ≡ 0 → ⊥) → taken rs x ≡ true → taken rs (x ++ (46 ∷ y)) ≡ true

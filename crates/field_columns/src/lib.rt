@@ -1,5 +1,7 @@
 // Columns over the fields of a set in declaration order: whose field each is, and where each message's fields begin; and what
 // the columns of types and labels are read from.
+#![tactic(auto)]
+
 ghost use Rattle.std.specs.Prelude.{◌≡◌, ◌<◌, ◌≤◌, length};
 ghost use Rattle.base.specs.Lists.{first_failing};
 ghost use Rattle.message_graph.specs.Tab.{tab};

@@ -1,4 +1,6 @@
 // What the text needs of a field's type, by the type's number in descriptor.proto.
+#![tactic(auto)]
+
 ghost use Rattle.std.specs.Prelude.{◌≡◌, get_or};
 ghost use Rattle.writer.specs.Wrote.{Wrote};
 ghost use Rattle.field_types.specs.Types.{sort_of, tag_word, rust_word, can_pack};

@@ -1,4 +1,6 @@
 // Refusals 8 and 9 of a file.
+#![tactic(auto)]
+
 ghost use Rattle.std.specs.Prelude.{◌≡◌, ◌||◌, ◌+◌, ◌-◌, ◌≤◌, ◌<◌, ◌^◌};
 ghost use Rattle.base.specs.Lists.{any};
 ghost use Rattle.descriptor.specs.Decode.{entries, parts};

@@ -1,4 +1,6 @@
 // Refusal 6, as far as a file is judged by itself: what a map entry holds, messages with those nested in them, and the first file at fault.
+#![tactic(auto)]
+
 ghost use Rattle.std.specs.Prelude.{◌≡◌, map};
 ghost use Rattle.base.specs.Lists.{is_empty, first_failing};
 ghost use Rattle.descriptor.specs.Decode.{entries, parts, decode_field, decode_message, decode_messages, decode_file, decode_set};

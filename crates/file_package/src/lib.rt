@@ -1,4 +1,6 @@
 // The package of a file, which the programs print before its text.
+#![tactic(auto)]
+
 ghost use Rattle.std.specs.Prelude.{◌≡◌};
 ghost use Rattle.descriptor.specs.Decode.{entries, parts, decode_file};
 ghost use Rattle.name_rules.specs.Accessors.{text};

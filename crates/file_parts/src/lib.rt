@@ -1,4 +1,6 @@
 // A file of a set by its index: its part, and the number of its first message.
+#![tactic(auto)]
+
 ghost use Rattle.std.specs.Prelude.{◌≡◌, ◌<◌};
 ghost use Rattle.descriptor.specs.Decode.{entries, parts};
 ghost use Rattle.file_parts.specs.FileParts.{part_at, behind, first_number};

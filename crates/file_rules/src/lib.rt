@@ -1,4 +1,6 @@
 // Refusal 6, as far as declarations are judged one by one: enums and messages, without the messages nested in them.
+#![tactic(auto)]
+
 ghost use Rattle.std.specs.Prelude.{◌≡◌};
 ghost use Rattle.descriptor.specs.Decode.{entries, parts};
 ghost use Rattle.base.specs.Lists.{all};

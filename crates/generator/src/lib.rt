@@ -1,4 +1,6 @@
 // The calls for programs in C or Rust: include/cemilovash.h.
+#![tactic(auto)]
+
 ghost use Rattle.std.specs.Prelude.{◌≡◌, length};
 ghost use Rattle.ident.specs.Convert.{convert};
 ghost use Rattle.calls.specs.TextCall.{text_call, text_left};

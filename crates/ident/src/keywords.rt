@@ -7,7 +7,7 @@ ghost use Rattle.ident.specs.Added.{before, behind};
 ghost use Rattle.ident.specs.Numbers.{number_of, sizes, front_of, numbered, begins_kept};
 
 // What is added to a name: nothing, `r#` in front, `_` behind, `_` in front.
-#[derive(Drop)]
+#[derive(Clone, Copy)]
 pub enum Addition {
     Nothing,
     Raw,

@@ -1,4 +1,5 @@
 // ident.rs: the names that are written for names of the set.
+#![tactic(auto)]
 
 mod keywords;
 pub mod names;

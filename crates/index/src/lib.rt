@@ -1,4 +1,6 @@
 // Where the declarations of a set lie: how many there are, and a table of them in declaration order.
+#![tactic(auto)]
+
 ghost use Rattle.std.specs.Prelude.{◌≡◌, ℕ, ◌+◌, ◌*◌, ◌-◌, ◌<◌, ◌≤◌, ◌^◌, length, get_or};
 ghost use Rattle.index.specs.Places.{end_in};
 ghost use Rattle.index.specs.Tree.{forest_in, size, rows, put, fill, Indexed, file_forests, IndexedFiles, row_at, Holds, all_members};

@@ -1,4 +1,6 @@
 // A full name with a name behind it, such as `.a.b.M` and `f`, in a buffer.
+#![tactic(auto)]
+
 ghost use Rattle.std.specs.Prelude.{◌≡◌, ◌≤◌, length, take, []};
 ghost use Rattle.writer.specs.Wrote.{over, Wrote};
 ghost use Rattle.descriptor.specs.Decode.{decode_oneof, decode_file};

@@ -1,4 +1,6 @@
 // The known fields of descriptor.proto, and refusal 3: the first fault of a set.
+#![tactic(auto)]
+
 ghost use Rattle.std.specs.Prelude.{◌≡◌, ℕ, ◌+◌, ◌≤◌, ◌<◌, ◌^◌, length, get_or, set, true, false};
 ghost use Rattle.known_fields.specs.Known.{class};
 ghost use Rattle.known_fields.specs.Check.{levels_for, enter, judge, meet, check, check_set};
@@ -85,7 +87,7 @@ fn judged(class: u8, left: usize, wiretype: u64, met: bool) -> Verdict
 }
 
 // Which field numbers below 18 were met.
-#[derive(Drop)]
+#[derive(Clone, Copy)]
 pub struct Met {
     pub marks: [bool; 18],
 }

@@ -1,1 +1,2 @@
 // What a set has that passes no limit: specs/Within.
+#![tactic(auto)]

@@ -1,4 +1,6 @@
 // Refusal 4: the lowest limit that a set passes; and the answer over a set alone.
+#![tactic(auto)]
+
 ghost use Rattle.std.specs.Prelude.{◌≡◌, ℕ, ◌+◌, ◌*◌, ◌≤◌, true, false, length, ltb, eqb};
 ghost use Rattle.base.specs.Choose.{choose};
 ghost use Rattle.descriptor.specs.Limits.{limit_passed};

@@ -1,4 +1,6 @@
 // What stands between the quotes of the Rust literals that are written, by `escape_default`.
+#![tactic(auto)]
+
 ghost use Rattle.std.specs.Prelude.{◌≡◌, [], ◌∷◌};
 ghost use Rattle.base.specs.Each.{each};
 ghost use Rattle.writer.specs.Wrote.{Wrote};

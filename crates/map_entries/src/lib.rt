@@ -1,5 +1,7 @@
 // Map entries: which fields of a set name each message, by one pass over the fields, and the first file with a map entry that is not
 // named as it must be.
+#![tactic(auto)]
+
 ghost use Rattle.std.specs.Prelude.{◌≡◌, length, replicate, ℕ, ◌-◌, ◌≤◌};
 ghost use Rattle.base.specs.Choose.{choose};
 ghost use Rattle.base.specs.Lists.{all_of};

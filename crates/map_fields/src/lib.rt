@@ -1,4 +1,6 @@
 // A map field's tag and line. A map entry is its bytes e and the views of its key and its value.
+#![tactic(auto)]
+
 ghost use Rattle.std.specs.Prelude.{[]};
 ghost use Rattle.writer.specs.Wrote.{Wrote};
 ghost use Rattle.options.specs.Settings.{settings};

@@ -1,4 +1,6 @@
 // Names of a struct's members, and of a oneof's variants, that are the same. They are laid as rows into a lent buffer.
+#![tactic(auto)]
+
 ghost use Rattle.std.specs.Prelude.{◌≡◌, true, false, [], ◌+◌, ◌-◌, ◌≤◌, ◌<◌, ◌^◌, length};
 ghost use Rattle.base.specs.Choose.{choose};
 ghost use Rattle.base.specs.Lists.{is_empty};

@@ -1,4 +1,6 @@
 // The fields of a message by their numbers in the table of fields: those of a oneof, and those of none.
+#![tactic(auto)]
+
 ghost use Rattle.std.specs.Prelude.{◌≡◌, ◌&&◌, ◌||◌, not, List, ◌++◌, ℕ, ◌+◌, ◌-◌, ◌≤◌, eqb, length, take};
 ghost use Rattle.base.specs.Bytes.{same};
 ghost use Rattle.base.specs.Lists.{is_empty, any};

@@ -1,4 +1,6 @@
 // message_graph.rs: which message leads to which through links, over tables with a row for each field of a set.
+#![tactic(auto)]
+
 ghost use Rattle.std.specs.Prelude.{◌≡◌, false, ◌&&◌, ◌<◌, ◌≤◌, eqb, length, get_or};
 ghost use Rattle.message_graph.specs.Limit.{messages};
 ghost use Rattle.message_graph.specs.Fields.{fields, message_at, is_link, link};

@@ -1,4 +1,6 @@
 // code_generator.rs, append_message: the messages of a file, and its text.
+#![tactic(auto)]
+
 ghost use Rattle.std.specs.Prelude.{◌≡◌, ◌&&◌, not, ◌+◌, ◌-◌, ◌≤◌, ◌<◌, ◌^◌, eqb};
 ghost use Rattle.base.specs.Lists.{any};
 ghost use Rattle.writer.specs.Wrote.{Wrote};

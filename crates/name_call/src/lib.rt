@@ -1,4 +1,6 @@
 // The name check: a set and options give yes or no, or a refusal.
+#![tactic(auto)]
+
 ghost use Rattle.std.specs.Prelude.{◌≡◌, length};
 ghost use Rattle.options.specs.Settings.{settings};
 ghost use Rattle.calls.specs.NameCall.{name_call};

@@ -1,4 +1,6 @@
 // Names in their modules, each a row of 384 bytes, so that same names are found by their checksums.
+#![tactic(auto)]
+
 ghost use Rattle.std.specs.Prelude.{◌≡◌, [], ◌∷◌, ◌++◌, ◌%◌, ◌<◌, length, take, drop};
 ghost use Rattle.base.specs.Bytes.{b, same};
 ghost use Rattle.writer.specs.Wrote.{Wrote};

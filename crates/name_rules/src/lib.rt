@@ -1,4 +1,6 @@
 // Refusal 6, as far as a name, a field or a value is judged by itself. A text is bytes of a part, where it is given.
+#![tactic(auto)]
+
 ghost use Rattle.std.specs.Prelude.{◌≡◌};
 ghost use Rattle.wire.specs.Records.{part};
 ghost use Rattle.utf8.specs.Utf8.{is_utf8};

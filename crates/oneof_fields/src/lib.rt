@@ -1,4 +1,6 @@
 // code_generator.rs, append_oneof_field: the fields of a struct for its message's oneofs.
+#![tactic(auto)]
+
 ghost use Rattle.std.specs.Prelude.{ℕ, ◌-◌, List, [], ◌++◌, map};
 ghost use Rattle.base.specs.Bytes.{b};
 ghost use Rattle.base.specs.Lists.{is_empty};

@@ -1,4 +1,6 @@
 // code_generator.rs, append_oneof: the enums of a message's oneofs.
+#![tactic(auto)]
+
 ghost use Rattle.std.specs.Prelude.{◌≡◌, [], suc, ◌-◌};
 ghost use Rattle.base.specs.Bytes.{b};
 ghost use Rattle.base.specs.Lists.{is_empty};

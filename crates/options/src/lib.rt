@@ -1,4 +1,6 @@
 // The options file: its rows by their places in its bytes. Nothing is copied.
+#![tactic(auto)]
+
 ghost use Rattle.std.specs.Prelude.{◌≡◌, ◌+◌, ◌*◌, ◌<◌};
 ghost use Rattle.writer.specs.Wrote.{Wrote};
 ghost use Rattle.options.specs.Settings.{number, row_count, kind_at, path_length, value_length, zero_at, bodies, settings, row, row_number, first_of_kind, prost_path, strips_prefix};
@@ -6,7 +8,7 @@ ghost use Rattle.options.specs.Settings.{number, row_count, kind_at, path_length
 pub mod check;
 
 // A row: its kind, where its path starts, where its value starts, and where that ends.
-#[derive(Drop)]
+#[derive(Clone, Copy)]
 pub struct Row {
     pub kind: u16,
     pub path: usize,

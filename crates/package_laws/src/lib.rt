@@ -1,1 +1,2 @@
 // Laws of the modules of packages, in specs.
+#![tactic(auto)]

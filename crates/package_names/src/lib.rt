@@ -1,4 +1,6 @@
 // Packages of a set whose modules have one name.
+#![tactic(auto)]
+
 ghost use Rattle.std.specs.Prelude.{◌≡◌, ◌≤◌, length, take, []};
 ghost use Rattle.base.specs.Bytes.{b, same};
 ghost use Rattle.ident.specs.Ident.{to_snake};

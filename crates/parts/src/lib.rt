@@ -1,4 +1,6 @@
 // The embedded messages of a message, by their field number.
+#![tactic(auto)]
+
 ghost use Rattle.std.specs.Prelude.{◌≡◌, length};
 ghost use Rattle.wire.specs.Contents.{value_of};
 ghost use Rattle.descriptor.specs.Decode.{entries, bytes_in, parts};

@@ -1,4 +1,6 @@
 // path.rs: which rows of the options a path finds.
+#![tactic(auto)]
+
 ghost use Rattle.std.specs.Prelude.{◌≡◌, true, [], ◌∷◌, ◌<◌, length};
 ghost use Rattle.base.specs.Choose.{choose};
 ghost use Rattle.options.specs.Settings.{settings, setting_of};

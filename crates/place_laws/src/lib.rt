@@ -1,1 +1,2 @@
 // The rows of declared places, of an accepted set: specs/.
+#![tactic(auto)]

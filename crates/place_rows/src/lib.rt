@@ -1,4 +1,6 @@
 // The rows of the places that a set's declarations have: structs, enums, oneof enums, modules of messages.
+#![tactic(auto)]
+
 ghost use Rattle.std.specs.Prelude.{◌≡◌, ◌&&◌, not, [], ◌+◌, ◌-◌, ◌≤◌, ◌<◌, ◌^◌, eqb};
 ghost use Rattle.base.specs.Lists.{is_empty};
 ghost use Rattle.writer.specs.Wrote.{Wrote};

@@ -1,4 +1,5 @@
 // code_generator.rs, resolve_ident and resolve_type: the paths and types that a text names, and the types in tags.
+#![tactic(auto)]
 
 ghost use Rattle.std.specs.Prelude.{◌≡◌, ◌||◌, eqb};
 ghost use Rattle.writer.specs.Wrote.{Wrote};

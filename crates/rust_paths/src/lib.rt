@@ -1,4 +1,6 @@
 // A Rust path by segments: in snake case, the last in camel case where it is a type.
+#![tactic(auto)]
+
 ghost use Rattle.std.specs.Prelude.{◌≡◌, true, [], ◌++◌, ◌≤◌, ◌<◌, length, drop};
 ghost use Rattle.base.specs.Bytes.{b};
 ghost use Rattle.base.specs.Choose.{choose};

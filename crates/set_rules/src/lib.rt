@@ -1,4 +1,6 @@
 // What is judged of a set alone: refusals 3, 4, 6 and 7.
+#![tactic(auto)]
+
 ghost use Rattle.std.specs.Prelude.{◌≡◌};
 ghost use Rattle.descriptor.specs.Decode.{decode_set};
 ghost use Rattle.descriptor.specs.Limits.{limit_passed};

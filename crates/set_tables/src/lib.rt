@@ -1,4 +1,6 @@
 // The two tables that the text's writers read, from the bytes of a set and of the options.
+#![tactic(auto)]
+
 ghost use Rattle.std.specs.Prelude.{◌≡◌, ◌≤◌, ◌<◌, length};
 ghost use Rattle.limits.specs.Short.{short};
 ghost use Rattle.message_graph.specs.Tab.{tab};

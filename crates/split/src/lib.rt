@@ -1,4 +1,6 @@
 // The parts of a text between the places where a separator stands.
+#![tactic(auto)]
+
 ghost use Rattle.std.specs.Prelude.{◌≡◌, ◌+◌, ◌<◌, drop};
 ghost use Rattle.base.specs.Bytes.{b};
 ghost use Rattle.path.specs.Forms.{among};

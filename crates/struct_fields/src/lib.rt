@@ -1,4 +1,6 @@
 // code_generator.rs, append_field and append_map_field: the fields of a struct.
+#![tactic(auto)]
+
 ghost use Rattle.std.specs.Prelude.{◌≡◌, Bool, ◌-◌};
 ghost use Rattle.writer.specs.Wrote.{Wrote};
 ghost use Rattle.wire.specs.Contents.{value_of};

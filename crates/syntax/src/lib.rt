@@ -1,4 +1,6 @@
 // syntax.rs: the syntax of a file.
+#![tactic(auto)]
+
 ghost use Rattle.std.specs.Prelude.{◌≡◌};
 ghost use Rattle.base.specs.Given.{given};
 ghost use Rattle.syntax.specs.Syntax.{syntax_of};

@@ -1,4 +1,6 @@
 // The columns of the messages that the type names of a set's fields name, and of the fields' types and labels.
+#![tactic(auto)]
+
 ghost use Rattle.std.specs.Prelude.{◌≡◌, ◌-◌, max, length, set as store};
 ghost use Rattle.descriptor.specs.Views.{field_of};
 ghost use Rattle.message_graph.specs.Tab.{tab};

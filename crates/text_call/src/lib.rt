@@ -1,4 +1,6 @@
 // The text call: a set, options, a file index and a text buffer give a length, or a refusal.
+#![tactic(auto)]
+
 ghost use Rattle.std.specs.Prelude.{◌≡◌, ◌^◌, ◌<◌, length, true, []};
 ghost use Rattle.descriptor.specs.Decode.{entries, parts, decode_set};
 ghost use Rattle.options.specs.Settings.{settings};

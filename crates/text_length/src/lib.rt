@@ -1,1 +1,2 @@
 // How long a text can be: specs/.
+#![tactic(auto)]

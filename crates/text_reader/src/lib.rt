@@ -1,1 +1,2 @@
 // Demand 3: a reader of the texts' bytes. The definitions stand in specs/.
+#![tactic(auto)]

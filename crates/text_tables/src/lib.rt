@@ -1,4 +1,6 @@
 // What the text's writers read of a message and of a field, by their numbers in declaration order.
+#![tactic(auto)]
+
 ghost use Rattle.std.specs.Prelude.{◌≡◌, ◌<◌};
 ghost use Rattle.text_tables.specs.Rows.{number_at, flag_at, message_row, field_row};
 

@@ -1,5 +1,7 @@
 // Type names: which declaration of a set has a full name. Rows with other checksums are passed over, by chains of the rows whose
 // checksums leave one remainder; full names are compared from their ends, and none is built.
+#![tactic(auto)]
+
 ghost use Rattle.std.specs.Prelude.{◌≡◌, true, false, List, ℕ, ◌+◌, ◌-◌, ◌/◌, ◌%◌, ◌≤◌, ◌<◌, ltb, eqb, length, get_or};
 ghost use Rattle.base.specs.Choose.{choose};
 ghost use Rattle.base.specs.Bytes.{same};

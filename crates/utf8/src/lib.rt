@@ -1,4 +1,6 @@
 // UTF-8: the character at a place.
+#![tactic(auto)]
+
 ghost use Rattle.std.specs.Prelude.{◌≡◌, get_or};
 ghost use Rattle.utf8.specs.Utf8.{between, second_low, second_high, second, later, two, three, four, char_at};
 

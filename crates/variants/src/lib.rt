@@ -1,4 +1,6 @@
 // code_generator.rs, append_oneof: the variants of a oneof's enum.
+#![tactic(auto)]
+
 ghost use Rattle.std.specs.Prelude.{[], ◌-◌};
 ghost use Rattle.writer.specs.Wrote.{Wrote};
 ghost use Rattle.options.specs.Settings.{settings};

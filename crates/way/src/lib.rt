@@ -1,4 +1,6 @@
 // The path from a scope to a declaration, from module to module.
+#![tactic(auto)]
+
 ghost use Rattle.std.specs.Prelude.{◌≡◌, ◌+◌, ◌≤◌, length, drop};
 ghost use Rattle.base.specs.Bytes.{b};
 ghost use Rattle.writer.specs.Wrote.{Wrote};

@@ -1,4 +1,6 @@
 // The Protocol Buffers encoding: varints, and the records (key and payload) of a message. A message is its bytes.
+#![tactic(auto)]
+
 ghost use Rattle.std.specs.Prelude.{◌≡◌, ℕ, ◌+◌, ◌≤◌, ◌<◌, ◌^◌, length, get_or};
 ghost use Rattle.wire.specs.Varint.{groups, varint, cap};
 ghost use Rattle.wire.specs.Step.{step_at, keyed, payload, sized};
@@ -12,7 +14,7 @@ pub enum Varint {
 
 // A record of a message: where its key starts, its field number, its wire type (0, 1, 2 or 5), its value (of wire type
 // 0) or its payload's length (of wire type 2; otherwise 0), where its payload starts, and the position after it.
-#[derive(Drop)]
+#[derive(Clone, Copy)]
 pub struct Record {
     pub key: usize,
     pub number: u64,

@@ -1,5 +1,7 @@
 // Writing text into a lent buffer. Each writer lays its text over the buffer from a place, cut off at the buffer's end, and
 // answers the place after the text, counted past the end: so the same function measures and writes.
+#![tactic(auto)]
+
 ghost use Rattle.std.specs.Prelude.{◌≡◌, ℕ, ◌+◌, ◌<◌, ◌≤◌, min, length, take, drop, [], ◌∷◌, ◌++◌};
 ghost use Rattle.writer.specs.Wrote.{over, after, Wrote};
 ghost use Rattle.writer.specs.Text.{pick, indent};

@@ -1,0 +1,11 @@
+use Rattle.message_graph.specs.Tab.{Filled}
+use Prim.Native.Nat.{◌-◌}
+use lib.ListN.{length}
+use Rattle.context_tables.specs.Cells.{message_cell}
+use Rattle.context_tables.proofs.fill_message_cells.Given as goal
+
+abbrev pub invariant-loop-i : goal.invariant-loop-i
+invariant-loop-i l = Filled (message_cell l.rows l.first l.copy l.eq) l.initial.t l.t l.i
+
+abbrev pub decreases-loop-i : goal.decreases-loop-i
+decreases-loop-i l = length l.initial.t - l.i

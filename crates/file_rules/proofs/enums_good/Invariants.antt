@@ -1,0 +1,14 @@
+use Rattle.parts.proofs.PartLaws.{parts_from}
+use Rattle.file_rules.specs.Walks.{enum_part_good}
+use Rattle.base.specs.Lists.{all}
+use Rattle.descriptor.specs.Decode.{entries, parts}
+use mathlib.Core.Path.{◌≡◌}
+use Prim.Native.Nat.{◌-◌}
+use lib.ListN.{length}
+use Rattle.file_rules.proofs.enums_good.Given as goal
+
+abbrev pub invariant-loop-f : goal.invariant-loop-f
+invariant-loop-f l = all enum_part_good (parts_from l.number l.s l.at) ≡ all enum_part_good (parts l.number (entries l.s))
+
+abbrev pub decreases-loop-f : goal.decreases-loop-f
+decreases-loop-f l = length l.s - l.at

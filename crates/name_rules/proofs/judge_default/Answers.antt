@@ -1,0 +1,20 @@
+use Rattle.base.specs.Steps.{whole}
+use Rattle.utf8.specs.Chars.{chars_end, chars_fault, chars_next, char_forward}
+use Rattle.name_rules.specs.Rules.{judged}
+use mathlib.Core.Path.{sym, ap, ◌∙◌}
+use native.Mathlib.Omega.{arith}
+use Rattle.name_rules.proofs.judge_default.Goals as goal
+
+pub returns-in_default : goal.returns-in_default
+unfolding judged
+returns-in_default c = ap judged (sym (ap whole (chars_fault _ _ c.loop-i-test.true _ c.char_at.ensures c.in_default.is)) ∙ c.loop-i.invariant)
+
+pub loop-i-smaller : goal.loop-i-smaller
+loop-i-smaller c = let l = char_forward _ _ c.loop-i-test.true _ c.char_at.ensures _ _ c.in-Character.is in omega arith
+
+pub loop-i-preserved : goal.loop-i-preserved
+loop-i-preserved c = sym (ap whole (chars_next _ _ c.loop-i-test.true _ c.char_at.ensures _ _ c.in-Character.is)) ∙ c.loop-i.invariant
+
+pub returns : goal.returns
+unfolding judged
+returns c = ap judged (sym (ap whole (chars_end _ _ c.loop-i-test.false)) ∙ c.loop-i.invariant)

@@ -1,0 +1,16 @@
+use native.Mathlib.Omega.{arith}
+use Rattle.type_names.proofs.ChainLaws.{chained_within}
+use Rattle.type_names.proofs.RowSumLaws.{others_last}
+use Rattle.type_names.proofs.last_like.Goals as goal
+
+pub bucket-b-requires : goal.bucket-b-requires
+bucket-b-requires c = let w = chained_within _ _ c.chained-n.ensures in (omega (arith, c.if-n-eq0.false), w.1)
+
+pub offset_bounds-sums-b : goal.offset_bounds-sums-b
+offset_bounds-sums-b c = omega (arith, c.bucket-b.ensures.upper_bound, (chained_within _ _ c.chained-n.ensures).1)
+
+pub bounds-sums-b : goal.bounds-sums-b
+bounds-sums-b c = omega (arith, c.bucket-b.ensures.upper_bound, (chained_within _ _ c.chained-n.ensures).0)
+
+pub returns : goal.returns
+returns c = record { upper_bound = c.if-count-last.false; by_index = λ set t are. others_last set t _ are _ _ _ _ _ c.chained-n.ensures c.bucket-b.ensures.value c.bucket-b.ensures.upper_bound c.last_in-last.ensures.value c.if-count-n.false }

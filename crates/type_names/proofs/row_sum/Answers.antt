@@ -1,0 +1,8 @@
+use Rattle.type_names.proofs.RowSumLaws.{sum_past, sum_whole}
+use Rattle.type_names.proofs.row_sum.Goals as goal
+
+pub returns-then-i-gt65535 : goal.returns-then-i-gt65535
+returns-then-i-gt65535 c = sum_past _ _ _ c.if-i-gt65535.true
+
+pub returns : goal.returns
+returns c = sum_whole _ _ _ _ c.requires c.if-i-gt65535.false _ _ _ c.cell.ensures c.above-up.ensures c.sum_above-around.ensures _ _ _ _ _ c.cell-start.ensures c.cell-len.ensures c.checksum_from-dotted.ensures.value c.text_bytes.ensures c.checksum_from.ensures.value
