@@ -27,7 +27,7 @@ pub overflow_mul-high : goal.overflow_mul-high
 overflow_mul-high t c = record { fits = lt_of_le_of_lt (le-add_right _ 127) (search room) }
 
 pub overflow_add-value : goal.overflow_add-value
-overflow_add-value t c =     let l : c.in-Value.v * 128 + 127 < 2 ^ 64 = search room in
+overflow_add-value t c = let l : c.in-Value.v * 128 + 127 < 2 ^ 64 = search room in
     omega arith
 
 pub returns-in-Fault : goal.returns-in-Fault

@@ -9,4 +9,4 @@ unfolding over
 loop-j-init c = search rules
 
 pub loop-j-preserved : goal.loop-j-preserved
-loop-j-preserved c =     (search rules, over_more _ _ _ _ _ c.loop-j.invariant.1 (omega arith), simp length-set (omega arith))
+loop-j-preserved c = (search rules, over_more _ _ _ _ _ c.loop-j.invariant.1 (omega arith), simp length-set (omega arith))

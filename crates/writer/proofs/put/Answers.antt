@@ -10,5 +10,5 @@ pub returns-then-t-at : goal.returns-then-t-at
 returns-then-t-at c = record { room = search rules; text = sym (over_out _ _ _ (omega arith)); next = search rules }
 
 pub returns : goal.returns
-returns c =     let a = c.args in
+returns c = let a = c.args in
     record { room = search rules; text = over_front _ _ _ _ (length a.t.now - a.at) c.copy-2.ensures (omega arith) (omega arith); next = search rules }
