@@ -2,8 +2,8 @@
  * Cemilovash: Rust types for Protocol Buffers messages, as prost-build 0.14.4 writes them.
  *
  * Build:
- *     rt staticlib generator
- *     gcc -O2 -I include -o example include/example.c target/staticlib/libgenerator.a
+ *     (cd crates/generator && rt lib)
+ *     gcc -O2 -I include -o example include/example.c crates/generator/out/libgenerator.a
  *
  * Every function takes all inputs, ends, and keeps nothing between calls. Pointers are not null, also with a length of 0;
  * what one of them points to and is written lies apart from what the others point to. Have 4 MiB of stack: no proof bounds

@@ -1,5 +1,5 @@
 //! Brings the generator's nine files, unchanged, into the build folder and declares their modules.
-//! With the feature `compare` it links the library made by `rt staticlib generator` too.
+//! With the feature `compare` it links the library made by `rt lib` in crates/generator too.
 
 use std::{env, fs, path::Path, path::PathBuf};
 
@@ -34,7 +34,7 @@ fn link_library() {
     let folder = env::var_os("CEMILOVASH_LIB")
         .map(PathBuf::from)
         .unwrap_or_else(|| {
-            Path::new(&env::var_os("CARGO_MANIFEST_DIR").unwrap()).join("../target/staticlib")
+            Path::new(&env::var_os("CARGO_MANIFEST_DIR").unwrap()).join("../crates/generator/out")
         });
     println!(
         "cargo:rerun-if-changed={}",
