@@ -1,6 +1,6 @@
 -- If, then, else, and its laws: `choices` is what `search` goes through a definition's tests with.
 use Rattle.std.specs.Prelude.{◌≡◌, refl, Bool, true, false, ℕ, ◌≤◌, ◌<◌, ltb, leb, eqb}
-use Rattle.std.proofs.Common.{sym, ◌∙◌, ap, le-ltb, lt-ltb, le-leb, eq-eqb, ne_eqb}
+use Rattle.std.proofs.Common.{sym, ◌∙◌, le-ltb, lt-ltb, le-leb, eq-eqb, ne_eqb}
 use Rattle.std.proofs.lemmas.Bool.{lt-leb}
 
 unfoldable pub choose {ℓ} : {A : Type ℓ} → Bool → A → A → A

@@ -1,6 +1,6 @@
 -- Lists of numbers, element by element: a text for each, and what holds of all. Assumes nothing.
 use Rattle.std.specs.Prelude.{◌≡◌, refl, List, [], ◌∷◌, ◌++◌, ℕ}
-use Rattle.std.proofs.Common.{sym, ap, ◌∙◌, append_assoc, append-nil}
+use Rattle.std.proofs.Common.{ap, ◌∙◌, append_assoc, append-nil}
 
 -- the texts of all elements, one after the other
 abbrev pub each : (ℕ → List ℕ) → List ℕ → List ℕ

@@ -1,26 +1,23 @@
 -- A bytes default as protoc writes it, C-escaped (descriptor.proto, `default_value`), unescapes to its bytes. Assumes nothing.
-use Rattle.std.specs.Prelude.{◌≡◌, refl, Bool, true, false, leb, ltb, eqb, get_or, drop}
-use Rattle.std.proofs.Common.{sym, ap, ◌∙◌, lt-ltb, ne_eqb}
-use Rattle.std.proofs.Math.Option.{Option, some, none}
+use Rattle.std.specs.Prelude.{◌≡◌, refl, true, false, drop}
+use Rattle.std.proofs.Common.{sym, ap, ◌∙◌}
+use Rattle.std.proofs.Math.Option.{some, none}
 use mathlib.Core.List.{List, [], ◌∷◌, ◌++◌}
-use Prim.Native.Nat.{ℕ, ◌+◌, ◌-◌, ◌*◌, ◌/◌, ◌%◌, ◌≤◌, ◌<◌}
+use Prim.Native.Nat.{ℕ, ◌+◌, ◌-◌, ◌*◌, ◌/◌, ◌%◌, ◌<◌}
 use native.Mathlib.Omega.{arith}
 use Rattle.std.proofs.Math.ListN.{length}
-use Rattle.std.proofs.lemmas.Bool.{lt-leb}
-use Rattle.base.specs.Bytes.{b}
 use Rattle.base.specs.Choose.{choose, choices, flags}
 use Rattle.base.specs.Each.{each, All}
 use Rattle.base.specs.Steps.{Run, whole, items}
-use Rattle.base.specs.Encoded.{byte_there, first_there, starts, run_of, whole_run, items_run, written_back}
+use Rattle.base.specs.Encoded.{byte_there, first_there, starts, whole_run, items_run, written_back}
 use Rattle.utf8.specs.Utf8.{between}
 use Rattle.utf8.specs.Decoding.{range}
 use Rattle.literal.specs.Escape.{escape}
-use Rattle.literal.specs.EscapeCases.{Plain, escape_case}
+use Rattle.literal.specs.EscapeCases.{escape_case}
 use Rattle.literal.specs.Reading.{Byte as IsByte}
-use Rattle.c_escaping.specs.Unescape.{byte_of, letter, is_octal, octal_at, escape_at, unescape_at, step_of, unescape_from, unescape_c_escape_string}
+use Rattle.c_escaping.specs.Unescape.{byte_of, letter, is_octal, octal_at, escape_at, unescape_at, step_of, unescape_c_escape_string}
 use Rattle.c_escaping.specs.Unescaping.{forward}
-use Rattle.c_escaping.specs.declared.Unescaped.{Unescaped}
-use Rattle.c_escaping.specs.declared.Unescaped.TheVariants.{Byte, Fault}
+use Rattle.c_escaping.specs.declared.Unescaped.TheVariants.{Byte}
 
 -- three octal digits
 unfoldable pub octal_escape : ℕ → List ℕ

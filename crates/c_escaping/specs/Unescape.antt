@@ -1,6 +1,6 @@
 -- c_escaping.rs, `unescape_c_escape_string`, with document 01's two refusals: `\x` takes exactly two hex digits, and an octal value
 -- above 255 is none. Past the end a byte is read as 0, which is no digit and no letter of an escape. Assumes nothing.
-use Rattle.std.specs.Prelude.{Bool, true, false, List, ℕ, ◌+◌, ◌-◌, ◌*◌, leb, ltb, eqb, length, get_or}
+use Rattle.std.specs.Prelude.{Bool, true, List, ℕ, ◌+◌, ◌-◌, ◌*◌, leb, ltb, eqb, length, get_or}
 use Rattle.std.proofs.Math.Option.{Option, some, none}
 use Rattle.base.specs.Choose.{choose}
 use Rattle.base.specs.Steps.{Step, item, fault, Run, run, whole, items}

@@ -1,13 +1,13 @@
 -- The pass over a default that is unescaped: each step leads on and gives a byte. Assumes nothing.
-use Rattle.std.specs.Prelude.{◌≡◌, refl, Bool, true, false, List, [], ◌∷◌, ℕ, zero, suc, ◌+◌, ◌-◌, ◌*◌, ◌≤◌, ◌<◌, leb, ltb, eqb, length, get_or}
+use Rattle.std.specs.Prelude.{◌≡◌, List, [], ◌∷◌, ℕ, zero, suc, ◌+◌, ◌≤◌, ◌<◌, leb, ltb, eqb, length, get_or}
 use Rattle.std.proofs.Common.{sym, ap, ◌∙◌}
 use native.Mathlib.Omega.{arith}
 use borrow.Author.Tests.{ltb-true}
-use Rattle.base.specs.Choose.{choose, choose_case}
+use Rattle.base.specs.Choose.{choose_case}
 use Rattle.base.specs.Each.{All}
-use Rattle.base.specs.Steps.{Step, item, fault, Run, ended, broken, ◌then◌, items, Forward, run_end, run_fault, run_item, run_ind}
+use Rattle.base.specs.Steps.{item, ended, broken, ◌then◌, items, Forward, run_end, run_fault, run_item, run_ind}
 use Rattle.literal.specs.Reading.{Byte as IsByte}
-use Rattle.c_escaping.specs.Unescape.{byte_of, letter, is_octal, octal_at, is_hex, hex_value, hex_at, escape_at, unescape_at, step_of, unescape_from, unescaped}
+use Rattle.c_escaping.specs.Unescape.{byte_of, letter, is_octal, octal_at, is_hex, hex_at, escape_at, unescape_at, step_of, unescape_from, unescaped}
 use Rattle.c_escaping.specs.declared.Unescaped.{Unescaped}
 use Rattle.c_escaping.specs.declared.Unescaped.TheVariants.{Byte, Fault}
 

@@ -4,7 +4,6 @@ use Prim.Native.String.{String}
 use Rattle.std.proofs.Math.Option.{Option, some, none}
 use Rattle.descriptor.specs.Descriptor.{Bytes, FieldDescriptor, FieldOptions}
 use Rattle.options.specs.Settings.{Setting, first_of_kind, prost_path}
-use Rattle.options.specs.declared.Found.{Found}
 use Rattle.context.specs.Context.{type_attributes, message_attributes, enum_attributes, field_attributes, should_skip_debug}
 use Rattle.code_generator.specs.Piece.{Text, nothing, piece, ◌⟫◌, when, ◌◃◌, raw, opaque, close, block_open, lit, push_indent}
 use Rattle.code_generator.specs.Resolve.{prost}

@@ -1,5 +1,5 @@
 -- code_generator.rs: build_enum_value_mappings and append_enum. Assumes nothing.
-use Rattle.std.specs.Prelude.{ℕ, zero, suc, Bool, true, false, not, ◌||◌, List, [], ◌∷◌, ◌==◌}
+use Rattle.std.specs.Prelude.{ℕ, suc, Bool, false, not, ◌||◌, List, [], ◌∷◌, ◌==◌}
 use Rattle.base.specs.Choose.{choose}
 use Rattle.writer.specs.Decimal.{signed}
 use Rattle.descriptor.specs.Descriptor.{Bytes, ValueDescriptor, EnumDescriptor}

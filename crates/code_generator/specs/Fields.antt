@@ -12,7 +12,7 @@ use Rattle.options.specs.Settings.{Setting, strips_prefix}
 use Rattle.extern_paths.specs.Split.{split}
 use Rattle.name_rules.specs.Accessors.{text, number, label, type, is_repeated, is_message}
 use Rattle.context.specs.Context.{bytes_type, should_box_message_field}
-use Rattle.code_generator.specs.Piece.{Text, nothing, piece, ◌⟫◌, when, either, ◌◃◌, raw, name, Spelling, snake, variant, opt, vec, box, comma, wrap_open, wrap_close, lit, push_indent}
+use Rattle.code_generator.specs.Piece.{Text, nothing, piece, ◌⟫◌, when, either, ◌◃◌, raw, name, Spelling, snake, variant, opt, vec, box, comma, wrap_open, wrap_close, lit}
 use Rattle.code_generator.specs.Piece.{label as label_piece}
 use Rattle.code_generator.specs.Resolve.{last_name, prost, resolve_type, field_type_tag}
 use Rattle.code_generator.specs.Attributes.{line, append_deprecated, append_field_attributes}

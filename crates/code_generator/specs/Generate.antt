@@ -12,7 +12,7 @@ use Rattle.extern_paths.specs.ExternPaths.{taken}
 use Rattle.name_rules.specs.Accessors.{text}
 use Rattle.name_rules.specs.FullNames.{◌·◌, package_scope}
 use Rattle.context.specs.Context.{can_message_derive_copy, can_message_derive_eq}
-use Rattle.code_generator.specs.Piece.{Text, nothing, piece, ◌⟫◌, when, ◌◃◌, raw, mod_open, decl_open, snake, camel, type, flat, lit, push_indent}
+use Rattle.code_generator.specs.Piece.{Text, nothing, piece, ◌⟫◌, when, raw, mod_open, decl_open, snake, camel, type, flat, lit}
 use Rattle.code_generator.specs.Attributes.{line, end, derive, append_type_attributes, append_message_attributes, append_prost_path_attribute, append_skip_debug}
 use Rattle.code_generator.specs.Fields.{append_field}
 use Rattle.code_generator.specs.MapFields.{MapEntry, map_entry_of, append_map_field}

@@ -1,5 +1,5 @@
 -- code_generator.rs: OneofField, append_oneof_field and append_oneof. Assumes nothing.
-use Rattle.std.specs.Prelude.{ℕ, zero, suc, Bool, true, false, ◌||◌, List, [], ◌∷◌, ◌==◌}
+use Rattle.std.specs.Prelude.{ℕ, suc, Bool, true, false, ◌||◌, List, [], ◌∷◌, ◌==◌}
 use Rattle.std.proofs.Math.Option.{Option, some, none}
 use Rattle.base.specs.Bytes.{b, same}
 use Rattle.base.specs.Choose.{choose}
@@ -11,7 +11,7 @@ use Rattle.options.specs.Settings.{Setting}
 use Rattle.name_rules.specs.Accessors.{text, number}
 use Rattle.name_rules.specs.FullNames.{◌·◌}
 use Rattle.context.specs.Context.{bytes_type, should_box_oneof_field, can_field_derive_copy, can_field_derive_eq}
-use Rattle.code_generator.specs.Piece.{Text, nothing, piece, ◌⟫◌, ◌▹◌, ◌◃◌, raw, decl_open, path, Way, Spelling, snake, camel, oneof_type, choice, opt, comma, tag_open, tag_close, wrap_open, wrap_close, lit, push_indent}
+use Rattle.code_generator.specs.Piece.{Text, nothing, piece, ◌⟫◌, ◌▹◌, ◌◃◌, raw, decl_open, path, Spelling, snake, camel, oneof_type, choice, opt, comma, tag_open, tag_close, wrap_open, wrap_close, lit, push_indent}
 use Rattle.code_generator.specs.Piece.{label as label_piece}
 use Rattle.code_generator.specs.Resolve.{resolve_type, field_type_tag}
 use Rattle.code_generator.specs.Attributes.{line, end, derive, append_deprecated, append_type_attributes, append_enum_attributes, append_field_attributes, append_prost_path_attribute, append_skip_debug}

@@ -5,7 +5,6 @@ use Rattle.base.specs.Choose.{choose}
 use Rattle.field_types.specs.Types.{sort_of, tag_word, rust_word, text as string, bytes, group, message, enumerated}
 use Rattle.descriptor.specs.Descriptor.{Bytes, FieldDescriptor}
 use Rattle.options.specs.Settings.{Setting, first_of_kind, prost_path}
-use Rattle.options.specs.declared.Found.{Found}
 use Rattle.extern_paths.specs.Split.{split}
 use Rattle.extern_paths.specs.ExternPaths.{taken, resolve_ident as extern_ident}
 use Rattle.name_rules.specs.Accessors.{text, type as type_of}

@@ -1,11 +1,10 @@
 -- context.rs: what a set and its options say of a message and a field. Assumes nothing.
-use Rattle.std.specs.Prelude.{ℕ, zero, suc, Bool, true, false, ◌||◌, ◌&&◌, List, [], ◌∷◌, length}
+use Rattle.std.specs.Prelude.{ℕ, zero, suc, Bool, true, false, ◌||◌, ◌&&◌, List, length}
 use Rattle.base.specs.Choose.{choose}
 use Rattle.base.specs.Lists.{all}
 use Rattle.field_types.specs.Types.{can_pack, type_eq}
 use Rattle.descriptor.specs.Descriptor.{Bytes, FieldDescriptor, FileDescriptor}
 use Rattle.options.specs.Settings.{Setting}
-use Rattle.options.specs.declared.Found.{Found}
 use Rattle.path.specs.PathMap.{get, get_first}
 use Rattle.name_rules.specs.Accessors.{text, type, is_repeated, is_message, is_group}
 use Rattle.name_rules.specs.FullNames.{◌·◌, set_entries}

@@ -1,9 +1,8 @@
 -- message_graph.rs: which message leads to which, by full names. Assumes nothing.
-use Rattle.std.specs.Prelude.{ℕ, Bool, true, false, ◌||◌, ◌&&◌, not, List, [], ◌∷◌, ◌++◌}
-use Rattle.std.proofs.Math.Option.{Option, some, none}
+use Rattle.std.specs.Prelude.{Bool, ◌||◌, ◌&&◌, not, List, [], ◌∷◌, ◌++◌}
 use Rattle.base.specs.Bytes.{same}
 use Rattle.base.specs.Choose.{choose}
-use Rattle.descriptor.specs.Descriptor.{Bytes, Forest, done, node, FieldDescriptor, MessageDescriptor, FileDescriptor}
+use Rattle.descriptor.specs.Descriptor.{Bytes, FieldDescriptor, FileDescriptor}
 use Rattle.name_rules.specs.Accessors.{text, is_repeated, is_message}
 use Rattle.name_rules.specs.FullNames.{Entry, set_entries}
 

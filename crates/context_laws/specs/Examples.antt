@@ -27,7 +27,7 @@ field name label type type_name = record {
 abbrev entry : Bytes → List FieldDescriptor → Entry
 entry full fs = record { full = full; message = record { name = none; fields = fs; enums = []; map_entry = false; oneofs = [] } }
 
--- .A has a.C, repeated.A, an int32 and a.B; .B has an .A; .C a string
+-- .A has a .C, repeated .A, an int32 and a .B; .B has an .A; .C a string
 abbrev messages : List Entry
 messages =
     entry (b ".A") (field (b "c") 1 11 (some (b ".C")) ∷ field (b "x") 3 11 (some (b ".A")) ∷ field (b "n") 1 5 none ∷ field (b "b") 1 11 (some (b ".B")) ∷ [])

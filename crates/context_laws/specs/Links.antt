@@ -10,8 +10,6 @@ use Rattle.descriptor.specs.Descriptor.{Bytes, FieldDescriptor}
 use Rattle.name_rules.specs.Accessors.{is_repeated, is_message, is_group}
 use Rattle.name_rules.specs.FullNames.{Entry}
 use Rattle.context.specs.MessageGraph.{Link, is_link, field_links, links, leads}
-use Rattle.message_graph.specs.Fields.{link}
-use Rattle.message_graph.specs.Fields as numbers
 use Rattle.message_graph.specs.Leads.{Leads, leadsb}
 use Rattle.message_graph.specs.Leads.Leads.{here, step}
 use Rattle.message_graph.specs.Walks.{Walk, walks, walks_sound, walks_complete}

@@ -76,14 +76,14 @@ no_entry set rows i row row_is start end start_is end_is empty =
     ∙ ap (λ (a : ℕ). (decode_message (part set row.start (a - row.start))).map_entry) end_is
     ∙ ap (λ (x : Row). (decode_message (row_bytes set x)).map_entry) row_is
 
-module _ (f : Fields) (settings copy eq : List Bool) (Copy_is : copy ≡ can Copy f settings) (eq_is : eq ≡ can Eq f settings) where
+module _ (f : Fields) (settings copy eq : List Bool) (copy_is : copy ≡ can Copy f settings) (eq_is : eq ≡ can Eq f settings) where
   pub messages_filled : (size : ℕ) (rows table first : List ℕ) (n m : ℕ) → m ≡ messages → first ≡ tab m (start_at table n)
       → (r : List ℕ) → r ≡ tab size (message_cell rows first copy eq) → r ≡ message_table size rows table n f settings
   unfolding message_table
   messages_filled size rows table first n m whole first_is r is =
-      is ∙ rw (first_is, whole, Copy_is, eq_is)
+      is ∙ rw (first_is, whole, copy_is, eq_is)
 
   pub fields_filled : (size m : ℕ) (set rows table : List ℕ) (boxed entries : List Bool) → boxed ≡ tab m (boxed_by_loop f)
       → (r : List ℕ) → r ≡ tab size (field_cell set rows table f.target f.kind f.label boxed settings copy eq entries) → r ≡ field_table size m set rows table f settings entries
   unfolding field_table
-  fields_filled size m set rows table boxed entries boxed_is r is = is ∙ rw (boxed_is, Copy_is, eq_is)
+  fields_filled size m set rows table boxed entries boxed_is r is = is ∙ rw (boxed_is, copy_is, eq_is)

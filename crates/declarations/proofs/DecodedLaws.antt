@@ -1,20 +1,19 @@
 -- The table of a set lists the declarations that its bytes hold. Assumes nothing.
-use mathlib.Core.Path.{◌≡◌, refl, sym, ap, ◌∙◌, subst}
-use mathlib.Core.Bool.{Bool, true, false}
-use mathlib.Core.List.{List, [], ◌∷◌, ◌++◌, map, append-nil, append_assoc}
-use Prim.Native.Nat.{ℕ, zero, suc, ◌+◌, ◌*◌, ◌-◌, ◌≤◌, ◌<◌}
+use mathlib.Core.Path.{◌≡◌, refl, sym, ap, ◌∙◌}
+use mathlib.Core.Bool.{true, false}
+use mathlib.Core.List.{List, [], ◌∷◌, ◌++◌, map, append_assoc}
+use Prim.Native.Nat.{ℕ, zero, suc, ◌+◌, ◌-◌, ◌≤◌, ◌<◌}
 use native.Mathlib.Omega.{arith}
 use lib.ListN.{length, length-append}
 use borrow.Author.Tests.{ne_eqb}
 use Rattle.base.specs.Choose.{choose}
-use Rattle.descriptor.specs.Descriptor.{Bytes, Forest, done, node, MessageDescriptor, EnumDescriptor}
-use Rattle.descriptor.specs.Decode.{parts, decode_message, decode_messages, decode_enum}
-use Rattle.descriptor.specs.Decode as decode
+use Rattle.descriptor.specs.Descriptor.{Bytes}
+use Rattle.descriptor.specs.Decode.{decode_message, decode_messages, decode_enum}
 use Rattle.index.specs.Tree.{Place}
 use Rattle.name_rules.specs.Accessors.{text}
 use Rattle.name_rules.specs.FullNames.{◌·◌, Entry, entries}
 use Rattle.declarations.specs.Rows.{State, put, bytes_at, places, push, push_message, declaration_row, declare_enums, declare_messages}
-use Rattle.declarations.specs.Listed.{name_of, full, Listed, listed_row, listed, listed_enums, listed_entries}
+use Rattle.declarations.specs.Listed.{name_of, full, Listed, listed_row, listed_enums, listed_entries}
 use Rattle.declarations.specs.declared.Row.{Row}
 use Rattle.declarations.proofs.PartLaws.{places_are, message_name, enum_name}
 use Rattle.declarations.proofs.GrownLaws.{Wide, Grown, grown_none, grown_more, grown_as, has, pushed, pushed_full}

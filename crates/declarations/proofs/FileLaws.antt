@@ -2,7 +2,7 @@
 use mathlib.Core.Path.{◌≡◌, refl, sym, ap, ◌∙◌}
 use mathlib.Core.Bool.{Bool, true, false, not}
 use mathlib.Core.List.{List, [], ◌∷◌}
-use Prim.Native.Nat.{ℕ, ◌+◌, ◌-◌, ◌≤◌}
+use Prim.Native.Nat.{ℕ, ◌+◌, ◌≤◌}
 use native.Mathlib.Omega.{arith}
 use lib.ListN.{length}
 use borrow.Author.Tests.{not-true, not-false}
@@ -12,8 +12,7 @@ use Rattle.descriptor.specs.Views.{file_in}
 use Rattle.descriptor.specs.declared.FileView.{FileView}
 use Rattle.index.specs.Tree.{Place}
 use Rattle.name_rules.proofs.ViewedLaws.{whole_part}
-use Rattle.declarations.specs.Rows.{State, state, Became, bytes_at, has_room, put, push, places_of, places, package_of, package_row, declare_enums, declare_messages, declare_members, declare_file, declare_files, declared, no_rows}
-use Rattle.declarations.specs.declared.Row.{Row}
+use Rattle.declarations.specs.Rows.{State, state, Became, bytes_at, has_room, put, places_of, places, package_of, package_row, declare_enums, declare_messages, declare_members, declare_file, declare_files, declared, no_rows}
 use Rattle.declarations.specs.declared.Count.{Count}
 use Rattle.declarations.proofs.PlaceLaws.{places_all}
 use Rattle.declarations.proofs.EnumLaws.{held}

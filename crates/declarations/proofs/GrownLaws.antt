@@ -1,22 +1,18 @@
 -- Rows pushed to a table list the declarations in turn. Assumes nothing.
 use mathlib.Core.Path.{◌≡◌, refl, sym, ap, ◌∙◌}
-use mathlib.Core.Bool.{Bool, true, false}
-use mathlib.Core.List.{List, [], ◌∷◌, ◌++◌, append-nil, append_assoc}
-use Prim.Native.Nat.{ℕ, zero, suc, ◌+◌, ◌*◌, ◌-◌, ◌≤◌, ◌<◌}
+use mathlib.Core.Bool.{true}
+use mathlib.Core.List.{List, [], ◌++◌, append-nil, append_assoc}
+use Prim.Native.Nat.{ℕ, suc, ◌+◌, ◌*◌, ◌≤◌, ◌<◌}
 use native.Mathlib.Numerals.{add-one}
 use native.Mathlib.Omega.{arith}
-use native.Mathlib.Nat.{add-zero}
-use lib.ListN.{length, length-append}
-use Rattle.base.specs.Choose.{choose}
-use Rattle.wire.specs.Records.{part}
+use lib.ListN.{length}
 use Rattle.descriptor.specs.Descriptor.{Bytes}
-use Rattle.descriptor.specs.Decode.{decode_message}
 use Rattle.name_rules.specs.FullNames.{◌·◌}
-use Rattle.declarations.specs.Rows.{State, row_at, has_room, put, push, push_message}
-use Rattle.declarations.specs.Listed.{name_of, above, full, Listed, listed_row, listed}
+use Rattle.declarations.specs.Rows.{State, row_at, has_room, put}
+use Rattle.declarations.specs.Listed.{name_of, full, Listed, listed_row, listed}
 use Rattle.declarations.specs.declared.Row.{Row}
 use Rattle.declarations.proofs.RoomLaws.{room_there, put_length}
-use Rattle.declarations.proofs.TableLaws.{row_here, row_before}
+use Rattle.declarations.proofs.TableLaws.{row_here}
 use Rattle.declarations.proofs.FullLaws.{above_is, full_step, full_put, listed_put}
 
 -- room for cap rows in all

@@ -1,16 +1,15 @@
 -- What is listed is what the set declares: sorts and full names in turn, and messages by their numbers. Assumes nothing.
-use mathlib.Core.Path.{◌≡◌, refl, sym, ap, ◌∙◌}
-use mathlib.Core.Bool.{Bool, true, false}
+use mathlib.Core.Path.{◌≡◌, refl, ap, ◌∙◌}
+use mathlib.Core.Bool.{true, false}
 use mathlib.Core.List.{List, [], ◌∷◌, ◌++◌, map, append_assoc}
 use Prim.Native.Nat.{ℕ, ◌+◌}
 use native.Mathlib.Omega.{arith}
-use lib.ListN.{length, length-append}
+use lib.ListN.{length}
 use Rattle.base.specs.Bytes.{same}
 use Rattle.base.specs.Choose.{choose}
-use Rattle.base.specs.Lists.{all_of, map_length}
-use Rattle.descriptor.specs.Descriptor.{Bytes, FieldDescriptor, EnumDescriptor, FileDescriptor}
+use Rattle.descriptor.specs.Descriptor.{Bytes, EnumDescriptor, FileDescriptor}
 use Rattle.name_rules.specs.Accessors.{text}
-use Rattle.name_rules.specs.FullNames.{◌·◌, package_scope, Entry, set_entries, Declaration, enum_declarations, entry_declarations, file_declarations, set_declarations, fields_of_entries, set_fields}
+use Rattle.name_rules.specs.FullNames.{◌·◌, package_scope, Entry, set_entries, Declaration, enum_declarations, entry_declarations, file_declarations, set_declarations}
 use Rattle.declarations.specs.Listed.{Listed, listed_enums, listed_entries, file_entries, listed_file, listed_files, declaration_of, number_of, entry_number}
 
 map_append : (ls ks : List Listed) → map declaration_of (ls ++ ks) ≡ map declaration_of ls ++ map declaration_of ks

@@ -2,7 +2,6 @@
 use mathlib.Core.Path.{◌≡◌, refl, sym, ap, ◌∙◌}
 use mathlib.Core.Bool.{Bool, true, false}
 use mathlib.Core.List.{List, [], ◌∷◌, map}
-use mathlib.Core.Option.{Option, some, none}
 use Prim.Native.Nat.{ℕ, ◌+◌, ◌-◌, ◌≤◌}
 use native.Mathlib.Omega.{arith}
 use lib.ListN.{length, take, drop}
@@ -15,7 +14,7 @@ use Rattle.wire.specs.declared.Record.{Record}
 use Rattle.wire.specs.declared.Step.{Step}
 use Rattle.wire.specs.declared.Step.TheVariants.{End, Fault, Found}
 use Rattle.descriptor.specs.Decode.{entries, entries_of, bytes_in, parts, decode_message, decode_enum, decode_file}
-use Rattle.descriptor.specs.Views.{given_at, record_at, length_in, text_at, text_of, name_in, message_in, file_in}
+use Rattle.descriptor.specs.Views.{given_at, record_at, length_in, text_at, text_of, name_in, message_in}
 use Rattle.descriptor.specs.Latest.{latest_of}
 use Rattle.descriptor.proofs.ViewLaws.{bytes_of}
 use Rattle.descriptor.proofs.ViewTheorems.{part_part, message_name_is, enum_name_is, file_package_is}

@@ -1,10 +1,9 @@
 -- The embedded messages from a position on, one record on. Assumes nothing.
-use mathlib.Core.Path.{◌≡◌, refl, sym, ap, ◌∙◌}
+use mathlib.Core.Path.{◌≡◌, ap, ◌∙◌}
 use mathlib.Core.List.{List, [], ◌∷◌}
 use Prim.Native.Nat.{ℕ, ◌+◌, ◌-◌, ◌≤◌}
 use native.Mathlib.Omega.{arith}
-use native.Mathlib.Nat.{min-le_right}
-use lib.ListN.{length, drop, length-take, length-drop}
+use lib.ListN.{length}
 use borrow.Author.Tests.{eq-eqb, ne_eqb}
 use Rattle.base.specs.Choose.{choose}
 use Rattle.wire.specs.Step.{step_at}
@@ -14,7 +13,7 @@ use Rattle.wire.proofs.RecordsLaws.{records_end, records_fault, records_found, l
 use Rattle.wire.specs.declared.Record.{Record}
 use Rattle.wire.specs.declared.Step.{Step}
 use Rattle.wire.specs.declared.Step.TheVariants.{End, Fault, Found}
-use Rattle.index.specs.Tree.{Place, place}
+use Rattle.index.specs.Tree.{Place}
 use Rattle.index.specs.Places.{end_in}
 use Rattle.declarations.specs.Rows.{places_of, places}
 

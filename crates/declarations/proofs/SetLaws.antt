@@ -2,8 +2,8 @@
 use mathlib.Core.Path.{◌≡◌, refl, sym, ap, ◌∙◌}
 use mathlib.Core.Bool.{Bool, true, false}
 use mathlib.Core.List.{List, [], ◌∷◌, ◌++◌, map, append-nil, append_assoc}
-use mathlib.Core.Option.{Option, some, none}
-use Prim.Native.Nat.{ℕ, zero, suc, ◌+◌, ◌*◌, ◌-◌, ◌≤◌, ◌<◌}
+use mathlib.Core.Option.{some, none}
+use Prim.Native.Nat.{ℕ, ◌+◌, ◌*◌, ◌≤◌, ◌<◌}
 use native.Mathlib.Omega.{arith}
 use lib.ListN.{length, length-append}
 use Rattle.base.specs.Choose.{choose}
@@ -13,15 +13,15 @@ use Rattle.descriptor.specs.Descriptor.{Bytes, FileDescriptor}
 use Rattle.descriptor.specs.Decode.{parts, decode_messages, decode_enum, decode_file, decode_set}
 use Rattle.descriptor.specs.Decode as decode
 use Rattle.index.specs.Tree.{Place}
-use Rattle.name_rules.specs.FullNames.{◌·◌, package_scope, Entry, entries}
+use Rattle.name_rules.specs.FullNames.{◌·◌, package_scope}
 use Rattle.name_rules.proofs.ViewedLaws.{whole_part}
-use Rattle.declarations.specs.Rows.{State, has_room, bytes_at, places, put, push, package_of, package_row, declare_enums, declare_messages, declare_members, declare_file, declare_files, declared, no_rows}
+use Rattle.declarations.specs.Rows.{State, has_room, bytes_at, places, push, package_of, package_row, declare_enums, declare_messages, declare_members, declare_file, declare_files, declared, no_rows}
 use Rattle.declarations.specs.Listed.{name_of, full, Listed, listed_row, listed, listed_enums, listed_entries, file_entries, listed_file, listed_files}
 use Rattle.declarations.specs.declared.Row.{Row}
 use Rattle.declarations.proofs.RoomLaws.{room_there}
 use Rattle.declarations.proofs.FullLaws.{full_none}
 use Rattle.declarations.proofs.PartLaws.{places_are, package_is}
-use Rattle.declarations.proofs.GrownLaws.{Wide, Grown, grown_none, grown_more, grown_as, has, pushed, pushed_full}
+use Rattle.declarations.proofs.GrownLaws.{Wide, Grown, grown_more, grown_as, has, pushed, pushed_full}
 use Rattle.declarations.proofs.DecodedLaws.{enums_listed, messages_listed}
 
 -- with at most so many rows more

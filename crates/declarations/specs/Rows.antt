@@ -1,6 +1,6 @@
 -- The rows of a set's declarations in a table, in declaration order: files in turn, each message followed by its own enums and the messages nested
 -- in it, a file's own enums last; before them a row for its package, where it has one. A table that is full is left as it is.
-use Rattle.std.specs.Prelude.{ℕ, zero, suc, ◌+◌, ◌*◌, ◌-◌, ◌≤◌, ◌≡◌, Bool, true, false, List, [], ◌∷◌, length, set, get_or, eqb, ltb}
+use Rattle.std.specs.Prelude.{ℕ, zero, suc, ◌+◌, ◌*◌, ◌-◌, ◌≤◌, ◌≡◌, Bool, false, List, [], ◌∷◌, length, set, get_or, eqb, ltb}
 use Rattle.base.specs.Choose.{choose}
 use Rattle.wire.specs.Records.{records, part}
 use Rattle.wire.specs.declared.Step.{Step}

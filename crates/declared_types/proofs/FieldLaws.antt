@@ -1,17 +1,15 @@
 -- A field's view and its type, and the loop of `undeclared_by`. Assumes nothing.
-use mathlib.Core.Path.{◌≡◌, refl, sym, ap, ◌∙◌}
+use mathlib.Core.Path.{◌≡◌, ap, ◌∙◌}
 use mathlib.Core.Bool.{Bool, true, false, not}
-use mathlib.Core.List.{List, []}
-use mathlib.Core.Option.{Option, some, none}
-use Prim.Native.Nat.{ℕ, zero, suc, ◌+◌, ◌-◌, ◌≤◌, ◌<◌}
+use mathlib.Core.List.{List}
+use Prim.Native.Nat.{ℕ, suc, ◌+◌, ◌-◌, ◌≤◌, ◌<◌}
 use native.Mathlib.Omega.{arith}
 use lib.ListN.{length}
-use lib.Dec.{eqb, ltb}
 use borrow.Author.Tests.{eq-eqb, ne_eqb, not-true, not-false}
 use Rattle.base.specs.Choose.{choose}
 use Rattle.base.specs.Lists.{all}
 use Rattle.wire.specs.Records.{part}
-use Rattle.descriptor.specs.Descriptor.{Bytes, FieldDescriptor}
+use Rattle.descriptor.specs.Descriptor.{FieldDescriptor}
 use Rattle.descriptor.specs.Decode.{entries, parts, decode_field}
 use Rattle.descriptor.specs.Views.{text_of, number_of}
 use Rattle.descriptor.specs.Views as view
@@ -19,8 +17,8 @@ use Rattle.descriptor.specs.declared.FieldView.{FieldView}
 use Rattle.name_rules.specs.Accessors.{or_else, text, type}
 use Rattle.name_rules.proofs.ViewedLaws.{field_is}
 use Rattle.declarations.specs.Rows.{cell_at}
-use Rattle.type_names.specs.LookUp.{find_row, declared_before}
-use Rattle.declared_types.specs.Undeclared.{found, field_known, type_known, row_good, undeclared_from, first_undeclared_row}
+use Rattle.type_names.specs.LookUp.{declared_before}
+use Rattle.declared_types.specs.Undeclared.{found, type_known, row_good, undeclared_from, first_undeclared_row}
 
 module _ (bytes t : List ℕ) (count : ℕ) (s : List ℕ) (v : FieldView) (v_is : v ≡ view.field_in 0 (part s 0 (length s - 0)))
     (k : ℕ) (k_is : k ≡ or_else 1 (number_of v.kind)) (name : List ℕ) (name_is : name ≡ text (text_of s v.typename)) where

@@ -1,16 +1,15 @@
 -- The rows of the table of a set give refusal 7 of the set. Assumes nothing.
 use mathlib.Core.Path.{◌≡◌, refl, sym, ap, ◌∙◌}
 use mathlib.Core.Bool.{Bool, true, false, ◌&&◌, not}
-use mathlib.Core.List.{List, [], ◌∷◌, ◌++◌, map, append-nil}
+use mathlib.Core.List.{List, [], ◌∷◌, ◌++◌, append-nil}
 use Prim.Native.Nat.{ℕ, zero, suc, ◌+◌, ◌*◌, ◌-◌, ◌≤◌, ◌<◌}
 use native.Mathlib.Omega.{arith}
 use lib.ListN.{length}
-use lib.Dec.{eqb}
 use borrow.Author.Tests.{ne_eqb}
 use Rattle.base.specs.Choose.{choose}
 use Rattle.base.specs.Lists.{all, all_map, map_length}
 use Rattle.wire.specs.Records.{part}
-use Rattle.descriptor.specs.Descriptor.{Bytes, FieldDescriptor, FileDescriptor}
+use Rattle.descriptor.specs.Descriptor.{Bytes, FileDescriptor}
 use Rattle.descriptor.specs.Decode.{entries, parts, decode_field, decode_message, decode_file, decode_set}
 use Rattle.name_rules.specs.FullNames.{Declaration, declared, type_declared, set_declarations, first_undeclared}
 use Rattle.name_rules.specs.Answer.{first_seven}
@@ -19,11 +18,10 @@ use Rattle.declarations.specs.Listed.{full, Listed, listed_row, listed, listed_f
 use Rattle.declarations.specs.declared.Row.{Row}
 use Rattle.declarations.proofs.ListedLaws.{files_declared}
 use Rattle.declarations.proofs.SetLaws.{set_listed}
-use Rattle.type_names.specs.LookUp.{declared_before}
-use Rattle.declared_types.specs.Undeclared.{field_known, type_known, row_good, undeclared_from, first_undeclared_row}
+use Rattle.declared_types.specs.Undeclared.{type_known, row_good, undeclared_from, first_undeclared_row}
 use Rattle.declared_types.proofs.CountLaws.{declared_few}
 use Rattle.declared_types.proofs.RowLaws.{D, D_append, listed_from, listed_all, by_kind, known_is, declared_before_is}
-use Rattle.declared_types.proofs.FileLaws.{good, bad_file, files_bad}
+use Rattle.declared_types.proofs.FileLaws.{bad_file, files_bad}
 
 all_same : {A : Type 0} (p q : A → Bool) → ((x : A) → p x ≡ q x) → (xs : List A) → all p xs ≡ all q xs
 unfolding all

@@ -6,7 +6,7 @@ use Rattle.std.proofs.Math.Bool.{true, false}
 use Rattle.base.specs.Choose.{choose}
 use Rattle.base.specs.Tests.{bool_cases, both_ways}
 use Rattle.field_types.specs.Types.{can_pack, type_eq}
-use Rattle.message_graph.specs.Fields.{Fields, owner_of, target_of, kind_of, label_of, link, is_link, type_message, label_repeated}
+use Rattle.message_graph.specs.Fields.{Fields, owner_of, target_of, kind_of, label_of, is_link, type_message, label_repeated}
 use Rattle.message_graph.specs.Leads.{leadsb}
 use Rattle.message_graph.specs.Boxes.{boxed_by_loop}
 use Rattle.message_graph.specs.BoxLaws.{boxed_link}

@@ -1,6 +1,6 @@
 -- Theorems about extern paths: what is taken stays taken under further segments, and document 01's row. Assumes nothing.
 use mathlib.Core.Path.{◌≡◌, refl, subst, sym, ◌∙◌}
-use mathlib.Core.Logic.{◌⊎◌, ⊎_elim}
+use mathlib.Core.Logic.{⊎_elim}
 use mathlib.Core.Bool.{Bool, true, false, ◌&&◌, ◌||◌, and-false}
 use mathlib.Core.List.{List, [], ◌∷◌, ◌++◌}
 use Prim.Native.Nat.{ℕ, ◌+◌, ◌-◌, ◌≤◌, ◌<◌}

@@ -3,7 +3,6 @@ use mathlib.Core.Path.{◌≡◌, refl, ap, ◌∙◌}
 use mathlib.Core.List.{List}
 use Prim.Native.Nat.{ℕ, ◌-◌}
 use Rattle.wire.specs.Records.{part}
-use Rattle.descriptor.specs.Decode.{decode_field}
 use Rattle.descriptor.specs.Views.{number_of, field_of, field_in}
 use Rattle.descriptor.specs.declared.FieldView.{FieldView}
 use Rattle.descriptor.proofs.ViewTheorems.{field_view_is}

@@ -1,5 +1,5 @@
 -- The field types by their number in descriptor.proto, 1 to 18: one table. Place 0 is no type. Assumes nothing.
-use Rattle.std.specs.Prelude.{ℕ, Bool, ◌||◌, List, [], ◌∷◌, map, eqb, get_or}
+use Rattle.std.specs.Prelude.{ℕ, Bool, ◌||◌, List, [], ◌∷◌, eqb, get_or}
 use Rattle.base.specs.Bytes.{b}
 
 -- sorts of types, as letters: `f`, `i`, `b`, `t`, `g`, `m`, `y`, `e`

@@ -1,5 +1,5 @@
 -- Words as a table in code has them: eight places each, and their lengths. One law for any list of words. Assumes nothing.
-use Rattle.std.specs.Prelude.{ℕ, zero, suc, ◌+◌, ◌*◌, ◌≤◌, Bool, true, false, ◌&&◌, ◌≡◌, refl, List, [], ◌∷◌, ◌++◌, map, leb, get_or, length, take, drop}
+use Rattle.std.specs.Prelude.{ℕ, zero, suc, ◌+◌, ◌*◌, ◌≤◌, Bool, true, ◌&&◌, ◌≡◌, refl, List, [], ◌∷◌, ◌++◌, map, leb, get_or, length, take, drop}
 use Rattle.std.proofs.Common.{arith, suc-add, zero-add, sym, ap, ◌∙◌, leb-true}
 use Rattle.std.proofs.Math.ListN.{get_or-map}
 use Rattle.base.specs.Tests.{and_left, and_right}

@@ -1,21 +1,18 @@
 -- What sanitising adds is seen from the first nine bytes of a name, since no listed word is as long. Assumes nothing.
 use mathlib.Core.Path.{◌≡◌, refl, sym, ap, ◌∙◌}
-use mathlib.Core.Bool.{Bool, true, false, ◌&&◌, ◌||◌}
+use mathlib.Core.Bool.{Bool, true, ◌&&◌, ◌||◌}
 use mathlib.Core.List.{List, [], ◌∷◌}
 use Prim.Native.Nat.{ℕ, zero, suc, ◌+◌, ◌-◌, ◌^◌, ◌<◌, ◌≤◌, min}
 use native.Mathlib.Omega.{arith}
 use native.Mathlib.Decide.{dec_le}
-use lib.Dec.{ltb, leb, eqb}
-use lib.ListN.{length, take, drop, get_or, length-take, take-append-drop}
+use lib.Dec.{ltb, eqb}
+use lib.ListN.{length, take, drop, length-take, take-append-drop}
 use lib.Seq.{sets-eq, take_all, take_at, get_or-take}
-use borrow.Author.Tests.{ltb-true, leb-true}
-use Rattle.base.specs.Choose.{choose}
-use Rattle.base.specs.Tests.{and_left, and_right, both_ways}
-use Rattle.base.specs.Bytes.{b, same, same_sound}
-use Rattle.heck.specs.Case.{between, is_upper, is_digit}
+use borrow.Author.Tests.{ltb-true}
+use Rattle.base.specs.Tests.{and_left, and_right}
+use Rattle.base.specs.Bytes.{same}
 use Rattle.writer.specs.Wrote.{Wrote, over, after, over_cut}
 use Rattle.ident.specs.Ident.{among, raw_words, kept_words, addition}
-use Rattle.ident.specs.declared.keywords.Addition.TheVariants.{Nothing, Trailing}
 
 short : ℕ → List (List ℕ) → Bool
 short n [] = true

@@ -9,7 +9,7 @@ use lib.Dec.{ltb, leb, eqb}
 use lib.ListN.{length, get_or}
 use borrow.Author.Tests.{le-ltb, lt-ltb, lt-leb, ne_eqb, not-true}
 use Rattle.base.specs.Choose.{choose}
-use Rattle.base.specs.Bytes.{b, same, same_sound}
+use Rattle.base.specs.Bytes.{same, same_sound}
 use Rattle.base.specs.Tests.{and_left, and_right}
 use Rattle.heck.specs.Case.{between, is_digit}
 use Rattle.ident.specs.Ident.{among, raw_words, kept_words, addition, is_trailing}

@@ -1,5 +1,5 @@
 -- The listed words by number: a name's first byte, middle byte and length leave one of them that it can be. Assumes nothing.
-use Rattle.std.specs.Prelude.{Bool, ◌||◌, List, [], ◌∷◌, ◌++◌, ℕ, zero, suc, ◌+◌, ◌*◌, ◌/◌, ◌%◌, ltb, eqb, length, get_or, take, drop}
+use Rattle.std.specs.Prelude.{Bool, ◌||◌, List, [], ◌∷◌, ◌++◌, ℕ, zero, suc, ◌+◌, ◌*◌, ◌%◌, ltb, eqb, length, get_or, take, drop}
 use Rattle.base.specs.Choose.{choose}
 use Rattle.heck.specs.Case.{is_digit}
 use Rattle.ident.specs.Ident.{raw_words, kept_words}

@@ -1,12 +1,12 @@
 -- The bytes of a text in a view: a missing one is empty. Assumes nothing.
-use mathlib.Core.Path.{◌≡◌, refl, sym, ap, subst, ◌∙◌}
+use mathlib.Core.Path.{◌≡◌, refl, sym, ap, ◌∙◌}
 use mathlib.Core.List.{List, []}
 use Prim.Native.Nat.{ℕ, ◌-◌}
 use lib.ListN.{length}
 use Rattle.base.specs.Choose.{choose, choose_case}
 use Rattle.wire.specs.Records.{part}
 use Rattle.descriptor.specs.Decode.{decode_oneof, decode_file}
-use Rattle.descriptor.specs.Views.{given_at, record_at, length_in, text_at, text_of, name_in, file_in}
+use Rattle.descriptor.specs.Views.{given_at, text_at, text_of, name_in, file_in}
 use Rattle.descriptor.specs.declared.Latest.{Latest}
 use Rattle.descriptor.specs.declared.Text.{Text}
 use Rattle.name_rules.specs.Accessors.{text}
@@ -14,8 +14,8 @@ use Rattle.name_rules.specs.FullNames.{◌·◌, package_scope}
 use Rattle.descriptor.proofs.ViewTheorems.{file_package_is}
 use Rattle.descriptor.specs.declared.FileView.{FileView}
 use Rattle.descriptor.specs.Descriptor.{Bytes}
-use mathlib.Core.Option.{Option, some, none}
-use mathlib.Core.Bool.{Bool, true, false}
+use mathlib.Core.Option.{some, none}
+use mathlib.Core.Bool.{true, false}
 use Rattle.name_rules.proofs.ViewedLaws.{oneof_is, whole_part}
 
 pub shown : (s : List ℕ) (base : ℕ) (x : Latest) (n : ℕ) → part s (text_at base x n).start (text_at base x n).len ≡ text (text_of s (text_at base x n))

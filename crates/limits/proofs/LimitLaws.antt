@@ -1,12 +1,12 @@
 -- Each limit by the tally of the set. Assumes nothing.
 use mathlib.Core.Path.{◌≡◌, refl, sym, ap, ap₂, ◌∙◌}
-use mathlib.Core.Bool.{Bool, true, false, ◌||◌}
-use mathlib.Core.List.{List, [], ◌∷◌, ◌++◌, map}
+use mathlib.Core.Bool.{Bool, ◌||◌}
+use mathlib.Core.List.{List, [], ◌∷◌, ◌++◌}
 use mathlib.Core.Option.{Option, none, some}
 use Prim.Native.Nat.{ℕ, zero, suc, ◌+◌}
 use native.Mathlib.Omega.{arith}
 use lib.ListN.{length}
-use lib.Dec.{ltb, eqb}
+use lib.Dec.{ltb}
 use borrow.Author.Tests.{lt-ltb}
 use Rattle.base.specs.Choose.{choose}
 use Rattle.base.specs.Lists.{any, all_of, map_length}
@@ -18,7 +18,7 @@ use Rattle.limits.specs.Weights.{bytes_or_none, text_bytes, text_length, long_se
 use Rattle.limits.specs.Weights as weights
 use Rattle.limits.proofs.SumLaws.{sum_same, sum_zero, sum_ones, sum_plus, sum_append, sum_map, sum_all_of, any_sum, or_sum, bit_sum}
 use Rattle.limits.proofs.PartTallies.{enum_weight, member_weight, messages_weight, file_weight, set_weighed}
-use Rattle.limits.proofs.DecodedTallies.{length_is, Means, forest_weight, weight_of_file, set_decoded, with_members, set_plain}
+use Rattle.limits.proofs.DecodedTallies.{length_is, Means, forest_weight, set_decoded, with_members, set_plain}
 
 -- nothing counts
 abbrev nil {ℓ} : {A : Type ℓ} → A → ℕ

@@ -1,7 +1,6 @@
 -- The tally of a message's bytes from a position on, one record on. Assumes nothing.
-use mathlib.Core.Path.{◌≡◌, refl, sym, ap, ◌∙◌}
-use mathlib.Core.Bool.{Bool, true, false}
-use mathlib.Core.List.{List, [], ◌∷◌}
+use mathlib.Core.Path.{◌≡◌, refl, ap, ◌∙◌}
+use mathlib.Core.Bool.{Bool, true}
 use Prim.Native.Nat.{ℕ, zero, suc, ◌+◌, ◌-◌, ◌≤◌}
 use native.Mathlib.Numerals.{sub-one}
 use native.Mathlib.Omega.{arith}
@@ -12,7 +11,6 @@ use Rattle.base.specs.Choose.{choose, choose_case, then_eq, else_eq}
 use Rattle.base.specs.Tests.{both_ways}
 use Rattle.wire.specs.Step.{step_at}
 use Rattle.wire.specs.Records.{records}
-use Rattle.wire.specs.Encoding.{Field}
 use Rattle.wire.specs.Contents.{field_of, value_of}
 use Rattle.wire.proofs.RecordsLaws.{records_end, records_fault, records_found}
 use Rattle.wire.proofs.StepLaws.{Lies, lies}

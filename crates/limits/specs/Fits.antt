@@ -1,5 +1,5 @@
 -- What one walk adds up, and what that says of the limits 3 to 10.
-use Rattle.std.specs.Prelude.{ℕ, ◌+◌, ◌≤◌, ◌≡◌, Bool, true, false, eqb}
+use Rattle.std.specs.Prelude.{ℕ, ◌+◌, ◌≤◌, ◌≡◌, Bool, true, eqb}
 use Rattle.base.specs.Choose.{choose}
 use Rattle.descriptor.specs.Descriptor.{Bytes}
 use Rattle.known_fields.specs.Known.{message, field, enum}

@@ -1,6 +1,6 @@
 -- What counts for the limits 3 to 10, by the bytes alone: each declaration of a set counts 1 or 0, and a set has the sum.
 -- Sorts are those of the known fields, with two more: 0 is no declaration, 7 a message too deep to be read.
-use Rattle.std.specs.Prelude.{ℕ, zero, suc, ◌+◌, Bool, false, not, List, [], length, ltb, eqb}
+use Rattle.std.specs.Prelude.{ℕ, zero, suc, ◌+◌, Bool, false, not, [], length, ltb, eqb}
 use Rattle.std.proofs.Math.Option.{Option, none, some}
 use Rattle.base.specs.Choose.{choose}
 use Rattle.base.specs.Lists.{any}

@@ -1,7 +1,7 @@
 -- Laws of hexadecimal numbers. Assumes nothing.
-use Rattle.std.specs.Prelude.{◌≡◌, ℕ, zero, suc, ◌+◌, ◌-◌, ◌/◌, ◌%◌, ◌<◌, ◌≤◌, List, [], ◌∷◌, ◌++◌, ◌≢◌, refl}
-use Rattle.std.proofs.Common.{sym, ap, ◌∙◌, sub-one}
-use Rattle.base.specs.Choose.{choose, then_lt, else_lt}
+use Rattle.std.specs.Prelude.{◌≡◌, ℕ, zero, suc, ◌-◌, ◌/◌, ◌<◌, ◌≤◌, [], ◌∷◌, ◌++◌, ◌≢◌, refl}
+use Rattle.std.proofs.Common.{sub-one}
+use Rattle.base.specs.Choose.{then_lt, else_lt}
 use Rattle.literal.specs.Escape.{hex_digit, hex_digits}
 
 pub hex_none : (n : ℕ) → hex_digits 0 n ≡ []

@@ -1,6 +1,6 @@
 -- A text that is written item by item: what is done, and what is left. Assumes nothing.
-use Rattle.std.specs.Prelude.{◌≡◌, ℕ, ◌^◌, ◌<◌, List, [], ◌∷◌, ◌++◌, length, refl}
-use Rattle.std.proofs.Common.{sym, ap, ◌∙◌, append_assoc, append-nil}
+use Rattle.std.specs.Prelude.{◌≡◌, ℕ, ◌^◌, ◌<◌, List, [], ◌++◌, length, refl}
+use Rattle.std.proofs.Common.{sym, ◌∙◌, append_assoc, append-nil}
 use Rattle.base.specs.Each.{each}
 use Rattle.base.specs.Steps.{Run, ended, broken, ◌then◌, items}
 use Rattle.writer.specs.Wrote.{Wrote, ◌►◌, named, none}

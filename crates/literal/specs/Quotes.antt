@@ -1,13 +1,13 @@
 -- In what is written between quotes each `"` is behind an odd run of `\`, so that the closing quote is the first that is not. Assumes nothing.
-use Rattle.std.specs.Prelude.{◌≡◌, ℕ, zero, suc, ◌+◌, ◌/◌, ◌%◌, ◌<◌, ◌≤◌, Bool, true, false, List, [], ◌∷◌, ◌++◌, ◌==◌, ◌≢◌, nat_lt, refl}
-use Rattle.std.proofs.Common.{sym, ap, ◌∙◌, arith, ne_eqb}
+use Rattle.std.specs.Prelude.{◌≡◌, ℕ, zero, suc, ◌+◌, ◌/◌, ◌%◌, List, [], ◌∷◌, ◌++◌, ◌==◌, ◌≢◌, nat_lt, refl}
+use Rattle.std.proofs.Common.{ap, ◌∙◌, arith, ne_eqb}
 use Rattle.std.proofs.Math.Option.{Option, some, none}
 use Rattle.base.specs.Choose.{choose, choose_case}
 use Rattle.base.specs.Bytes.{b}
 use Rattle.base.specs.Each.{each}
 use Rattle.utf8.specs.Utf8.{chars}
-use Rattle.literal.specs.Escape.{hex_digit, hex_digits, escape, unicode_escape, byte_escape, escape_char, escape_byte, escape_text, escape_bytes}
-use Rattle.literal.specs.EscapeCases.{Plain, escape_case, Digit, digit, decimal, letter}
+use Rattle.literal.specs.Escape.{hex_digit, hex_digits, escape, unicode_escape, escape_char, escape_byte, escape_text, escape_bytes}
+use Rattle.literal.specs.EscapeCases.{escape_case, Digit, digit, decimal, letter}
 
 -- between the quotes; there, behind an odd run of `\`; behind the closing quote
 pub data Quote : Type 0 where

@@ -1,9 +1,9 @@
 -- Read by the Rust Reference, what is written between the quotes of a literal is the text or the bytes again. Assumes nothing.
-use Rattle.std.specs.Prelude.{◌≡◌, ℕ, zero, suc, ◌+◌, ◌-◌, ◌*◌, ◌/◌, ◌%◌, ◌^◌, ◌<◌, ◌≤◌, Bool, true, false, List, [], ◌∷◌, ◌++◌, ◌≢◌, refl}
+use Rattle.std.specs.Prelude.{◌≡◌, ℕ, zero, suc, ◌+◌, ◌-◌, ◌*◌, ◌/◌, ◌%◌, ◌^◌, ◌<◌, ◌≤◌, true, List, [], ◌∷◌, ◌++◌, ◌≢◌, refl}
 use Rattle.std.proofs.Common.{sym, ap, ◌∙◌, append_assoc, append-nil, arith, ne_eqb, lt-ltb, le-leb}
-use Rattle.std.proofs.Math.Option.{Option, some, none}
+use Rattle.std.proofs.Math.Option.{Option, some}
 use Rattle.std.proofs.Math.Decide.{dec_lt}
-use Rattle.base.specs.Choose.{choose, choose_case, choices, flags}
+use Rattle.base.specs.Choose.{choose, choices}
 use Rattle.base.specs.Bytes.{b}
 use Rattle.base.specs.Each.{each, All, all_each}
 use Rattle.base.specs.Steps.{run, steps, on_step}
@@ -14,7 +14,7 @@ use Rattle.utf8.specs.Chars.{chars_scalar, encoded_again}
 use Rattle.literal.specs.Escape.{hex_digit, hex_digits, letter as escape_letter, escape, unicode_escape, byte_escape, escape_char, escape_byte, escape_text, escape_bytes}
 use Rattle.literal.specs.HexLaws.{hex_last, hex_more}
 use Rattle.literal.specs.EscapeCases.{Printable, printable_byte, everything, Plain, escape_case, Digit, digit, decimal, letter}
-use Rattle.literal.specs.Reference.{Kind, string, byte_string, Place, plain, behind, hex, unicode, hex_half, digits, Move, to, gives, refused, move, letter as letter_of, itself, hex_value, closed, push, follow, read_from, read}
+use Rattle.literal.specs.Reference.{Kind, string, byte_string, digits, Move, move, letter as letter_of, itself, hex_value, closed, push, read_from, read}
 
 -- ---- one digit
 value_decimal : (d : ℕ) (f : ℕ → Move) → d < 10 → hex_value (48 + d) f ≡ f d

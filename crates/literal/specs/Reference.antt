@@ -1,6 +1,6 @@
 -- What stands between the quotes of a literal, read by the Rust Reference, "Tokens": string literals and byte string literals.
 -- Left out, so refused here: `_` between the digits of `\u{..}`, and `\` at the end of a line. Assumes nothing.
-use Rattle.std.specs.Prelude.{ℕ, zero, suc, ◌+◌, ◌-◌, ◌*◌, Bool, true, false, List, [], ◌∷◌, ◌==◌, nat_le, nat_lt}
+use Rattle.std.specs.Prelude.{ℕ, suc, ◌+◌, ◌-◌, ◌*◌, List, [], ◌∷◌, ◌==◌, nat_le, nat_lt}
 use Rattle.std.proofs.Math.Option.{Option, some, none}
 use Rattle.base.specs.Choose.{choose}
 use Rattle.utf8.specs.Encode.{scalar}

@@ -1,7 +1,7 @@
 -- Refusal 6 of a set: the first file at fault by itself, or by a map entry. Assumes nothing.
 use mathlib.Core.Path.{◌≡◌}
 use mathlib.Core.List.{List}
-use Prim.Native.Nat.{ℕ, min}
+use Prim.Native.Nat.{min}
 use Rattle.base.specs.Lists.{first_failing, first_both}
 use Rattle.descriptor.specs.Descriptor.{FileDescriptor}
 use Rattle.name_rules.specs.Rules.{file_good}

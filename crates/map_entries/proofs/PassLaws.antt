@@ -140,7 +140,7 @@ module _ (bytes t : List ℕ) where
 
       -- rows with other checksums
       pub rows_skip : (sum k : ℕ) → sum ≡ sum_of name → k ≤ i → Others bytes t sum k i → Noted who k
-      rows_skip sum k sum_is_lem l others = record { is = rows_none name v k who i l (λ j a h. name_other bytes t sum k i others j a h name sum_is_lem) ∙ p.is; size = p.size }
+      rows_skip sum k sum_is l others = record { is = rows_none name v k who i l (λ j a h. name_other bytes t sum k i others j a h name sum_is) ∙ p.is; size = p.size }
 
   module _ (n : ℕ) where
     pub tally_length : (us : List Use) (who : List ℕ) → length (tally bytes t n us who) ≡ length who

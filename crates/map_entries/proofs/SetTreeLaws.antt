@@ -14,7 +14,7 @@ use Rattle.descriptor.specs.Descriptor.{Bytes, FileDescriptor}
 use Rattle.descriptor.specs.Decode.{parts, decode_messages, decode_file, decode_set}
 use Rattle.descriptor.specs.Decode as decode
 use Rattle.index.specs.Tree.{Place}
-use Rattle.name_rules.specs.FullNames.{◌·◌, package_scope, entries}
+use Rattle.name_rules.specs.FullNames.{◌·◌, package_scope}
 use Rattle.name_rules.proofs.ViewedLaws.{whole_part}
 use Rattle.declarations.specs.Rows.{State, bytes_at, room, push, places, package_of, package_row, declare_messages, declare_members, declare_file, declare_files, declared, no_rows}
 use Rattle.declarations.specs.Listed.{name_of, full, file_entries}

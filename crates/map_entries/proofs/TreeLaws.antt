@@ -19,7 +19,7 @@ use Rattle.declarations.specs.Listed.{name_of, full}
 use Rattle.declarations.specs.declared.Row.{Row}
 use Rattle.declarations.proofs.PartLaws.{places_are, message_name}
 use Rattle.map_entries.proofs.KeptLaws.{Kept, kept_push, room_before, enums_kept, messages_kept, kept_more}
-use Rattle.map_entries.proofs.ShownLaws.{Shown, code_kind, shown_as, shown, shown_messages, all_shown, kind_kept, full_kept, new_full, new_kind, new_shown, none_shown}
+use Rattle.map_entries.proofs.ShownLaws.{Shown, code_kind, shown_as, shown_messages, all_shown, kind_kept, full_kept, new_full, new_kind, new_shown, none_shown}
 
 -- y shows these after what x shows, and has m messages more
 pub record Grew (bytes : Bytes) (x y : State) (ss : List Shown) (m : ℕ) : Type 0 where

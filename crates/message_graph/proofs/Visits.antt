@@ -1,6 +1,6 @@
 -- What a visit does to the marks. Assumes nothing.
-use mathlib.Core.Path.{◌≡◌, refl, sym, ◌∙◌, ap, subst}
-use mathlib.Core.Bool.{Bool, true, false, true≢false, false≢true, ◌&&◌}
+use mathlib.Core.Path.{◌≡◌, refl, sym, ◌∙◌, subst}
+use mathlib.Core.Bool.{Bool, true, false, true≢false, ◌&&◌}
 use mathlib.Core.Logic.{◌⊎◌, inl, inr, ⊎_elim}
 use mathlib.Core.List.{List, [], ◌∷◌}
 use Prim.Native.Nat.{ℕ, zero, suc, ◌+◌, ◌≤◌, ◌<◌, suc-le-suc}
@@ -13,8 +13,7 @@ use lib.ListN.{length, get_or, set, length-set, replicate}
 use lib.Seq.{get_or-set_same, get_or-set_other}
 use borrow.Author.Tests.{eqb-true, eq-eqb}
 use Rattle.base.specs.Tests.{and_left, and_right, and_both, both_ways}
-use Rattle.message_graph.specs.Limit.{messages}
-use Rattle.message_graph.specs.Fields.{Fields, size, owner_of, target_of, link}
+use Rattle.message_graph.specs.Fields.{Fields, owner_of, target_of, link}
 use Rattle.message_graph.specs.Leads.{Link, Leads, leadsb}
 use Rattle.message_graph.specs.Leads.Leads.{here, step}
 use Rattle.message_graph.specs.Decided.{join, same_test, leads_sound, leads_complete}

@@ -1,11 +1,11 @@
 -- A link is boxed exactly where a chain from it comes back. Assumes nothing.
-use Rattle.std.specs.Prelude.{◌≡◌, refl, Bool, true, false, not, ◌&&◌, ◌||◌, ℕ, ◌<◌, eqb}
-use Rattle.std.proofs.Common.{sym, ◌∙◌, ap, subst, ⊎_elim}
+use Rattle.std.specs.Prelude.{◌≡◌, refl, true, not, ℕ, eqb}
+use Rattle.std.proofs.Common.{sym, ◌∙◌, subst, ⊎_elim}
 use mathlib.Core.List.Memᴰ
 use mathlib.Core.List.{List, [], ◌∷◌, Memᴰ}
 use Rattle.base.specs.Tests.{and_left, and_right, and_both, or_left}
-use Rattle.message_graph.specs.Fields.{Fields, size, owner_of, target_of, kind_of, label_of, link, is_link, type_group, type_message, label_repeated}
-use Rattle.message_graph.specs.Leads.{Link, Leads, leadsb}
+use Rattle.message_graph.specs.Fields.{Fields, owner_of, target_of, kind_of, label_of, link, is_link, type_group, type_message, label_repeated}
+use Rattle.message_graph.specs.Leads.{Leads, leadsb}
 use Rattle.message_graph.specs.Leads.Leads.{here, step}
 use Rattle.message_graph.specs.Boxes.{may_loop, boxed_by_loop, Chain, Boxing}
 use Rattle.message_graph.specs.Boxes.Chain.{stay, go}

@@ -1,6 +1,6 @@
 -- The fields of a set in declaration order, as tables with a row for each field, and which of them are links.
 -- Messages are numbered in declaration order, from 0. Assumes nothing.
-use Rattle.std.specs.Prelude.{◌≡◌, refl, Bool, true, false, not, ◌&&◌, ◌||◌, List, ℕ, ◌<◌, eqb, ltb, length, get_or}
+use Rattle.std.specs.Prelude.{◌≡◌, Bool, not, ◌&&◌, List, ℕ, ◌<◌, eqb, ltb, length, get_or}
 use Rattle.std.proofs.Common.{arith, ltb-true, lt-ltb}
 use Rattle.base.specs.Choose.{choose, choose_case}
 use Rattle.message_graph.specs.Limit.{messages}

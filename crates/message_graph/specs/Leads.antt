@@ -1,5 +1,5 @@
 -- What leads where through links, as a relation and as a test. `Decided` proves that they agree. Assumes nothing.
-use Rattle.std.specs.Prelude.{◌≡◌, Bool, true, false, ◌&&◌, ◌||◌, ℕ, zero, suc, ◌<◌, eqb}
+use Rattle.std.specs.Prelude.{◌≡◌, Bool, true, ◌&&◌, ◌||◌, ℕ, zero, suc, ◌<◌, eqb}
 use Rattle.message_graph.specs.Fields.{Fields, size, owner_of, target_of, link}
 
 -- a link from a to c: a field of a, whose type is c

@@ -1,6 +1,5 @@
 -- What the search keeps: a mark for each message, and where the fields of each message begin and end. Assumes nothing.
 use Rattle.std.specs.Prelude.{◌≡◌, ◌⊎◌, Bool, true, false, List, [], ◌∷◌, ℕ, suc, ◌≤◌, ◌<◌, length, get_or}
-use Rattle.message_graph.specs.Limit.{messages}
 use Rattle.message_graph.specs.Fields.{Fields, size, owner_of, target_of, link, message_at}
 use Rattle.message_graph.specs.Leads.{Leads}
 

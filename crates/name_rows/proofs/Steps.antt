@@ -1,16 +1,14 @@
 -- One step of each loop: a byte of a key, a byte of two rows, a row of a text. Assumes nothing.
-use Prim.Native.Nat.{ℕ, zero, suc, ◌+◌, ◌-◌, ◌*◌, ◌%◌, ◌^◌, ◌<◌, ◌≤◌}
+use Prim.Native.Nat.{ℕ, suc, ◌+◌, ◌-◌, ◌*◌, ◌%◌, ◌^◌, ◌<◌, ◌≤◌}
 use mathlib.Core.Path.{◌≡◌, refl, sym, ap, ◌∙◌}
 use mathlib.Core.Bool.{Bool, true, false, ◌||◌}
-use mathlib.Core.Logic.{◌⊎◌, inl, inr}
 use mathlib.Core.List.{List, [], ◌∷◌, ◌++◌}
 use native.Mathlib.Omega.{arith}
-use native.Mathlib.Numerals.{add-one, sub-one}
+use native.Mathlib.Numerals.{add-one}
 use lib.ListN.{length, get_or, take, drop, replicate, length-drop, drop_of_length-le}
 use lib.Seq.{drop-cons, drop-drop, take_all}
-use Rattle.base.specs.Bytes.{same, same_refl, same_sound, same_more}
+use Rattle.base.specs.Bytes.{same, same_sound, same_more}
 use Rattle.base.specs.Choose.{then_lt, else_lt}
-use Rattle.base.specs.Tests.{bool_cases}
 use Rattle.writer.specs.Wrote.{Wrote, named}
 use Rattle.path.specs.Forms.{among}
 use Rattle.code_generator.specs.Refusals.{overlap}

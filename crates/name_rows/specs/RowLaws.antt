@@ -18,7 +18,7 @@ use Rattle.descriptor.specs.Descriptor.{Bytes}
 use Rattle.path.specs.Forms.{among}
 use Rattle.code_generator.specs.Refusals.{overlap}
 use Rattle.name_check.specs.NameCheck.{Place, same_place, places_differ}
-use Rattle.name_rows.specs.Rows.{key_length, row_length, key, checksum, four_bytes, with_checksum, row, place_row, rows_of, rows_in}
+use Rattle.name_rows.specs.Rows.{key_length, row_length, key, four_bytes, with_checksum, row, place_row, rows_of, rows_in}
 
 -- ---- a row has 384 bytes
 pub key_size : (home name : Bytes) → length (key home name) ≡ key_length

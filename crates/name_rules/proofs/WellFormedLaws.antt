@@ -10,7 +10,7 @@ use lib.Dec.{eqb, ltb, leb}
 use lib.ListN.{length}
 use borrow.Author.Tests.{ltb-true, ltb-false, leb-true, eqb-true, not-true}
 use Rattle.base.specs.Choose.{choose}
-use Rattle.base.specs.Bytes.{b, same, same_sound}
+use Rattle.base.specs.Bytes.{b, same_sound}
 use Rattle.base.specs.Lists.{all, is_empty, Every, all_every, every_append, every_of, every_to, none_fails}
 use Rattle.base.specs.Tests.{and_left, and_right, both_ways}
 use Rattle.ident.specs.Name.{is_name, has_word}

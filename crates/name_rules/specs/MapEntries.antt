@@ -1,5 +1,5 @@
 -- Refusal 6, as far as it goes over all fields of the set: which fields name a map entry. Assumes nothing.
-use Rattle.std.specs.Prelude.{ℕ, Bool, true, false, ◌&&◌, List, [], eqb, ltb}
+use Rattle.std.specs.Prelude.{Bool, true, ◌&&◌, List, [], eqb, ltb}
 use Rattle.base.specs.Choose.{choose}
 use Rattle.descriptor.specs.Descriptor.{Bytes, Forest, done, node, FieldDescriptor, MessageDescriptor, FileDescriptor}
 use Rattle.base.specs.Lists.{count}

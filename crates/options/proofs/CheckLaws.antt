@@ -1,10 +1,10 @@
 -- Laws of the layout's tests, as loops go through them. Assumes nothing.
 use mathlib.Core.Path.{◌≡◌, refl, sym, ap, ◌∙◌}
 use mathlib.Core.Bool.{Bool, true, false, ◌&&◌, ◌||◌, and-false, not}
-use mathlib.Core.List.{List, [], ◌∷◌}
-use Prim.Native.Nat.{ℕ, zero, suc, ◌+◌, ◌*◌, ◌-◌, ◌≤◌, ◌<◌, min}
+use mathlib.Core.List.{List}
+use Prim.Native.Nat.{ℕ, suc, ◌+◌, ◌-◌, ◌≤◌, ◌<◌, min}
 use native.Mathlib.Omega.{arith}
-use native.Mathlib.Numerals.{add-one, sub-one}
+use native.Mathlib.Numerals.{add-one}
 use lib.Dec.{eqb, leb}
 use Rattle.writer.specs.Text.{part_cut}
 use lib.ListN.{length, take, drop, get_or, drop_of_length-le}
@@ -14,7 +14,6 @@ use Rattle.base.specs.Choose.{choose}
 use Rattle.options.specs.Settings.{part, kind_at, path_length, value_length, zero_at}
 use Rattle.options.specs.Layout.{fits, repeated, header_good, printable, body_good, kind_before, row_good, layout_from}
 use Rattle.options.specs.Kinds.{is_kind, has_path, has_value}
-use Rattle.options.specs.declared.check.Layout.{Layout}
 use Rattle.options.specs.declared.check.Layout.TheVariants.{Good, Broken}
 
 -- the first n bytes, as many as there are

@@ -2,7 +2,7 @@
 use mathlib.Core.Path.{◌≡◌, refl, sym, ap, ◌∙◌}
 use mathlib.Core.Bool.{Bool, true, false, ◌&&◌, ◌||◌, not}
 use mathlib.Core.List.{List, [], ◌∷◌, ◌++◌, map, append-nil}
-use Prim.Native.Nat.{ℕ, zero, suc, ◌+◌, ◌-◌, ◌^◌, ◌≤◌, ◌<◌}
+use Prim.Native.Nat.{ℕ, suc, ◌+◌, ◌-◌, ◌^◌, ◌≤◌, ◌<◌}
 use native.Mathlib.Omega.{arith}
 use lib.Dec.{eqb, ltb}
 use lib.ListN.{length}
@@ -10,7 +10,7 @@ use borrow.Author.Tests.{le-ltb, lt-ltb, eq-eqb, ne_eqb}
 use Rattle.base.specs.Choose.{choose, choose_case, then_is, else_is}
 use Rattle.base.specs.Tests.{both_ways, and_left, and_right}
 use Rattle.base.specs.Bytes.{b, same, same_sound}
-use Rattle.options.specs.Settings.{Setting, found_at, not_found, row_count, settings_from, row, setting_of, between}
+use Rattle.options.specs.Settings.{Setting, found_at, row_count, settings_from, row, setting_of, between}
 use Rattle.options.specs.declared.Row.{Row}
 use Rattle.options.proofs.RowLaws.{settings_step, settings_end}
 use Rattle.options.specs.declared.Found.{Found}

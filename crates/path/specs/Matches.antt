@@ -1,7 +1,7 @@
 -- The rows that a path finds, one after the other.
-use Rattle.std.specs.Prelude.{◌≡◌, Bool, true, false, List, [], ◌∷◌, ℕ, ◌-◌, ◌≤◌, ◌<◌, length}
+use Rattle.std.specs.Prelude.{◌≡◌, true, List, [], ◌∷◌, ℕ, ◌-◌, ◌≤◌, ◌<◌, length}
 use Rattle.base.specs.Choose.{choose}
-use Rattle.options.specs.Settings.{Setting, settings_from, row_count, between}
+use Rattle.options.specs.Settings.{settings_from, row_count, between}
 use Rattle.path.specs.PathMap.{get}
 use Rattle.path.specs.declared.Match.{Match}
 

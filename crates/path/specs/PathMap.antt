@@ -1,10 +1,10 @@
 -- path.rs: the rows of a kind that a path finds.
-use Rattle.std.specs.Prelude.{Bool, true, false, ◌&&◌, List, [], ◌∷◌, ℕ, ◌+◌, eqb}
+use Rattle.std.specs.Prelude.{◌&&◌, List, [], ◌∷◌, ℕ, ◌+◌, eqb}
 use Rattle.base.specs.Choose.{choose}
 use Rattle.base.specs.Bytes.{same}
 use Rattle.options.specs.Settings.{Setting, found_at, not_found}
 use Rattle.options.specs.declared.Found.{Found}
-use Rattle.path.specs.Forms.{sub_path_iter, prefixes, among}
+use Rattle.path.specs.Forms.{sub_path_iter, among}
 
 -- Iter: the values of all rows of a kind whose path is one of the forms, in list order
 unfoldable pub get_in : ℕ → List (List ℕ) → List Setting → List (List ℕ)

@@ -1,6 +1,6 @@
 -- The search for the best form in one pass over the rows: each form has a worth, the better form the larger. That it finds
 -- what `find_best` finds is a theorem, `found_best`.
-use Rattle.std.specs.Prelude.{Bool, true, false, not, List, [], ◌∷◌, ◌++◌, map, ℕ, ◌+◌, ◌-◌, ◌^◌, eqb, ltb, length}
+use Rattle.std.specs.Prelude.{Bool, not, List, [], ◌∷◌, ◌++◌, map, ℕ, ◌+◌, ◌-◌, ◌^◌, eqb, ltb, length}
 use Rattle.base.specs.Choose.{choose}
 use Rattle.base.specs.Bytes.{b, same}
 use Rattle.options.specs.Settings.{Setting}

@@ -1,1 +1,3 @@
+#![tactic(auto)]
+
 // Document 01's table of examples, as one theorem: specs/ScopeTable.

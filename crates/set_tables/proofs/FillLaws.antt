@@ -113,13 +113,13 @@ parts_long n k m owner target kind label settings boxed k_is whole long =
 module _ (set o rows fields : List ℕ) (k : ℕ) (target kind label : List ℕ) (settings boxed : List Bool) (long : Long k target kind label settings boxed)
     (owner' target' kind' label' : List ℕ) (settings' : List Bool)
     (owner_is : owner' ≡ tab k (owner_at fields)) (target_is : target' ≡ tab (length target) (target_in set fields)) (kind_is : kind' ≡ tab (length kind) (column_at set fields Kind))
-    (Label_is : label' ≡ tab (length label) (column_at set fields Label)) (settings_are : settings' ≡ tab (length settings) (is_set_at (setting_bytes set o))) where
+    (label_is : label' ≡ tab (length label) (column_at set fields Label)) (settings_are : settings' ≡ tab (length settings) (is_set_at (setting_bytes set o))) where
   abbrev given : Fields
   given = columns owner' target' kind' label'
 
   columns_are : given ≡ columns_at k set fields
   unfolding columns_at
-  columns_are = rw (owner_is, target_is, kind_is, Label_is, long.targets, long.kinds, long.labels)
+  columns_are = rw (owner_is, target_is, kind_is, label_is, long.targets, long.kinds, long.labels)
 
   flags_are : settings' ≡ settings_to k set o
   unfolding settings_to

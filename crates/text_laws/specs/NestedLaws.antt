@@ -34,15 +34,15 @@ siblings_fit rs set messages t scope i (node m nested following) h =
     (h.0.0, siblings_fit rs set messages t scope (message_row messages i).after following h.1.1)
 
 -- a test of each part, and one of what it holds: where no level is left, nothing is nested
-module _ (g : Bytes → Bool) (h : MessageDescriptor → Bool) (Some_of : Forest MessageDescriptor → Bool) (Q : MessageDescriptor → Type 0)
-    (on_done : Some_of done ≡ false) (on_node : (m : MessageDescriptor) (nested following : Forest MessageDescriptor) → Some_of (node m nested following) ≡ (h m || Some_of following))
+module _ (g : Bytes → Bool) (h : MessageDescriptor → Bool) (some_of : Forest MessageDescriptor → Bool) (Q : MessageDescriptor → Type 0)
+    (on_done : some_of done ≡ false) (on_node : (m : MessageDescriptor) (nested following : Forest MessageDescriptor) → some_of (node m nested following) ≡ (h m || some_of following))
     (is : (q : Bytes) → Q (decode_message q) → g q ≡ h (decode_message q)) where
-  any_part : (n : ℕ) (ps : List Bytes) → Siblings Q (decode_messages (suc n) ps) → any g ps ≡ Some_of (decode_messages (suc n) ps)
+  any_part : (n : ℕ) (ps : List Bytes) → Siblings Q (decode_messages (suc n) ps) → any g ps ≡ some_of (decode_messages (suc n) ps)
   unfolding any decode_messages
   any_part n [] s = sym on_done
   any_part n (p ∷ ps) s = ap₂ ◌||◌ (is p s.0) (any_part n ps s.1) ∙ sym (on_node (decode_message p) (decode_messages n (parts 3 (entries p))) (decode_messages (suc n) ps))
 
-  any_nested : (left : ℕ) (ps : List Bytes) → Siblings Q (decode_messages left ps) → (not (eqb left 0) && any g ps) ≡ Some_of (decode_messages left ps)
+  any_nested : (left : ℕ) (ps : List Bytes) → Siblings Q (decode_messages left ps) → (not (eqb left 0) && any g ps) ≡ some_of (decode_messages left ps)
   unfolding decode_messages
   any_nested zero ps s = sym on_done
   any_nested (suc n) ps s = rw (eqb-suc-zero n) (any_part n ps s)

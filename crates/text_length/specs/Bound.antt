@@ -31,7 +31,7 @@ use Rattle.text_length.specs.Lengths.{◌then◌}
 use Rattle.text_length.specs.Paths.{Small}
 use Rattle.text_length.specs.Fields.{FieldShort}
 use Rattle.text_length.specs.Declarations.{ValueShort, EnumShort, enums_long}
-use Rattle.text_length.specs.Messages.{MessageShort, ForestShort, own, weight, messages_long}
+use Rattle.text_length.specs.Messages.{MessageShort, ForestShort, weight, messages_long}
 
 -- ---- what bytes hold is no longer than they are
 part_short : (s : List ℕ) (a n : ℕ) → length (take n (drop a s)) ≤ length s

@@ -1,6 +1,6 @@
 -- How long paths can be, and what options add. Assumes nothing.
 use Rattle.std.specs.Prelude.{◌≡◌, ◌&&◌, ℕ, zero, suc, ◌+◌, ◌*◌, ◌-◌, ◌≤◌, eqb, length, drop, get_or}
-use Rattle.std.proofs.Common.{ap, length-append, length-drop}
+use Rattle.std.proofs.Common.{length-append, length-drop}
 use Rattle.std.proofs.Math.Option.{Option, some, none}
 use mathlib.Core.List.{List, [], ◌∷◌, ◌++◌, map}
 use native.Mathlib.Omega.{arith}
@@ -14,7 +14,7 @@ use Rattle.options.specs.Settings.{Setting, value_of, or_else, prost_path}
 use Rattle.path.specs.Forms.{among, sub_path_iter}
 use Rattle.path.specs.PathMap.{get, get_in}
 use Rattle.extern_paths.specs.Split.{begins, push, split_behind, split}
-use Rattle.extern_paths.specs.ExternPaths.{extern, prost_types, if_given, extern_paths, taker, taken, Segment, plain, snake, written, first_segment, rust_path, behind_prefix, resolve_by, resolve_ident, extern_text}
+use Rattle.extern_paths.specs.ExternPaths.{extern, prost_types, if_given, extern_paths, taker, taken, Segment, snake, written, first_segment, rust_path, behind_prefix, resolve_by, resolve_ident, extern_text}
 use Rattle.code_generator.specs.Piece.{through, way_text}
 use Rattle.code_generator.specs.Resolve.{local_path, front, last_name, ident_path, ident_type, skip_common, way}
 use Rattle.text_length.specs.Names.{snake_long, camel_long}

@@ -1,6 +1,6 @@
 -- Tokens of Rust: words, signs, quotes, and options' values. Blanks and comments fall away; in a string, `\` takes the next character with it. Assumes nothing.
 use Rattle.std.specs.Prelude.{ℕ, Bool, ◌||◌, List, [], ◌∷◌, ◌++◌, ◌==◌}
-use Prim.Native.Char.{Char, code as code_of_lem}
+use Prim.Native.Char.{Char, code as code_of}
 use Rattle.base.specs.Choose.{choose}
 use Rattle.ident.specs.Name.{name_part}
 use Rattle.descriptor.specs.Descriptor.{Bytes}
@@ -8,7 +8,7 @@ use Rattle.text_reader.specs.Symbols.{Symbol, char, option_value}
 
 -- is it this character?
 abbrev pub is_char : Char → ℕ → Bool
-is_char x c = c == code_of_lem x
+is_char x c = c == code_of x
 
 -- inside a string too, what stands there is words and signs
 pub data Token : Type 0 where
@@ -64,7 +64,7 @@ take_char (code_word w) c = choose (goes_on c) (gives [] (code_word (w ++ (c ∷
 take_char string c = in_string c
 take_char (string_word w) c = choose (goes_on c) (gives [] (string_word (w ++ (c ∷ [])))) (behind (word w) (in_string c))
 take_char escape c = gives [] string
-take_char slash c = choose (is_char "/" c) (gives [] comment) (behind (sign (code_of_lem "/")) (in_code c))
+take_char slash c = choose (is_char "/" c) (gives [] comment) (behind (sign (code_of "/")) (in_code c))
 take_char comment c = choose (is_char "\n" c) (gives [] code) (gives [] comment)
 
 abbrev pub take_value : Lexing → Taken
@@ -73,7 +73,7 @@ take_value (code_word w) = gives (word w ∷ value ∷ []) code
 take_value string = gives (value ∷ []) string
 take_value (string_word w) = gives (word w ∷ value ∷ []) string
 take_value escape = gives (value ∷ []) string
-take_value slash = gives (sign (code_of_lem "/") ∷ value ∷ []) code
+take_value slash = gives (sign (code_of "/") ∷ value ∷ []) code
 take_value comment = gives [] comment
 
 abbrev pub take_symbol : Lexing → Symbol → Taken
@@ -87,7 +87,7 @@ left_over (code_word w) = word w ∷ []
 left_over string = []
 left_over (string_word w) = word w ∷ []
 left_over escape = []
-left_over slash = sign (code_of_lem "/") ∷ []
+left_over slash = sign (code_of "/") ∷ []
 left_over comment = []
 
 abbrev pub tokens_from : Lexing → List Symbol → List Token

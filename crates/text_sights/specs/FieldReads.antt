@@ -15,7 +15,7 @@ use Rattle.code_generator.specs.Resolve.{way, prost, resolve_ident, resolve_byte
 use Rattle.code_generator.specs.Attributes.{attributes, append_deprecated, append_field_attributes}
 use Rattle.code_generator.specs.Fields.{optional, label_tag, bytes_annotation, default_text, default_given, default_tag, field_tag, shape_open, shape_close, box_open, box_close, field_line, append_field}
 use Rattle.code_generator.specs.MapFields.{MapEntry, map_tag, map_open, map_line, append_map_field}
-use Rattle.code_generator.specs.Oneofs.{OneofField, type_name, more_tags, tags, oneof_tag, oneof_line, append_oneof_field, variant_tag, variant_line, append_variant}
+use Rattle.code_generator.specs.Oneofs.{OneofField, more_tags, tags, oneof_tag, oneof_line, append_oneof_field, variant_tag, variant_line, append_variant}
 use Rattle.sights.specs.Events.{written_path}
 use Rattle.sights.specs.Sights.{Sight, a_path, Frame, in_field, in_tag, in_wrap, use_at}
 use Rattle.text_sights.specs.Reading.{Quiet, quiet, quiet_then, Reads, silent, ◌then◌, ◌then_quiet◌, ◌then_closed◌, when_true, either_true, reads_either, reads_both, seen_as, mark_before, mark_behind, quiet_mark}

@@ -133,7 +133,7 @@ module _ (s : ℕ → ℕ) (n k : ℕ) (l : List ℕ) (inside : k < length l) (s
               get_or-set_other (set l k x) b i y 0 d ∙ mid_at i h ∙ ap (packed (s i) (before_at s n (k + 1) i)) (sym (last_other s n i k (λ q. d (sym q ∙ sym b_is))))
 
 -- the cells that `link` reads and writes
-module _ (l : List ℕ) (n k : ℕ) (pre : (k < n) × (n < 65536) × (n ≤ length l)) (sum b before own x : ℕ) (sum_is_lem : sum ≡ get_or l k 0 % 4294967296) (b_is : b ≡ sum % n) (b_less : b < n)
+module _ (l : List ℕ) (n k : ℕ) (pre : (k < n) × (n < 65536) × (n ≤ length l)) (sum b before own x : ℕ) (sum_is : sum ≡ get_or l k 0 % 4294967296) (b_is : b ≡ sum % n) (b_less : b < n)
     (before_is : before ≡ get_or l b 0 / 281474976710656) (own_is : own ≡ get_or l k 0 / 281474976710656) (x_is : x ≡ packed sum before own)
     (first_sum first_before y : ℕ) (first_sum_is : first_sum ≡ get_or (set l k x) b 0 % 4294967296) (first_before_is : first_before ≡ get_or (set l k x) b 0 / 4294967296 % 65536)
     (y_is : y ≡ packed first_sum first_before (k + 1)) where
@@ -142,12 +142,12 @@ module _ (l : List ℕ) (n k : ℕ) (pre : (k < n) × (n < 65536) × (n ≤ leng
     here = staged.at k (omega (arith, pre.0, pre.2))
 
     bucket_is : b ≡ s k % n
-    bucket_is = b_is ∙ ap (λ (v : ℕ). v % n) (sum_is_lem ∙ cell_sum s n small k k (get_or l k 0) (omega (arith, pre.0, pre.1)) here)
+    bucket_is = b_is ∙ ap (λ (v : ℕ). v % n) (sum_is ∙ cell_sum s n small k k (get_or l k 0) (omega (arith, pre.0, pre.1)) here)
 
     x_packed : x ≡ packed (s k) (last_in s n b k) (last_in s n k k)
     x_packed =
         let few : k ≤ 65535 = omega (arith, pre.0, pre.1) in
-        x_is ∙ rw (sum_is_lem, before_is, own_is, cell_sum s n small k k (get_or l k 0) few here, cell_last s n small k k (get_or l k 0) few here, cell_last s n small k b (get_or l b 0) few (staged.at b (omega (arith, pre.2))))
+        x_is ∙ rw (sum_is, before_is, own_is, cell_sum s n small k k (get_or l k 0) few here, cell_last s n small k k (get_or l k 0) few here, cell_last s n small k b (get_or l b 0) few (staged.at b (omega (arith, pre.2))))
 
     y_packed : y ≡ packed (s b) (before_at s n (k + 1) b) (k + 1)
     unfolding mid

@@ -1,8 +1,8 @@
 -- A full name, byte by byte from its end. Assumes nothing.
 use mathlib.Core.Path.{◌≡◌, refl, sym, ap, ◌∙◌}
 use mathlib.Core.Bool.{Bool, true, false, ◌&&◌, and-false}
-use mathlib.Core.List.{List, [], ◌∷◌, ◌++◌, append_assoc}
-use Prim.Native.Nat.{ℕ, zero, suc, ◌+◌, ◌-◌, ◌≤◌, ◌<◌}
+use mathlib.Core.List.{List, [], ◌∷◌, ◌++◌}
+use Prim.Native.Nat.{ℕ, ◌+◌, ◌-◌, ◌≤◌, ◌<◌}
 use native.Mathlib.Numerals.{add-one}
 use native.Mathlib.Omega.{arith}
 use lib.ListN.{length, take, drop, get_or, length-drop, length-append, drop_of_length-le}
@@ -10,13 +10,11 @@ use lib.Seq.{take-suc, take-nil, take_all, get_or-drop}
 use lib.Dec.{eqb}
 use borrow.Author.Tests.{eq-eqb, ne_eqb}
 use Rattle.base.specs.Bytes.{same, same_length}
-use Rattle.base.specs.Choose.{choose}
 use Rattle.wire.specs.Records.{part}
-use Rattle.descriptor.specs.Descriptor.{Bytes}
 use Rattle.name_rules.specs.FullNames.{◌·◌}
 use Rattle.declarations.specs.Rows.{cell_at, row_at}
-use Rattle.declarations.specs.Listed.{above, name_of, full}
-use Rattle.declarations.proofs.FullLaws.{full_none, full_step}
+use Rattle.declarations.specs.Listed.{above, full}
+use Rattle.declarations.proofs.FullLaws.{full_step}
 
 -- ---- two byte strings by their last bytes
 pub same_last : (xs ys : List ℕ) (a b : ℕ) → same (xs ++ (a ∷ [])) (ys ++ (b ∷ [])) ≡ (same xs ys && eqb a b)

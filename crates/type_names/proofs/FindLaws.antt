@@ -56,12 +56,12 @@ module _ (bytes t name : List ℕ) (sort : ℕ) where
 
       -- rows with other checksums
       pub going_skip : (sum i' : ℕ) → sum ≡ sum_of name → i' ≤ i → Others bytes t sum i' i → Going first i'
-      going_skip sum i' sum_is_lem l others =
+      going_skip sum i' sum_is l others =
           let k = going.inside in
           let e : i' + (i - i') ≡ i = omega arith in
           record {
             inside = omega arith;
-            is = going.is ∙ sym (skipped (i - i') i' (omega arith) (λ j a h. fits_none j (name_other bytes t sum i' i others j a (omega arith) name sum_is_lem)) ∙ ap from e);
+            is = going.is ∙ sym (skipped (i - i') i' (omega arith) (λ j a h. fits_none j (name_other bytes t sum i' i others j a (omega arith) name sum_is)) ∙ ap from e);
           }
 
       module _ (h : 0 < i) (r : Bool) (r_is : r ≡ fits bytes t name sort (i - 1)) where

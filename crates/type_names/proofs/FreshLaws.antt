@@ -2,13 +2,13 @@
 use mathlib.Core.Path.{◌≡◌, refl, sym, ap, ◌∙◌}
 use mathlib.Core.Bool.{Bool, true, false, ◌&&◌, ◌||◌, not}
 use mathlib.Core.List.{List, [], ◌∷◌, ◌++◌, map, append-nil}
-use Prim.Native.Nat.{ℕ, zero, suc, ◌≤◌, ◌<◌}
+use Prim.Native.Nat.{ℕ, zero, suc, ◌<◌}
 use native.Mathlib.Omega.{arith}
 use lib.ListN.{length, get_or}
 use borrow.Author.Tests.{not-true}
 use Rattle.base.specs.Bytes.{same, same_refl, same_sound}
 use Rattle.base.specs.Choose.{choose, choose_case}
-use Rattle.base.specs.Tests.{and_left, and_right, and_both, or_false_left, or_false_right, or_left, or_right, both_ways}
+use Rattle.base.specs.Tests.{and_left, and_right, or_false_left, or_false_right, both_ways}
 use Rattle.descriptor.specs.Descriptor.{Bytes}
 use Rattle.name_rules.specs.FullNames.{Declaration, declared, declared_as, equals, fresh}
 

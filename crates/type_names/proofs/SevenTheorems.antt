@@ -1,14 +1,14 @@
 -- What holds of a set without refusal 7: full names differ, and each type name is declared once, with its sort. Assumes nothing.
 use mathlib.Core.Path.{◌≡◌, refl, sym, ap, ◌∙◌}
-use mathlib.Core.Bool.{Bool, true, false, ◌&&◌, ◌||◌, not}
+use mathlib.Core.Bool.{Bool, true, false, ◌&&◌, ◌||◌}
 use mathlib.Core.List.{List, [], ◌∷◌, ◌++◌, map, append-nil, append_assoc}
-use Prim.Native.Nat.{ℕ, zero, suc, ◌+◌, ◌≤◌, ◌<◌}
+use Prim.Native.Nat.{ℕ, suc, ◌+◌, ◌<◌}
 use native.Mathlib.Omega.{arith}
 use lib.ListN.{length, get_or}
 use lib.Dec.{ltb}
 use borrow.Author.Tests.{ltb-true, ltb-false, eqb-true, ne_eqb}
 use Rattle.base.specs.Bytes.{same, same_sound}
-use Rattle.base.specs.Choose.{choose, choose_case}
+use Rattle.base.specs.Choose.{choose}
 use Rattle.base.specs.Lists.{all, map_length}
 use Rattle.base.specs.Tests.{and_left, and_right, and_both, both_ways}
 use Rattle.descriptor.specs.Descriptor.{Bytes, FieldDescriptor, EnumDescriptor, FileDescriptor}

@@ -1,12 +1,12 @@
 -- A whole text: its characters one after the other, and that well-formed texts are the encodings of characters. Assumes nothing.
-use Rattle.std.specs.Prelude.{◌≡◌, refl, Bool, true, false, List, ◌++◌, ℕ, ◌≤◌, ◌<◌, length, drop}
+use Rattle.std.specs.Prelude.{◌≡◌, true, List, ◌++◌, ℕ, ◌≤◌, ◌<◌, length, drop}
 use Rattle.std.proofs.Common.{sym, ap, ◌∙◌, arith, drop_of_length-le}
 use Rattle.base.specs.Each.{each, All}
-use Rattle.base.specs.Steps.{Step, item, fault, Run, ended, broken, ◌then◌, run, whole, items, Forward, run_end, run_fault, run_item, run_ind}
+use Rattle.base.specs.Steps.{item, ended, broken, ◌then◌, whole, items, Forward, run_end, run_fault, run_item, run_ind}
 use Rattle.base.specs.Encoded.{run_of, whole_run, items_run, written_back}
 use Rattle.utf8.specs.Utf8.{char_at, step_of, chars_from, chars, is_utf8}
 use Rattle.utf8.specs.Encode.{scalar, encode}
-use Rattle.utf8.specs.Decoding.{Decodes, only_encodings, decodes}
+use Rattle.utf8.specs.Decoding.{only_encodings, decodes}
 use Rattle.utf8.specs.declared.Decoded.{Decoded}
 use Rattle.utf8.specs.declared.Decoded.TheVariants.{Character, Fault}
 

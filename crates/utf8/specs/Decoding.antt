@@ -1,14 +1,14 @@
 -- A step of decoding inverts the encoding of each character, and accepts nothing else. Assumes nothing.
 use Rattle.std.specs.Prelude.{◌≡◌, refl, Bool, true, false, leb, ltb, eqb, drop}
-use Rattle.std.proofs.Common.{sym, ◌∙◌, drop-cons, ltb-true, ltb-false, leb-true, leb-false, eqb-true, lt-ltb, le-ltb, le-leb, eq-eqb, ne_eqb}
+use Rattle.std.proofs.Common.{sym, ◌∙◌, drop-cons, ltb-true, ltb-false, leb-true, leb-false, eqb-true, le-leb}
 use Rattle.std.proofs.Math.Path.{ap}
 use mathlib.Core.List.{List, [], ◌∷◌, ◌++◌}
-use Prim.Native.Nat.{ℕ, zero, suc, ◌+◌, ◌*◌, ◌-◌, ◌/◌, ◌%◌, ◌≤◌, ◌<◌}
+use Prim.Native.Nat.{ℕ, suc, ◌+◌, ◌*◌, ◌/◌, ◌%◌, ◌≤◌, ◌<◌}
 use native.Mathlib.Omega.{arith}
-use Rattle.std.proofs.Math.Decide.{dec_le, dec_lt, ℕ_discrete}
+use Rattle.std.proofs.Math.Decide.{dec_lt, ℕ_discrete}
 use Rattle.std.proofs.Math.ListN.{length, get_or, get_or-eq_default}
-use Rattle.std.proofs.lemmas.Bool.{eqb-false, lt-leb}
-use Rattle.base.specs.Choose.{choose, choose_case, choices, flags}
+use Rattle.std.proofs.lemmas.Bool.{eqb-false}
+use Rattle.base.specs.Choose.{choose_case, choices, flags}
 use Rattle.base.specs.Encoded.{byte_there, first_there, starts}
 use Rattle.utf8.specs.Utf8.{between, second_low, second_high, second, later, two, three, four, char_at}
 use Rattle.utf8.specs.Encode.{scalar, encode}

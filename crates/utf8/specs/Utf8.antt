@@ -1,5 +1,5 @@
 -- Well-formed UTF-8, by the Unicode Standard's table 3-7 of byte ranges (RFC 3629, section 4, restates it). Assumes nothing.
-use Rattle.std.specs.Prelude.{Bool, true, false, List, ℕ, ◌+◌, ◌*◌, ◌%◌, leb, ltb, eqb, length, get_or}
+use Rattle.std.specs.Prelude.{Bool, false, List, ℕ, ◌+◌, ◌*◌, ◌%◌, leb, ltb, eqb, length, get_or}
 use Rattle.base.specs.Choose.{choose}
 use Rattle.base.specs.Steps.{Step, item, fault, Run, run, whole, items}
 use Rattle.utf8.specs.declared.Decoded.{Decoded}

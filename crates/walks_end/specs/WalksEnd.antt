@@ -66,8 +66,8 @@ module _ (set : List FileDescriptor) where
   comes_back a (link_first from to s b k) = both_ways (led_complete all_links to from (subst (λ (z : Bytes). Led all_links to z) s k)) b
 
 module _ (rs : List Setting) (set : List FileDescriptor) (good : names set ≡ Good) (says_yes : name_check rs set ≡ true) (free : group_free set ≡ true) where
-  abbrev Goes_on : Item → Item → Type 0
-  Goes_on = Walk (world rs set) (uses (set_sights rs set))
+  abbrev GoesOn : Item → Item → Type 0
+  GoesOn = Walk (world rs set) (uses (set_sights rs set))
 
   step_goes : (a c : Item) → Step (world rs set) (uses (set_sights rs set)) a c → Goes set a.mark c.mark
   step_goes a c s =
@@ -84,11 +84,11 @@ module _ (rs : List Setting) (set : List FileDescriptor) (good : names set ≡ G
       by from to (of_oneof full name p q) = into_oneof full name (sym from ∙ p) (to ∙ q)
       by from to (of_link r t p q m b) = along r t (sym from ∙ p) (to ∙ q) m b
 
-  walk_led : (a c : Item) → Goes_on a c → Led (links (set_entries set)) (message_in a.mark) (message_in c.mark)
+  walk_led : (a c : Item) → GoesOn a c → Led (links (set_entries set)) (message_in a.mark) (message_in c.mark)
   walk_led a c (last s) = goes_led set a.mark c.mark (message_in c.mark) (step_goes a c s) stay
   walk_led a d (more {c = c} s w) = goes_led set a.mark c.mark (message_in d.mark) (step_goes a c s) (walk_led c d w)
 
-  walk_first : (a c : Item) → Goes_on a c → First set a.mark c.mark
+  walk_first : (a c : Item) → GoesOn a c → First set a.mark c.mark
   walk_first a c (last s) = first_one set a.mark c.mark (step_goes a c s)
   walk_first a d (more {c = c} s w) = first_more set a.mark c.mark d.mark (step_goes a c s) (walk_first c d w) (walk_led c d w)
 

@@ -16,7 +16,7 @@ pub record EncodesVarint (bs : List ℕ) (n : ℕ) : Type 0 where
   pub at_most_ten : length bs ≤ 10
   pub in_64_bits : n < 2 ^ 64
 
--- the number that bytes are, little_endian
+-- the number that bytes are, little-endian
 unfoldable pub little_endian : List ℕ → ℕ
 little_endian [] = 0
 little_endian (b ∷ bs) = b + 256 * little_endian bs

@@ -1,5 +1,5 @@
 -- A text in a buffer, whole or not at all. Assumes nothing.
-use Rattle.std.specs.Prelude.{ℕ, ◌+◌, ◌^◌, ◌≤◌, ◌<◌, min, Bool, true, false, ◌≡◌, List, ◌++◌, leb, length, drop}
+use Rattle.std.specs.Prelude.{ℕ, ◌^◌, ◌≤◌, ◌<◌, min, Bool, true, false, ◌≡◌, List, ◌++◌, leb, length, drop}
 use Rattle.std.proofs.Common.{arith, zero-add, ap, ◌∙◌, le-leb}
 use Rattle.std.proofs.lemmas.List.Edits.{sets-eq}
 use Rattle.writer.specs.Text.{pick}

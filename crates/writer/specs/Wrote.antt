@@ -1,7 +1,6 @@
 -- What a writer does: it lays a text over a slice from a place, as far as the slice goes, and answers the place after the text. Assumes nothing.
-use Rattle.std.specs.Prelude.{ℕ, zero, suc, ◌+◌, ◌-◌, ◌^◌, ◌≤◌, ◌<◌, min, Bool, true, false, ◌≡◌, refl, List, [], ◌∷◌, ◌++◌, length, set, take, drop, get_or}
+use Rattle.std.specs.Prelude.{ℕ, suc, ◌+◌, ◌-◌, ◌^◌, ◌≤◌, ◌<◌, min, ◌≡◌, refl, List, [], ◌∷◌, ◌++◌, length, set, take, drop, get_or}
 use Rattle.std.proofs.Common.{arith, add-suc, suc-add, add-zero, add-one, sym, ap, subst, ◌∙◌, append-nil, length-append, length-drop, take-append-drop, drop_of_length-le, take-suc, length-take-le, take_all}
-use Rattle.writer.specs.Text.{pick}
 use Rattle.std.proofs.Math.Decide.{dec_le}
 use Rattle.std.proofs.lemmas.List.Edits.{sets}
 use Rattle.std.proofs.Math.Seq.{length-sets, set_out}

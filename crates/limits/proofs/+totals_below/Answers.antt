@@ -1,10 +1,7 @@
 use Rattle.limits.proofs.FitLaws.{counted_start, counted_skip, counted_found, held_end, held_fault, none_within, refused_within, length_all, length_found, counted_member}
-use Rattle.base.specs.Tests.{both_ways}
 use Rattle.wire.proofs.RecordsLaws.{places}
 use mathlib.Core.Path.{sym, ◌∙◌}
-use native.Mathlib.Omega.{arith}
-use borrow.Author.Rules.{rules}
-use borrow.Author.Tests.{not-true, not-false}
+use borrow.Author.Tests.{not-false}
 use Rattle.limits.proofs.+totals_below.Goals as goal
 
 pub returns-then-left-eq0 : goal.returns-then-left-eq0

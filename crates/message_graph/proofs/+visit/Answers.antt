@@ -1,6 +1,6 @@
 use borrow.Author.Tests.{not-true}
 use mathlib.Core.Path.{◌≡◌, ◌∙◌}
-use mathlib.Core.Bool.{true, false}
+use mathlib.Core.Bool.{true}
 use native.Mathlib.Omega.{arith}
 use lib.ListN.{length, length-set}
 use Rattle.message_graph.specs.Fields.{message_at_below}

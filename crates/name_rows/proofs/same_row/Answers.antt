@@ -1,7 +1,6 @@
 use lib.ListN.{length}
 use mathlib.Core.Path.{sym}
 use Rattle.base.specs.Bytes.{same_length, same_end}
-use mathlib.Core.Bool.{true, false}
 use native.Mathlib.Omega.{arith}
 use Rattle.name_rows.proofs.Steps.{unlike, same_before, same_whole}
 use Rattle.name_rows.proofs.same_row.Goals as goal

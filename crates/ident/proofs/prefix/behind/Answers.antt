@@ -1,4 +1,3 @@
-use mathlib.Core.Bool.{true}
 use mathlib.Core.Path.{sym, ◌∙◌}
 use Rattle.ident.proofs.PrefixLaws.{spells_one, spells_none, alike, unlike, capital_left, no_capital, none_left, whole_name, both_start}
 use Rattle.ident.proofs.prefix.behind.Goals as goal
