@@ -14,7 +14,7 @@ use Rattle.options.specs.Settings.{Setting}
 use Rattle.name_rules.specs.Accessors.{text, number, type as type_of}
 use Rattle.name_rules.specs.FullNames.{◌·◌}
 use Rattle.context.specs.Context.{field_attributes, bytes_type, map_type, should_box_message_field, should_box_oneof_field}
-use Rattle.code_generator.specs.Piece.{piece, ◌⟫◌, when, opaque, label, Owned, snake, camel, choice, comma, lit, push_indent}
+use Rattle.code_generator.specs.Piece.{piece, ◌⟫◌, when, opaque, label, Owned, snake, camel, choice, lit, push_indent}
 use Rattle.code_generator.specs.Attributes.{line, attributes, deprecated, append_deprecated, append_field_attributes}
 use Rattle.code_generator.specs.Fields.{field_line, append_field}
 use Rattle.code_generator.specs.MapFields.{MapEntry, map_line, append_map_field}

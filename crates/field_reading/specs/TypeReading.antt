@@ -1,6 +1,5 @@
 -- What the reader sees in a field's type, and in what stands around it. Assumes nothing.
 use Rattle.std.specs.Prelude.{◌≡◌, ℕ, suc, Bool, true, false, ◌||◌, List, [], ◌∷◌, ◌==◌}
-use Prim.Native.String.{String}
 use Rattle.std.proofs.Math.Path.{refl}
 use Rattle.base.specs.Bytes.{b, same}
 use Rattle.base.specs.Choose.{choose}

@@ -1,20 +1,18 @@
 -- The default of a field, and those of a message's fields, one field on. Assumes nothing.
-use Prim.Native.Nat.{ℕ, suc, ◌+◌, ◌-◌, ◌≤◌, ◌<◌}
+use Prim.Native.Nat.{ℕ, suc, ◌-◌}
 use mathlib.Core.Path.{◌≡◌, refl, sym, ap, ◌∙◌}
 use mathlib.Core.Bool.{Bool, true, false, ◌||◌, ◌&&◌, not}
-use mathlib.Core.Option.{Option, some, none}
 use mathlib.Core.List.{List, [], ◌∷◌, map}
 use native.Mathlib.Omega.{arith}
-use native.Mathlib.Numerals.{add-one}
 use lib.Dec.{eqb, ltb}
 use lib.ListN.{length}
-use borrow.Author.Tests.{eq-eqb, ne_eqb, lt-ltb, le-ltb}
+use borrow.Author.Tests.{eq-eqb, ne_eqb, le-ltb}
 use Rattle.base.specs.Choose.{choose}
 use Rattle.base.specs.Lists.{any, map_length}
 use Rattle.wire.specs.Records.{part}
 use Rattle.c_escaping.specs.Unescape.{unescapes}
 use Rattle.field_types.specs.Types.{sort_of, bytes}
-use Rattle.descriptor.specs.Descriptor.{Bytes, FieldDescriptor}
+use Rattle.descriptor.specs.Descriptor.{FieldDescriptor}
 use Rattle.descriptor.specs.Decode.{entries, parts, decode_field}
 use Rattle.descriptor.specs.Views.{field_of, text_of}
 use Rattle.descriptor.specs.declared.FieldView.{FieldView}
@@ -22,8 +20,8 @@ use Rattle.descriptor.specs.declared.Text.{Text}
 use Rattle.name_rules.specs.Accessors.{type}
 use Rattle.text_tables.specs.Rows.{field_row}
 use Rattle.text_tables.specs.declared.FieldRow.{FieldRow}
-use Rattle.members.specs.Members.{field_at, map_entry_at, numbers_with}
-use Rattle.code_generator.specs.MapFields.{MapEntry, entry_of}
+use Rattle.members.specs.Members.{field_at, map_entry_at}
+use Rattle.code_generator.specs.MapFields.{entry_of}
 use Rattle.code_generator.specs.Refusals.{is_given, given_fails}
 use Rattle.file_faults.specs.FileFaults.{default_fails_at}
 

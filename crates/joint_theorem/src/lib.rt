@@ -1,1 +1,3 @@
+#![tactic(auto)]
+
 // Demand 3 as one theorem: specs/.

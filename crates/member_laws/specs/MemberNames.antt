@@ -1,5 +1,5 @@
 -- Of message i, whose part p is: the names of its members that meet by the tables are those of the name check. Assumes nothing.
-use Rattle.std.specs.Prelude.{ℕ, zero, suc, ◌+◌, ◌*◌, ◌<◌, ◌≤◌, ◌≡◌, Bool, length}
+use Rattle.std.specs.Prelude.{ℕ, suc, ◌+◌, ◌≤◌, ◌≡◌, Bool, length}
 use Rattle.std.proofs.Math.Path.{refl, sym, ap, ap₂}
 use Rattle.std.proofs.Common.{◌∙◌, arith, length-append, le-leb}
 use Rattle.std.proofs.Math.Bool.{true, false, ◌||◌}
@@ -13,17 +13,16 @@ use Rattle.ident.specs.Ident.{to_snake, to_upper_camel}
 use Rattle.ident.proofs.Sizes.{snake_fits, camel_fits}
 use Rattle.ident.proofs.Written.{snake_written, camel_written}
 use Rattle.descriptor.specs.Descriptor.{Bytes, Forest, FieldDescriptor, MessageDescriptor}
-use Rattle.descriptor.specs.Decode.{entries, parts, decode_field, decode_oneof, decode_message, decode_messages}
+use Rattle.descriptor.specs.Decode.{entries, parts, decode_field, decode_oneof, decode_message}
 use Rattle.options.specs.Settings.{Setting}
 use Rattle.name_rules.specs.Accessors.{text}
 use Rattle.name_rules.specs.FullNames.{◌·◌}
-use Rattle.name_rules.specs.WellFormed.{Named, GoodField, GoodMessage}
-use Rattle.path_fits.specs.PathsFit.{max_short_name, NameFits, OneofFits, MessageFits}
+use Rattle.name_rules.specs.WellFormed.{Named, GoodMessage}
+use Rattle.path_fits.specs.PathsFit.{max_short_name, OneofFits, MessageFits}
 use Rattle.text_tables.specs.Rows.{message_row}
-use Rattle.walks.specs.Walked.{walked}
-use Rattle.members.specs.Members.{name_in, field_at, members}
+use Rattle.members.specs.Members.{members}
 use Rattle.code_generator.specs.Refusals.{overlap}
-use Rattle.code_generator.specs.Oneofs.{oneof_of, is_plain, is_at, plain_fields, fields_at, OneofField, meets, oneofs_from, oneof_fields}
+use Rattle.code_generator.specs.Oneofs.{oneof_of, is_plain, is_at, plain_fields, fields_at, OneofField, oneofs_from, oneof_fields}
 use Rattle.text_laws.specs.Pairwise.{Pairwise, pairwise_empty}
 use Rattle.text_laws.specs.Pairwise.Pairwise.{nil, cons}
 use Rattle.text_laws.specs.Described.{FieldIs, MessageIs}

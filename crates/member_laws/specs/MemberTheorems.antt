@@ -1,16 +1,16 @@
 -- Of an accepted set, with tables that say what they should and room for 2,048 rows: the names of members that meet are those of the name check.
 -- Assumes nothing.
 use Prim.Native.Nat.{ℕ, zero, suc, ◌+◌, ◌≤◌}
-use Rattle.std.specs.Prelude.{◌≡◌, Bool, true, false, ◌&&◌, not, length, take}
+use Rattle.std.specs.Prelude.{◌≡◌, Bool, true, false, ◌&&◌, not, length}
 use Rattle.std.proofs.Math.Path.{refl, ap₂}
-use Rattle.std.proofs.Common.{sym, ap, ◌∙◌, ⊎_elim, arith, length-append, take_all}
+use Rattle.std.proofs.Common.{ap, ◌∙◌, ⊎_elim, arith, length-append, take_all}
 use Rattle.std.proofs.Math.Bool.{◌||◌}
-use mathlib.Core.List.{List, [], ◌∷◌, ◌++◌, map}
+use mathlib.Core.List.{List, [], ◌∷◌, map}
 use Rattle.base.specs.Choose.{choose}
 use Rattle.base.specs.Lists.{any, all_of, Every}
-use Rattle.descriptor.specs.Descriptor.{Bytes, Forest, done, node, preorder, MessageDescriptor, FileDescriptor}
+use Rattle.descriptor.specs.Descriptor.{Bytes, Forest, done, preorder, MessageDescriptor, FileDescriptor}
 use Rattle.descriptor.specs.Decode.{entries, parts, decode_oneof, decode_message, decode_messages, decode_file, decode_set}
-use Rattle.descriptor.specs.Limits.{max_fields, messages_in, fields_in, limit_passed}
+use Rattle.descriptor.specs.Limits.{messages_in, fields_in, limit_passed}
 use Rattle.options.specs.Settings.{Setting}
 use Rattle.extern_paths.specs.ExternPaths.{taken}
 use Rattle.name_rules.specs.Accessors.{text}
@@ -33,7 +33,7 @@ use Rattle.text_laws.specs.SaysLaws.{described, every_left, every_right}
 use Rattle.text_laws.specs.FileLaws.{no_parts}
 use Rattle.call_laws.specs.CallLaws.{behind_is}
 use Rattle.name_check.specs.NameCheck.{members_meet, file_members_meet}
-use Rattle.member_rows.specs.MemberRows.{own_meet, Inner, message_meets, meet_of, messages_meet, file_meets, files_meet, set_meets}
+use Rattle.member_rows.specs.MemberRows.{Inner, message_meets, meet_of, messages_meet, file_meets, files_meet, set_meets}
 use Rattle.member_laws.specs.MemberNames.{own_is}
 
 -- ---- a message of the set has no more fields than the set

@@ -1,5 +1,5 @@
 -- The messages of a file as they are written: by the tables, with paths cut where the buffers end. Assumes nothing.
-use Rattle.std.specs.Prelude.{ℕ, zero, suc, Bool, ◌||◌, ◌&&◌, not, List, [], ◌∷◌, ◌++◌, eqb, length, take}
+use Rattle.std.specs.Prelude.{ℕ, zero, suc, Bool, ◌||◌, ◌&&◌, not, List, [], ◌++◌, eqb, length, take}
 use Rattle.base.specs.Lists.{any, is_empty}
 use Rattle.writer.specs.Text.{pick}
 use Rattle.syntax.specs.Syntax.{syntax_of}

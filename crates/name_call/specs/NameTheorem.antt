@@ -1,10 +1,10 @@
 -- Of an accepted set, with tables that say what they should and room for 2,816 rows: names are found to differ exactly if the name check says yes.
 -- Assumes nothing.
-use Rattle.std.specs.Prelude.{ℕ, ◌*◌, ◌≤◌, ◌≡◌, refl, Bool, true, false, length, take}
+use Rattle.std.specs.Prelude.{ℕ, ◌≤◌, ◌≡◌, refl, Bool, true, false, length, take}
 use Rattle.std.proofs.Common.{sym, ◌∙◌, arith, take_all}
 use Rattle.std.proofs.Math.Path.{ap, ap₂}
 use Rattle.std.proofs.Math.Bool.{◌&&◌, not}
-use mathlib.Core.List.{List, ◌++◌, map}
+use mathlib.Core.List.{List, map}
 use Rattle.base.specs.Lists.{any, all_of}
 use Rattle.descriptor.specs.Descriptor.{Bytes}
 use Rattle.descriptor.specs.Decode.{decode_set}
@@ -15,14 +15,14 @@ use Rattle.name_rules.specs.declared.Names.TheVariants.{Good}
 use Rattle.table_says.specs.Says.{Says}
 use Rattle.code_generator.specs.Refusals.{overlap}
 use Rattle.name_check.specs.NameCheck.{Place, package_modules, module_place, file_places, places, places_differ, file_members_meet, name_check}
-use Rattle.name_rows.specs.Rows.{row_length, place_row, rows_of, rows_in}
+use Rattle.name_rows.specs.Rows.{place_row, rows_of, rows_in}
 use Rattle.name_rows.specs.RowLaws.{rows_size, rows_differ}
 use Rattle.place_rows.specs.PlaceRows.{set_rows}
 use Rattle.place_laws.specs.PlaceTheorems.{declared_hold, declared_few, set_rows_are}
-use Rattle.package_names.specs.Packages.{packages_meet, packages_stand}
+use Rattle.package_names.specs.Packages.{packages_stand}
 use Rattle.package_laws.specs.PlaceLaws.{places_meet, differ_append}
 use Rattle.package_laws.specs.PackageTheorems.{packages_differ, packages_stand_is}
-use Rattle.member_rows.specs.MemberRows.{rows_overlap, set_meets}
+use Rattle.member_rows.specs.MemberRows.{rows_overlap}
 use Rattle.member_laws.specs.RootRows.{rows_enough}
 use Rattle.member_laws.specs.MemberTheorems.{set_meets_is}
 use Rattle.name_call.specs.Differ.{rows_laid, names_differ}

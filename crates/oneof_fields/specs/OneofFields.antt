@@ -1,5 +1,5 @@
 -- The fields of a struct for its message's oneofs as they are written: by the tables, with paths cut where the buffers end. Assumes nothing.
-use Rattle.std.specs.Prelude.{ℕ, suc, Bool, List, [], ◌∷◌, map}
+use Rattle.std.specs.Prelude.{ℕ, suc, Bool, List, [], map}
 use Rattle.base.specs.Lists.{is_empty}
 use Rattle.writer.specs.Text.{pick}
 use Rattle.descriptor.specs.Descriptor.{Bytes}

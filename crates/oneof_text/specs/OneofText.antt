@@ -1,5 +1,5 @@
 -- The enums of a message's oneofs as they are written: by the tables, with paths cut where the buffers end. Assumes nothing.
-use Rattle.std.specs.Prelude.{ℕ, suc, Bool, List, [], ◌∷◌}
+use Rattle.std.specs.Prelude.{ℕ, suc, Bool, List, []}
 use Rattle.base.specs.Bytes.{b}
 use Rattle.base.specs.Lists.{is_empty}
 use Rattle.writer.specs.Text.{pick}

@@ -1,14 +1,13 @@
 -- The modules of packages have places that differ exactly if no two packages meet. Assumes nothing.
-use Rattle.std.specs.Prelude.{◌≡◌, Bool, true, false, ◌||◌, ◌&&◌, not, ◌⊎◌}
+use Rattle.std.specs.Prelude.{◌≡◌, Bool, true, false, ◌&&◌, not, ◌⊎◌}
 use Rattle.std.proofs.Math.Path.{refl}
 use Rattle.std.proofs.Common.{sym, ap, ap₂, ◌∙◌, subst, inl, inr}
 use Rattle.std.proofs.Math.Logic.{⊎_elim}
 use mathlib.Core.List.Memᴰ
 use mathlib.Core.List.{List, [], ◌∷◌, ◌++◌, map, reverse, reverse_aux, reverse-reverse, Memᴰ}
-use Rattle.std.proofs.lemmas.Bool.{not-true}
 use Rattle.base.specs.Choose.{choose}
 use Rattle.base.specs.Bytes.{same, same_refl, same_sound}
-use Rattle.base.specs.Tests.{both_ways, bool_cases, and_left, and_right, and_both, or_cases, or_left, or_right, or_false_left, or_false_right}
+use Rattle.base.specs.Tests.{both_ways, bool_cases, and_left, and_right, or_cases, or_left, or_right}
 use Rattle.base.specs.Lists.{any, all_of, Every}
 use Rattle.ident.specs.Ident.{to_snake}
 use Rattle.descriptor.specs.Descriptor.{Bytes, FileDescriptor}

@@ -1,9 +1,8 @@
 -- Of an accepted set: packages that meet, and modules of packages among rows of places, as they are found, are those of the name check.
 -- Assumes nothing.
-use Rattle.std.specs.Prelude.{ℕ, ◌+◌, ◌<◌, ◌≤◌, ◌≡◌, refl, Bool, true, false, ◌&&◌, ◌||◌, not, List, [], ◌∷◌, ◌++◌, map, ltb, length, take}
+use Rattle.std.specs.Prelude.{ℕ, ◌<◌, ◌≤◌, ◌≡◌, refl, Bool, true, false, ◌&&◌, ◌||◌, not, List, [], ◌∷◌, map, ltb, length}
 use Rattle.std.proofs.Common.{sym, ap, ap₂, ◌∙◌, arith, take_all, ltb-true, ltb-false}
-use Rattle.base.specs.Bytes.{same, same_length}
-use Rattle.base.specs.Choose.{choose}
+use Rattle.base.specs.Bytes.{same_length}
 use Rattle.base.specs.Lists.{any, Every, every_to}
 use Rattle.ident.specs.Ident.{to_snake}
 use Rattle.ident.proofs.Sizes.{snake_fits}
@@ -20,7 +19,7 @@ use Rattle.name_check.specs.NameCheck.{Place, PackageModule, modules_in, file_mo
 use Rattle.name_rows.specs.Rows.{place_row, rows_in}
 use Rattle.name_rows.specs.RowLaws.{Plain, written_plain, Holds, among_rows}
 use Rattle.place_laws.specs.HeldPlaces.{plain_append, name_plain}
-use Rattle.package_names.specs.Packages.{file_segments, meets, some_meet, cut_snake, parts_meet, package_meets, packages_meet, module_in, part_stands, packages_stand}
+use Rattle.package_names.specs.Packages.{file_segments, meets, some_meet, cut_snake, package_meets, packages_meet, module_in, part_stands, packages_stand}
 use Rattle.package_laws.specs.PlaceLaws.{any_map, places_meet}
 use Rattle.package_laws.specs.PackageLaws.{modules_differ, module_among, modules_meet}
 use Rattle.package_laws.specs.SegmentLaws.{Segment, set_segments}

@@ -1,6 +1,6 @@
 -- Laws of places that differ. Assumes nothing.
 use Rattle.std.specs.Prelude.{◌≡◌, refl, Bool, true, false, ◌||◌, ◌&&◌, not, List, [], ◌∷◌, ◌++◌, map}
-use Rattle.std.proofs.Common.{sym, ap, ◌∙◌}
+use Rattle.std.proofs.Common.{◌∙◌}
 use Rattle.base.specs.Lists.{any, all_of}
 use Rattle.name_check.specs.NameCheck.{Place, same_place, places_differ}
 

@@ -1,11 +1,11 @@
 -- The modules of a package, gone through segment by segment, among rows. Assumes nothing.
 use mathlib.Core.Path.{◌≡◌, refl, sym, ap, ◌∙◌}
-use mathlib.Core.Bool.{Bool, true, false, ◌&&◌, ◌||◌, or-false}
+use mathlib.Core.Bool.{Bool, true, false, ◌||◌, or-false}
 use mathlib.Core.List.{List, [], ◌∷◌, ◌++◌, append-nil}
 use Prim.Native.Nat.{ℕ, suc, ◌+◌, ◌-◌, ◌≤◌, ◌<◌}
 use native.Mathlib.Omega.{arith}
 use native.Mathlib.Numerals.{add-one}
-use lib.Dec.{eqb, ltb}
+use lib.Dec.{eqb}
 use lib.ListN.{length, take, drop, get_or, length-take, length-drop, drop_of_length-le}
 use lib.Seq.{sets-eq, take_all, take-add, drop-cons, drop-drop, get_or-drop, length-take-le}
 use borrow.Author.Tests.{lt-ltb, le-ltb, eqb-true}
@@ -18,13 +18,12 @@ use Rattle.ident.specs.Ident.{to_snake}
 use Rattle.path.specs.Forms.{among}
 use Rattle.wire.specs.Records.{part}
 use Rattle.descriptor.specs.Descriptor.{Bytes}
-use Rattle.descriptor.specs.Decode.{decode_file}
 use Rattle.descriptor.specs.Views.{file_in}
 use Rattle.descriptor.specs.declared.FileView.{FileView}
 use Rattle.extern_paths.specs.Split.{begins, split, first_part}
 use Rattle.split.proofs.SplitLaws.{by_test, Parted, spans, parts_last, parts_more}
 use Rattle.name_rules.specs.FullNames.{◌·◌}
-use Rattle.name_check.specs.NameCheck.{PackageModule, modules_in}
+use Rattle.name_check.specs.NameCheck.{modules_in}
 use Rattle.name_rows.specs.Rows.{row}
 use Rattle.package_names.specs.Packages.{segment_module, module_in, part_stands}
 use Rattle.package_names.proofs.MeetLaws.{with_segments, without_segments}

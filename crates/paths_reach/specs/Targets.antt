@@ -5,7 +5,6 @@ use Rattle.std.proofs.Math.Option.{Option}
 use mathlib.Core.List.Memᴰ
 use mathlib.Core.List.{List, [], ◌∷◌, ◌++◌, map, reverse_aux, Memᴰ}
 use Rattle.base.specs.Lists.{Every}
-use Rattle.field_types.specs.Types.{message}
 use Rattle.descriptor.specs.Descriptor.{Bytes, Forest, done, node, preorder, MessageDescriptor, FileDescriptor}
 use Rattle.name_rules.specs.Accessors.{text}
 use Rattle.name_rules.specs.FullNames.{package_scope, Entry, entries, set_entries}

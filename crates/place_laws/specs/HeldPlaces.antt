@@ -1,12 +1,12 @@
 -- Each declared place of an accepted set has a row of its own: its home and name are short and have no byte 0. Assumes nothing.
-use Rattle.std.specs.Prelude.{ℕ, zero, suc, ◌+◌, ◌<◌, ◌≤◌, ◌≡◌, refl, Bool, true, false, ◌&&◌, ◌||◌, eqb, length}
-use Rattle.std.proofs.Common.{sym, ap, subst, ◌∙◌, ⊎_elim, arith, length-append, eqb-true}
+use Rattle.std.specs.Prelude.{ℕ, suc, ◌<◌, ◌≤◌, ◌≡◌, refl, Bool, true, false, ◌||◌, eqb, length}
+use Rattle.std.proofs.Common.{sym, subst, ⊎_elim, arith, length-append, eqb-true}
 use Rattle.std.proofs.Math.Option.{Option, some, none}
 use mathlib.Core.List.{List, [], ◌∷◌, ◌++◌}
 use Rattle.base.specs.Bytes.{b}
 use Rattle.base.specs.Choose.{choose, choose_case}
 use Rattle.base.specs.Lists.{is_empty, Every, every_append, every_to}
-use Rattle.base.specs.Tests.{both_ways, and_left, and_right}
+use Rattle.base.specs.Tests.{and_left, and_right}
 use Rattle.writer.specs.Text.{pick}
 use Rattle.heck.specs.Case.{between}
 use Rattle.ident.specs.Name.{name_start, name_part, every, is_name}

@@ -2,8 +2,7 @@
 use Prim.Native.Nat.{ℕ, zero, suc, ◌+◌, ◌≤◌}
 use Rattle.std.specs.Prelude.{◌≡◌, Bool, true, false, ◌||◌, not, eqb, length, take}
 use Rattle.std.proofs.Math.Path.{refl, sym, ap₂}
-use Rattle.std.proofs.Common.{ap, subst, ◌∙◌, ⊎_elim, arith, take_all}
-use Rattle.std.proofs.Math.Option.{Option}
+use Rattle.std.proofs.Common.{ap, ◌∙◌, ⊎_elim, arith, take_all}
 use mathlib.Core.List.{List, [], ◌∷◌, ◌++◌, map, append_assoc, append-nil}
 use Rattle.base.specs.Choose.{choose}
 use Rattle.base.specs.Lists.{is_empty, all_of, Every, map_length}
@@ -36,8 +35,8 @@ use Rattle.text_laws.specs.FileLaws.{no_parts, none_mapped}
 use Rattle.text_laws.specs.SaysLaws.{described}
 use Rattle.call_laws.specs.CallLaws.{behind_is}
 use Rattle.name_check.specs.NameCheck.{Place, oneof_places, enum_places, message_places, file_places}
-use Rattle.name_rows.specs.Rows.{row, place_row, rows_of}
-use Rattle.place_rows.specs.PlaceRows.{enum_row, same_count, enum_rows, oneof_row, oneof_rows, Inner, module_rows, message_rows, messages_rows, file_rows, behind_file}
+use Rattle.name_rows.specs.Rows.{place_row, rows_of}
+use Rattle.place_rows.specs.PlaceRows.{enum_row, enum_rows, oneof_row, oneof_rows, Inner, module_rows, message_rows, messages_rows, file_rows, behind_file}
 
 -- ---- lists of places
 rows_append : (ps qs : List Place) → rows_of (ps ++ qs) ≡ rows_of ps ++ rows_of qs

@@ -1,5 +1,5 @@
 -- The rows of the places that a set's declarations have: by the tables, with paths cut where the buffers end. Assumes nothing.
-use Rattle.std.specs.Prelude.{ℕ, zero, suc, Bool, ◌||◌, not, List, [], ◌∷◌, ◌++◌, eqb, length, take}
+use Rattle.std.specs.Prelude.{ℕ, zero, suc, Bool, ◌||◌, not, List, [], ◌++◌, eqb, length, take}
 use Rattle.base.specs.Lists.{is_empty}
 use Rattle.writer.specs.Text.{pick}
 use Rattle.ident.specs.Ident.{to_snake, to_upper_camel}

@@ -16,7 +16,6 @@ use Rattle.limits.specs.Answer.{read_set, refusal_number}
 use Rattle.limits.specs.declared.Read.{Read}
 use Rattle.limits.specs.declared.Read.TheVariants.{Good, Fault, Passed}
 use Rattle.name_rules.specs.Answer.{names}
-use Rattle.set_rules.specs.declared.Judged.{Judged}
 use Rattle.set_rules.specs.Judge.{by_names, by_reading, judge_set}
 
 in_order : (a : Bool) (k : Checked) (n : ℕ) → choose a (Passed 1) (on_checked k (λ place. Fault place) (choose (eqb n 0) Good (Passed n))) ≡ Good → n ≡ 0

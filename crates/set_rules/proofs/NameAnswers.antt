@@ -1,21 +1,20 @@
 -- Refusals 6 and 7 of a set, by a table that has room for its declarations. Assumes nothing.
-use mathlib.Core.Path.{◌≡◌, refl, sym, ap, ◌∙◌}
-use mathlib.Core.Bool.{Bool, true, false}
+use mathlib.Core.Path.{◌≡◌, sym, ap, ◌∙◌}
+use mathlib.Core.Bool.{true, false}
 use mathlib.Core.List.{List}
-use Prim.Native.Nat.{ℕ, ◌+◌, ◌*◌, ◌≤◌, ◌<◌, min}
+use Prim.Native.Nat.{ℕ, ◌*◌, ◌≤◌, ◌<◌, min}
 use native.Mathlib.Omega.{arith}
 use lib.Dec.{ltb}
 use lib.ListN.{length}
 use borrow.Author.Tests.{lt-ltb, le-ltb}
 use Rattle.base.specs.Choose.{choose}
 use Rattle.base.specs.Lists.{first_failing, map_length}
-use Rattle.descriptor.specs.Descriptor.{Bytes, FileDescriptor}
+use Rattle.descriptor.specs.Descriptor.{Bytes}
 use Rattle.descriptor.specs.Decode.{entries, parts, decode_file, decode_set}
 use Rattle.name_rules.specs.Rules.{file_good}
 use Rattle.name_rules.specs.Answer.{first_six, first_seven, names}
-use Rattle.name_rules.specs.declared.Names.{Names}
 use Rattle.name_rules.specs.declared.Names.TheVariants.{Good, Six, Seven}
-use Rattle.declarations.specs.Rows.{State, state, has_room, declared, Became}
+use Rattle.declarations.specs.Rows.{State, has_room, declared, Became}
 use Rattle.declarations.specs.Listed.{listed, listed_files}
 use Rattle.declarations.specs.declared.Count.{Count}
 use Rattle.declarations.proofs.SetLaws.{set_listed, set_room}

@@ -4,7 +4,6 @@ use mathlib.Core.Bool.{Bool, true, false}
 use mathlib.Core.List.{List, [], ◌∷◌, ◌++◌, map, append_assoc}
 use Prim.Native.Nat.{ℕ, suc, ◌+◌, ◌*◌, ◌≤◌}
 use native.Mathlib.Omega.{arith}
-use lib.Dec.{ltb}
 use lib.ListN.{length, length-append}
 use borrow.Author.Tests.{ltb-false}
 use Rattle.base.specs.Choose.{choose}
@@ -13,7 +12,7 @@ use Rattle.descriptor.specs.Descriptor.{Bytes, EnumDescriptor, MessageDescriptor
 use Rattle.descriptor.specs.Decode.{decode_set}
 use Rattle.descriptor.specs.Limits.{max_files, max_messages, max_enums, messages_in, enums_in, passes_1, limit_of_files, limit_passed}
 use Rattle.name_rules.specs.FullNames.{Entry, set_entries, package_scope}
-use Rattle.declarations.specs.Listed.{Listed, file_entries, listed_enums, listed_entries, listed_file, listed_files}
+use Rattle.declarations.specs.Listed.{file_entries, listed_enums, listed_entries, listed_file, listed_files}
 use Rattle.field_columns.proofs.EntryLaws.{set_messages}
 use Rattle.limits.specs.Short.{short}
 use Rattle.limits.proofs.Sizes.{declarations_short}

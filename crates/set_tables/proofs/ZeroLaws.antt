@@ -13,7 +13,6 @@ use Rattle.options.specs.Settings.{Setting, settings, first_of_kind}
 use Rattle.options.specs.declared.Found.{Found}
 use Rattle.path.specs.Forms.{sub_path_iter}
 use Rattle.path.specs.PathMap.{first_with, find_best}
-use Rattle.context.specs.Context.{has}
 use Rattle.walks.specs.Walked.{walked}
 use Rattle.boxed_settings.specs.Flags.{flag, field_flag, field_flags, stay, messages_flags, file_flags, set_flags}
 use Rattle.set_tables.specs.Filled.{most_fields, zeros, setting_bytes, field_numbers_in, field_numbers}

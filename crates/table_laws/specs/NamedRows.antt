@@ -14,7 +14,7 @@ use Rattle.name_rules.specs.FullNames.{◌·◌, Entry, set_entries}
 use Rattle.name_rules.specs.Answer.{names}
 use Rattle.name_rules.specs.declared.Names.TheVariants.{Good}
 use Rattle.context.specs.Context.{has}
-use Rattle.index.specs.Tree.{Holds, all_members, row_at}
+use Rattle.index.specs.Tree.{Holds, all_members}
 use Rattle.index.proofs.SetLaws.{MessageTable}
 use Rattle.message_graph.specs.Limit.{messages}
 use Rattle.message_graph.specs.Fields.{Fields, fields, size, message_at, message_at_is, message_at_below, type_message, type_group}

@@ -1,5 +1,5 @@
 -- The messages of a set with what is nested in them: the number behind it, and the map entries that their fields name. Assumes nothing.
-use Rattle.std.specs.Prelude.{◌≡◌, refl, ◌&&◌, ◌⊎◌, ℕ, ◌+◌, ◌-◌, ◌<◌, length}
+use Rattle.std.specs.Prelude.{◌≡◌, refl, ◌&&◌, ◌⊎◌, ℕ, ◌+◌, ◌<◌, length}
 use Rattle.std.proofs.Math.Path.{sym, ap}
 use Rattle.std.proofs.Common.{◌∙◌, subst, ltb-false, eq-eqb, ne_eqb}
 use Rattle.std.proofs.Math.Bool.{Bool, true, false}

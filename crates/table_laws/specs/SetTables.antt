@@ -10,7 +10,6 @@ use Rattle.base.specs.Lists.{all, all_of}
 use Rattle.descriptor.specs.Descriptor.{FieldDescriptor, MessageDescriptor, FileDescriptor}
 use Rattle.descriptor.specs.Decode.{decode_field, decode_set}
 use Rattle.descriptor.specs.Limits.{messages_in, fields_in, max_messages}
-use Rattle.name_rules.specs.Accessors.{label}
 use Rattle.name_rules.specs.FullNames.{Entry, set_entries, fields_of_entries}
 use Rattle.name_rules.specs.Answer.{names}
 use Rattle.name_rules.specs.declared.Names.TheVariants.{Good}

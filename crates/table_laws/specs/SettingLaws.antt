@@ -3,7 +3,7 @@ use Rattle.std.specs.Prelude.{◌≡◌, length, take}
 use Rattle.std.proofs.Math.Path.{refl, sym, ap}
 use Rattle.std.proofs.Common.{◌∙◌, arith, take_all}
 use mathlib.Core.List.{List, [], ◌∷◌, ◌++◌, map, map-map, append_assoc}
-use Prim.Native.Nat.{ℕ, zero, suc, ◌+◌, ◌≤◌}
+use Prim.Native.Nat.{ℕ, zero, suc, ◌≤◌}
 use Rattle.std.proofs.Math.ListN.{length-append}
 use Rattle.base.specs.Lists.{all_of}
 use Rattle.descriptor.specs.Descriptor.{Bytes, FieldDescriptor}

@@ -25,7 +25,7 @@ use Rattle.code_generator.specs.Fields.{optional}
 use Rattle.code_generator.specs.MapFields.{MapEntry, map_entry_of}
 use Rattle.code_generator.specs.Oneofs.{OneofField, plain_fields, oneof_fields}
 use Rattle.code_generator.specs.Generate.{has_module, is_proto3}
-use Rattle.sights.specs.Sights.{Item, Use, Sight, an_item, Frame, in_module, in_declaration, in_field, in_tag, in_wrap, owner_of, wraps_of, module_at, file_place, set_sights, uses}
+use Rattle.sights.specs.Sights.{Item, Use, Sight, an_item, Frame, in_module, in_declaration, in_field, in_wrap, owner_of, wraps_of, module_at, file_place, set_sights, uses}
 use Rattle.text_sights.specs.Written.{names_struct, names_enum, label_of, in_shape, in_box, box_sights, ident_sights, type_sights, tag_sights, field_sights, map_sights, variant_sights, oneof_field_sights, field_or_map_sights, struct_item, oneof_item, struct_sights, oneof_sights, enum_sights, message_sights, written_sights}
 use Rattle.text_sights.specs.TextReads.{set_sights_are}
 use Rattle.paths_reach.specs.Dots.{scope_of, scope_of_names, dotted_package}

@@ -15,7 +15,7 @@ use Rattle.name_rules.specs.Answer.{names}
 use Rattle.name_rules.specs.declared.Names.TheVariants.{Good}
 use Rattle.name_check.specs.NameCheck.{name_check, package_modules}
 use Rattle.sights.specs.Events.{WrittenPath}
-use Rattle.sights.specs.Sights.{Item, Use, set_sights, items, uses}
+use Rattle.sights.specs.Sights.{Item, Use, set_sights, uses}
 use Rattle.paths_reach.specs.Reach.{package_item, world, those, same_names, is_that_declaration, inside}
 use Rattle.paths_reach.specs.Apart.{apart_same}
 use Rattle.paths_reach.specs.Hits.{SameItem, item_sym, items_apart}

@@ -1,7 +1,6 @@
 use native.Mathlib.Omega.{arith}
 use Rattle.message_graph.specs.Tab.{filled_none, filled_more, filled_all}
 use mathlib.Core.Path.{refl}
-use Rattle.context_tables.specs.Cells.{entry_at}
 use Rattle.context_tables.proofs.fill_entries.Goals as goal
 
 pub loop-i-init : goal.loop-i-init

@@ -3,7 +3,6 @@ use Rattle.attributes.proofs.Onward.{begun, turned, passed, done}
 use Rattle.name_rules.specs.Accessors.{number}
 use Rattle.writer.specs.Wrote.{named}
 use mathlib.Core.Path.{ap, ◌∙◌, refl, sym}
-use Rattle.std.specs.Prelude.{false}
 use borrow.Author.Rules.{rules}
 use Rattle.oneof_fields.proofs.tags.Goals as goal
 

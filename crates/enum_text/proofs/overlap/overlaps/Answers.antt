@@ -3,7 +3,6 @@ use lib.ListN.{length-replicate}
 use Prim.Native.Nat.{ℕ}
 use mathlib.Core.Path.{◌∙◌}
 use Rattle.enum_text.proofs.SumLaws.{sums_apart}
-use borrow.Author.Rules.{rules}
 use Rattle.enum_text.proofs.overlap.overlaps.Goals as goal
 
 pub returns : goal.returns
