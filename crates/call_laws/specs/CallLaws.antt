@@ -25,7 +25,8 @@ use Rattle.file_faults.specs.FileFaults.{faults_of_file}
 use Rattle.file_faults.specs.declared.Faults.{Faults}
 use Rattle.code_generator.specs.Generate.{file_text}
 use Rattle.code_generator.specs.Refusals.{variants_overlap, defaults_fail}
-use Rattle.text_laws.specs.FileTheorems.{first_from, first_message, file_text_is, file_faults_are}
+use Rattle.text_laws.specs.FileTheorems.{first_from, first_message}
+use Rattle.text_laws.proofs.FileTheorems.{file_text_is, file_faults_are}
 use Rattle.limit_facts.specs.Within.{within}
 use Rattle.text_length.specs.Bound.{text_bounded}
 use Rattle.file_parts.specs.FileParts.{part_at, behind, first_number}

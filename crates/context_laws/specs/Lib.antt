@@ -3,9 +3,6 @@ pub mod Tables
 pub mod Numbers
 pub mod Rows
 pub mod Links
-pub mod Boxed
-pub mod Every
-pub mod Derived
 pub mod SoundSets
 pub mod Ranges
 pub mod Examples

@@ -1,4 +1,2 @@
 pub mod Readable
 pub mod TypeReading
-pub mod TagReading
-pub mod FieldReading

@@ -1,3 +1,1 @@
 pub mod RootRows
-pub mod MemberNames
-pub mod MemberTheorems

@@ -16,15 +16,15 @@ use Rattle.table_says.specs.Says.{Says}
 use Rattle.code_generator.specs.Refusals.{overlap}
 use Rattle.name_check.specs.NameCheck.{Place, package_modules, module_place, file_places, places, places_differ, file_members_meet, name_check}
 use Rattle.name_rows.specs.Rows.{place_row, rows_of, rows_in}
-use Rattle.name_rows.specs.RowLaws.{rows_size, rows_differ}
+use Rattle.name_rows.proofs.RowLaws.{rows_size, rows_differ}
 use Rattle.place_rows.specs.PlaceRows.{set_rows}
 use Rattle.place_laws.specs.PlaceTheorems.{declared_hold, declared_few, set_rows_are}
 use Rattle.package_names.specs.Packages.{packages_stand}
 use Rattle.package_laws.specs.PlaceLaws.{places_meet, differ_append}
-use Rattle.package_laws.specs.PackageTheorems.{packages_differ, packages_stand_is}
+use Rattle.package_laws.proofs.PackageTheorems.{packages_differ, packages_stand_is}
 use Rattle.member_rows.specs.MemberRows.{rows_overlap}
-use Rattle.member_laws.specs.RootRows.{rows_enough}
-use Rattle.member_laws.specs.MemberTheorems.{set_meets_is}
+use Rattle.member_laws.proofs.RootRows.{rows_enough}
+use Rattle.member_laws.proofs.MemberTheorems.{set_meets_is}
 use Rattle.name_call.specs.Differ.{rows_laid, names_differ}
 
 in_order : (a b c d : Bool) → (a && (b && (not c && not d))) ≡ ((b && (not c && a)) && not d)

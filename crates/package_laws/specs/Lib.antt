@@ -1,4 +1,3 @@
 pub mod PlaceLaws
 pub mod PackageLaws
 pub mod SegmentLaws
-pub mod PackageTheorems

@@ -16,7 +16,7 @@ use Rattle.code_generator.specs.Resolve.{local_path}
 use Rattle.name_check.specs.NameCheck.{Place, PackageModule, modules_in, file_modules, same_module, each_once, package_modules, module_place, file_places, places, same_place, places_differ, file_members_meet, name_check}
 use Rattle.sights.specs.Sights.{items}
 use Rattle.text_sights.specs.Written.{written_sights}
-use Rattle.text_sights.specs.TextReads.{set_sights_are}
+use Rattle.text_sights.proofs.TextReads.{set_sights_are}
 use Rattle.paths_reach.specs.Reach.{world}
 use Rattle.paths_reach.specs.Apart.{Apart, apart_nil, apart_cons, apart_head, apart_tail}
 use Rattle.paths_reach.specs.Dots.{scope_of, Dotted, empty, dotted_more, scope_of_names}

@@ -6,10 +6,7 @@ pub mod Seen
 pub mod Nodes
 pub mod Homes
 pub mod Closed
-pub mod Hits
 pub mod There
 pub mod Targets
 pub mod Types
 pub mod Entries
-pub mod PathsReach
-pub mod Examples

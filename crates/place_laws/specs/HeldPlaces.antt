@@ -24,9 +24,9 @@ use Rattle.name_rules.specs.WellFormed.{Name, Named, GoodEnum, GoodMessage, Well
 use Rattle.path_fits.specs.PathsFit.{max_short_name, max_scope, EnumFits, OneofFits, PathsFit, FileFits}
 use Rattle.code_generator.specs.Oneofs.{fields_at, OneofField, meets, oneofs_from, oneof_fields}
 use Rattle.code_generator.specs.Generate.{has_module}
-use Rattle.text_laws.specs.SaysLaws.{every_left, every_right}
+use Rattle.text_laws.proofs.SaysLaws.{every_left, every_right}
 use Rattle.name_check.specs.NameCheck.{Place, oneof_places, enum_places, message_places, file_places}
-use Rattle.name_rows.specs.RowLaws.{Plain, every_plain, written_plain, Holds}
+use Rattle.name_rows.proofs.RowLaws.{Plain, every_plain, written_plain, Holds}
 
 -- ---- no byte 0
 pub plain_append : (x y : Bytes) → Plain x → Plain y → Plain (x ++ y)

@@ -9,12 +9,12 @@ use Rattle.options.specs.Settings.{Setting}
 use Rattle.name_rules.specs.Answer.{names}
 use Rattle.name_rules.specs.declared.Names.TheVariants.{Good}
 use Rattle.name_rules.proofs.WellFormedLaws.{every_file}
-use Rattle.path_fits.specs.FitLaws.{set_fits}
+use Rattle.path_fits.proofs.FitLaws.{set_fits}
 use Rattle.table_says.specs.Says.{Says}
 use Rattle.limit_facts.specs.Within.{within}
 use Rattle.name_check.specs.NameCheck.{Place, file_places}
 use Rattle.name_rows.specs.Rows.{rows_of}
-use Rattle.name_rows.specs.RowLaws.{Holds}
+use Rattle.name_rows.proofs.RowLaws.{Holds}
 use Rattle.place_rows.specs.PlaceRows.{set_rows}
 use Rattle.place_laws.specs.RowTexts.{files_rows_are}
 use Rattle.place_laws.specs.HeldPlaces.{files_held}

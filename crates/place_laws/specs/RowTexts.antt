@@ -28,11 +28,11 @@ use Rattle.code_generator.specs.Oneofs.{fields_at, OneofField, oneof_fields, typ
 use Rattle.code_generator.specs.Generate.{has_module}
 use Rattle.text_laws.specs.Pairwise.{pairwise_empty}
 use Rattle.text_laws.specs.Described.{MessageIs, Described}
-use Rattle.text_laws.specs.MemberLaws.{oneof_numbers}
-use Rattle.text_laws.specs.NestedLaws.{Siblings, siblings_fit, conflict_is, module_is}
-use Rattle.text_laws.specs.OneofLaws.{oneof_at, walked_is}
-use Rattle.text_laws.specs.FileLaws.{no_parts, none_mapped}
-use Rattle.text_laws.specs.SaysLaws.{described}
+use Rattle.text_laws.proofs.MemberLaws.{oneof_numbers}
+use Rattle.text_laws.proofs.NestedLaws.{Siblings, siblings_fit, conflict_is, module_is}
+use Rattle.text_laws.proofs.OneofLaws.{oneof_at, walked_is}
+use Rattle.text_laws.proofs.FileLaws.{no_parts, none_mapped}
+use Rattle.text_laws.proofs.SaysLaws.{described}
 use Rattle.call_laws.specs.CallLaws.{behind_is}
 use Rattle.name_check.specs.NameCheck.{Place, oneof_places, enum_places, message_places, file_places}
 use Rattle.name_rows.specs.Rows.{place_row, rows_of}

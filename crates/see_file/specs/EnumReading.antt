@@ -28,7 +28,7 @@ use Rattle.reading.specs.Words.{is_word, name_word, in_code, word_read, indent_r
 use Rattle.reading.specs.Strings.{string_stop, string_name, number_read}
 use Rattle.field_reading.specs.Readable.{Converts, camel_word, variant_word}
 use Rattle.field_reading.specs.TypeReading.{prost_then}
-use Rattle.field_reading.specs.FieldReading.{between_two, attributes_read, deprecated_read}
+use Rattle.field_reading.proofs.FieldReading.{between_two, attributes_read, deprecated_read}
 
 -- ---- the name that a descriptor has
 pub named_text : (o : Option Bytes) → Named o → Name (text o)

@@ -34,7 +34,7 @@ use Rattle.reading.specs.Words.{name_parts, in_code, word_read, indent_read}
 use Rattle.reading.specs.Strings.{comment_read}
 use Rattle.field_reading.specs.Readable.{Converts, ReadableField, snake_word, camel_word, oneof_word}
 use Rattle.field_reading.specs.TypeReading.{prost_then}
-use Rattle.field_reading.specs.FieldReading.{between_two, attributes_read, field_read, map_read, variants_read, ReadableOneof, oneof_fields_read}
+use Rattle.field_reading.proofs.FieldReading.{between_two, attributes_read, field_read, map_read, variants_read, ReadableOneof, oneof_fields_read}
 use Rattle.see_file.specs.EnumReading.{named_text, end_read, Items, outermost, inner, enum_opened, path_attribute_read, enums_read}
 
 -- ---- what the names of a message have to be

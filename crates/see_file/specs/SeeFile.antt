@@ -12,11 +12,12 @@ use Rattle.code_generator.specs.Piece.{pieces}
 use Rattle.code_generator.specs.Generate.{is_proto3, generate}
 use Rattle.sights.specs.Events.{events}
 use Rattle.sights.specs.Sights.{read, file_place, file_sights}
-use Rattle.sights.specs.Unmarked.{unmarked_event, unmarked, read_unmarked}
+use Rattle.sights.specs.Unmarked.{unmarked_event, unmarked}
+use Rattle.sights.proofs.Unmarked.{read_unmarked}
 use Rattle.text_reader.specs.Symbols.{text_symbols}
 use Rattle.text_reader.specs.Reader.{see}
 use Rattle.reading.specs.Reading.{Reads, ◌▸◌}
-use Rattle.field_reading.specs.FieldReading.{between_two}
+use Rattle.field_reading.proofs.FieldReading.{between_two}
 use Rattle.see_file.specs.EnumReading.{outermost, enums_read}
 use Rattle.see_file.specs.MessageReading.{ReadableMessage, messages_read}
 

@@ -28,10 +28,10 @@ use Rattle.field_columns.specs.Columns.{owner_at, column_at, start_at, Kind, Lab
 use Rattle.context_laws.specs.At.{At, at_within}
 use Rattle.context_laws.specs.Tables.{Row, rows_of, number_of, type_name_of, tables_of, settings_of, Sound}
 use Rattle.context_laws.specs.Numbers.{number_below}
-use Rattle.context_laws.specs.Rows.{row_kind, row_label, row_target}
-use Rattle.context_laws.specs.Rows as table_rows
-use Rattle.context_laws.specs.Boxed.{should_box_by_number}
-use Rattle.context_laws.specs.Derived.{message_copy_by_number, message_eq_by_number, field_copy_by_number, field_eq_by_number}
+use Rattle.context_laws.proofs.Rows.{row_kind, row_label, row_target}
+use Rattle.context_laws.proofs.Rows as table_rows
+use Rattle.context_laws.proofs.Boxed.{should_box_by_number}
+use Rattle.context_laws.proofs.Derived.{message_copy_by_number, message_eq_by_number, field_copy_by_number, field_eq_by_number}
 use Rattle.text_tables.specs.Rows.{message_row, field_row}
 use Rattle.text_tables.specs.declared.MessageRow.{MessageRow}
 use Rattle.text_tables.specs.declared.FieldRow.{FieldRow}

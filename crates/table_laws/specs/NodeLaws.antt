@@ -24,7 +24,8 @@ use Rattle.context_laws.specs.At.{At, at_one, mem_of_at}
 use Rattle.context_laws.specs.Tables.{Row, rows_of, type_name_of, Sound}
 use Rattle.context_laws.specs.Tables as tables
 use Rattle.context_laws.specs.Numbers.{find_entry}
-use Rattle.context_laws.specs.Rows.{first_row, find_owner, row_of, row_typed}
+use Rattle.context_laws.specs.Rows.{first_row}
+use Rattle.context_laws.proofs.Rows.{find_owner, row_of, row_typed}
 use Rattle.context_laws.specs.SoundSets.{no_refusals}
 use Rattle.text_tables.specs.Rows.{message_row, field_row}
 use Rattle.code_generator.specs.MapFields.{entry_of, map_entry_of}

@@ -24,7 +24,8 @@ use Rattle.field_columns.proofs.SetColumns.{rows_decoded, owners_are, column_is,
 use Rattle.field_columns.proofs.EntryLaws.{set_messages, set_fields_are}
 use Rattle.context_laws.specs.At.{At, at_within, at_get_or, at_map}
 use Rattle.context_laws.specs.Tables.{Row, rows_from, rows_of, tables_of, Sound}
-use Rattle.context_laws.specs.Rows.{column_entry, owners_entry, first_row}
+use Rattle.context_laws.specs.Rows.{first_row}
+use Rattle.context_laws.proofs.Rows.{column_entry, owners_entry}
 use Rattle.context_laws.specs.SoundSets.{sound_set}
 use Rattle.context_laws.specs.Ranges.{Ranged, ranged_set}
 

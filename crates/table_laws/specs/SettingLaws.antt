@@ -19,7 +19,7 @@ use Rattle.joined.specs.Joined.{max_path, ◌⊙◌, whole_path}
 use Rattle.boxed_settings.specs.Flags.{name_in, flag, field_flag, stay, field_flags, messages_flags, file_flags, set_flags}
 use Rattle.index.proofs.OwnerLaws.{all_of_append}
 use Rattle.context_laws.specs.Tables.{Row, rows_from, is_set, settings_of}
-use Rattle.context_laws.specs.Rows.{column_entry}
+use Rattle.context_laws.proofs.Rows.{column_entry}
 use Rattle.context_tables.specs.Cells.{bit}
 
 -- ---- what fits

@@ -23,7 +23,7 @@ use Rattle.field_columns.proofs.SetColumns.{fields_counted}
 use Rattle.boxed_settings.specs.Flags.{set_flags}
 use Rattle.context_laws.specs.At.{At, at_within, mem_of_at}
 use Rattle.context_laws.specs.Tables.{Row, rows_of, number_of, type_name_of, settings_of}
-use Rattle.context_laws.specs.Rows.{find_owner}
+use Rattle.context_laws.proofs.Rows.{find_owner}
 use Rattle.text_tables.specs.Rows.{message_row, field_row}
 use Rattle.text_tables.specs.declared.MessageRow.{MessageRow}
 use Rattle.text_tables.specs.declared.FieldRow.{FieldRow}

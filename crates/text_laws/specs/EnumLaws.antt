@@ -9,7 +9,7 @@ use Rattle.descriptor.specs.Decode.{decode_enum}
 use Rattle.options.specs.Settings.{Setting}
 use Rattle.path_fits.specs.PathsFit.{EnumFits}
 use Rattle.enum_text.specs.EnumText.{enum_texts}
-use Rattle.enum_fits.specs.EnumsFit.{text_whole, meets_whole}
+use Rattle.enum_fits.proofs.EnumsFit.{text_whole, meets_whole}
 use Rattle.file_faults.specs.FileFaults.{enums_meet}
 use Rattle.code_generator.specs.Piece.{flat}
 use Rattle.code_generator.specs.Enums.{append_enums}

@@ -1,12 +1,4 @@
 pub mod Pairwise
 pub mod Described
-pub mod MemberLaws
-pub mod NestedLaws
-pub mod FieldLaws
-pub mod OneofLaws
 pub mod EnumLaws
-pub mod MessageLaws
-pub mod FaultLaws
-pub mod FileLaws
-pub mod SaysLaws
 pub mod FileTheorems

@@ -1,4 +1,2 @@
 pub mod Reading
 pub mod Written
-pub mod FieldReads
-pub mod TextReads

@@ -8,7 +8,8 @@ use Rattle.descriptor.specs.Descriptor.{FileDescriptor}
 use Rattle.name_rules.specs.Accessors.{text, is_repeated, is_message}
 use Rattle.name_rules.specs.FullNames.{set_entries}
 use Rattle.context.specs.MessageGraph.{is_link, links, is_nested}
-use Rattle.context_laws.specs.Links.{Led, led_sound, led_complete}
+use Rattle.context_laws.specs.Links.{Led}
+use Rattle.context_laws.proofs.Links.{led_sound, led_complete}
 use Rattle.code_generator.specs.Piece.{Owned}
 use Rattle.walks_end.specs.BoxedFields.{leads_back}
 

@@ -1,12 +1,6 @@
 pub mod Walks
 pub mod BoxedFields
-pub mod Facts
 pub mod Origins
-pub mod WalksEnd
 pub mod Owners
-pub mod Unmarked
 pub mod LeadsBack
-pub mod BoxesStand
 pub mod Labels
-pub mod WrittenFields
-pub mod Examples

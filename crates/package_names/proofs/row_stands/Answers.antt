@@ -1,6 +1,6 @@
 use Rattle.package_names.proofs.StandLaws.{filled}
 use Rattle.name_rows.specs.Rows.{rows_in}
-use Rattle.name_rows.specs.RowLaws.{row_size}
+use Rattle.name_rows.proofs.RowLaws.{row_size}
 use Rattle.path.specs.Forms.{among}
 use mathlib.Core.Path.{◌∙◌, ap, sym}
 use mathlib.Core.List.{List}

@@ -1,0 +1,2 @@
+pub mod TagReading
+pub mod FieldReading

@@ -1,0 +1,4 @@
+pub mod SeenTexts
+pub mod Together
+pub mod Worked
+pub mod WorkedSeen

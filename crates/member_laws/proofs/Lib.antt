@@ -1,0 +1,3 @@
+pub mod RootRows
+pub mod MemberNames
+pub mod MemberTheorems

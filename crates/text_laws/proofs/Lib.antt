@@ -1,0 +1,9 @@
+pub mod FileTheorems
+pub mod MemberLaws
+pub mod NestedLaws
+pub mod FieldLaws
+pub mod OneofLaws
+pub mod MessageLaws
+pub mod FaultLaws
+pub mod FileLaws
+pub mod SaysLaws
