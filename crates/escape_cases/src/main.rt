@@ -1,10 +1,15 @@
 // Compares unescaping and escaping with recorded answers of the Rust: data/unescape.txt has a bytes default in hex and its bytes in
 // hex, or `-` where it doesn't unescape; data/escape.txt has a text in hex, or `b` and bytes in hex, and what is written for it.
 // A line that differs is printed.
+#![tactic(auto)]
+
 ghost use Rattle.std.specs.Prelude.{◌≡◌, ◌+◌, ◌≤◌, ◌<◌, min, length};
-ghost use Rattle.io.specs.Counts.{IsPrefixLen};
+ghost use Rattle.std.specs.Counts.{IsPrefixLen};
 
 use c_escaping::Unescaped;
+use std::io::Write;
+use std::rt::Files;
+use std::{fs, io};
 
 #[derive(Drop)]
 struct Tally {
@@ -108,10 +113,8 @@ fn gives(a: &[u8], b: &[u8]) -> bool {
 
 fn put_bytes(t: &mut [u8], bytes: &[u8]) -> usize {
     let mut a = 0;
-    let mut i = 0;
-    while i < bytes.len() {
-        a = literal::put_byte(t, a, bytes[i]);
-        i += 1;
+    for byte in bytes {
+        a = literal::put_byte(t, a, *byte);
     }
     a
 }
@@ -119,7 +122,7 @@ fn put_bytes(t: &mut [u8], bytes: &[u8]) -> usize {
 // Do the first n bytes of t stand as `want`?
 fn shows(t: &[u8], n: usize, want: &[u8]) -> bool {
     if n <= t.len() {
-        return check::same(&t[..n], want);
+        return base::same_bytes(&t[..n], want);
     }
     false
 }
@@ -128,7 +131,7 @@ fn shows(t: &[u8], n: usize, want: &[u8]) -> bool {
 fn unescape_case(given: &[u8], want: &[u8]) -> bool {
     let mut a = [0u8; 256];
     let n = decode(given, &mut a);
-    if check::same(want, b"-") {
+    if base::same_bytes(want, b"-") {
         return !c_escaping::unescapes(&a[..n]);
     }
     let mut b = [0u8; 256];
@@ -169,45 +172,39 @@ fn holds(line: &[u8], unescaping: bool) -> bool {
     text_case(&line[0..m], want)
 }
 
-fn judge(line: &[u8], unescaping: bool, t: Tally) -> Tally {
-    let ok = holds(line, unescaping);
-    if ok {
-        return counted(t, true);
+fn judge<W: Write>(out: &mut W, line: &[u8], unescaping: bool, t: Tally) -> io::Result<Tally> {
+    if holds(line, unescaping) {
+        return Ok(counted(t, true));
     }
-    io::write_all(1, line);
-    io::write_all(1, b"\n");
-    counted(t, false)
+    out.write_all(line)?;
+    out.write_all(b"\n")?;
+    Ok(counted(t, false))
 }
 
-fn compare(s: &[u8], unescaping: bool, start: Tally) -> Tally {
+fn compare<W: Write>(out: &mut W, s: &[u8], unescaping: bool, start: Tally) -> io::Result<Tally> {
     let mut t = start;
     let mut i = 0;
     while i < s.len() {
         let e = find(s, i, b'\n');
-        t = judge(&s[i..e], unescaping, t);
+        t = judge(out, &s[i..e], unescaping, t)?;
         i = after(e, s.len());
     }
-    t
+    Ok(t)
 }
 
-fn read_list(path: &[u8], unescaping: bool, t: Tally) -> Tally {
-    let file = os::open_read(path);
-    if file < 0 {
-        os::fail(path);
-        return t;
-    }
-    let mut buffer = io::large_buffer();
-    let n = io::read_full(file, &mut buffer);
-    libc::close(file);
-    compare(&buffer[..n], unescaping, t)
+fn read_list(
+    rt: &(impl Files + Alloc + Print),
+    path: &str,
+    unescaping: bool,
+    t: Tally,
+) -> io::Result<Tally> {
+    let lines = fs::read(rt, path)?;
+    compare(&mut io::writer(rt), &lines, unescaping, t)
 }
 
-fn main() {
+fn main(rt: HostRuntime) -> io::Result<()> {
     let start = Tally { n: 0, bad: 0 };
-    let half = read_list(b"unescape.txt", true, start);
-    let t = read_list(b"escape.txt", false, half);
-    io::print_decimal(1, t.n);
-    io::write_all(1, b" compared, ");
-    io::print_decimal(1, t.bad);
-    io::write_all(1, b" differ\n");
+    let half = read_list(&rt, "unescape.txt", true, start)?;
+    let t = read_list(&rt, "escape.txt", false, half)?;
+    println!(rt; "{} compared, {} differ", t.n, t.bad)
 }

@@ -2,6 +2,12 @@
 // many messages can derive Copy, and how many Eq. Then each set of standard input: 64 fields as five columns of 64 bytes (owner,
 // target, type, label, boxed setting), of which it prints a digit for each field, and for each of the first 64 messages twice.
 // oracle/graph_cases made these sets; what is to be printed of them is the Rust's answer, and of the large sets that of cases.py.
+#![tactic(auto)]
+
+ghost use Rattle.std.specs.Prelude.{◌≤◌, length, IfOk};
+
+use std::io;
+use std::io::{Read, Write};
 
 // The messages of a large set lie in a row, with eight fields each.
 fn owner_at(i: usize) -> u8 {
@@ -54,19 +60,17 @@ fn set_at(case: usize, i: usize) -> bool {
 // How many are true?
 fn count(s: &[bool]) -> u64 {
     let mut n = 0u64;
-    let mut i = 0;
-    while i < s.len() {
-        if s[i] {
-            n = std::num::wrapping_add_u64(n, 1);
+    for x in s {
+        if *x {
+            n = n.wrapping_add(1);
         }
-        i += 1;
     }
     n
 }
 
-fn put_count(s: &[bool], end: &[u8]) {
-    io::print_decimal(1, count(s));
-    io::write_all(1, end);
+fn put_count<W: Write>(out: &mut W, s: &[bool], end: &[u8]) -> io::Result<()> {
+    write!(out, "{}", count(s))?;
+    out.write_all(end)
 }
 
 fn digit_at(s: &[bool], i: usize) -> u8 {
@@ -79,96 +83,114 @@ fn digit_at(s: &[bool], i: usize) -> u8 {
 }
 
 // A digit for each of the first 64.
-fn put_digits(s: &[bool], end: &[u8]) {
+fn put_digits<W: Write>(out: &mut W, s: &[bool], end: &[u8]) -> io::Result<()> {
     let mut line = [b'0'; 64];
-    let mut i = 0;
-    while i < 64 {
+    for i in 0..64 {
         line[i] = digit_at(s, i);
-        i += 1;
     }
-    io::write_all(1, &line);
-    io::write_all(1, end);
+    out.write_all(&line)?;
+    out.write_all(end)
 }
 
-fn show_counts(owner: &[u8], target: &[u8], kind: &[u8], label: &[u8], set: &[bool]) {
+fn show_counts<W: Write>(
+    out: &mut W,
+    owner: &[u8],
+    target: &[u8],
+    kind: &[u8],
+    label: &[u8],
+    set: &[bool],
+) -> io::Result<()> {
     let mut boxed = [false; 2048];
     let d = derives::can_derive(owner, target, kind, label, set, &mut boxed);
-    let copy = d.copy;
-    let eq = d.eq;
-    put_count(&boxed, b" ");
-    put_count(&copy, b" ");
-    put_count(&eq, b"\n");
+    put_count(out, &boxed, b" ")?;
+    put_count(out, &d.copy, b" ")?;
+    put_count(out, &d.eq, b"\n")
 }
 
-fn large(case: usize) {
+fn large<W: Write>(out: &mut W, case: usize) -> io::Result<()> {
     let mut owner = [0u8; 2048];
     let mut target = [0u8; 2048];
     let mut kind = [0u8; 2048];
     let mut label = [0u8; 2048];
     let mut set = [false; 2048];
-    let mut i = 0;
-    while i < 2048 {
+    for i in 0..2048 {
         owner[i] = owner_at(i);
         target[i] = target_at(i);
         kind[i] = kind_at(case, i);
         label[i] = label_at(case, i);
         set[i] = set_at(case, i);
-        i += 1;
     }
-    show_counts(&owner, &target, &kind, &label, &set);
+    show_counts(out, &owner, &target, &kind, &label, &set)
 }
 
-fn show_digits(owner: &[u8], target: &[u8], kind: &[u8], label: &[u8], set: &[bool]) {
+fn show_digits<W: Write>(
+    out: &mut W,
+    owner: &[u8],
+    target: &[u8],
+    kind: &[u8],
+    label: &[u8],
+    set: &[bool],
+) -> io::Result<()> {
     let mut boxed = [false; 64];
     let d = derives::can_derive(owner, target, kind, label, set, &mut boxed);
-    let copy = d.copy;
-    let eq = d.eq;
-    put_digits(&boxed, b" ");
-    put_digits(&copy, b" ");
-    put_digits(&eq, b"\n");
+    put_digits(out, &boxed, b" ")?;
+    put_digits(out, &d.copy, b" ")?;
+    put_digits(out, &d.eq, b"\n")
 }
 
 // Which of the first 64 bytes are 1?
 fn ones(s: &[u8]) -> [bool; 64] {
     let mut out = [false; 64];
-    let mut i = 0;
-    while i < 64 {
+    for i in 0..64 {
         out[i] = base::byte_at(s, i) == 1;
-        i += 1;
     }
     out
 }
 
-// The answers of one set of standard input, and whether there was one.
-fn replay() -> bool {
+// Reads until the buffer is full or the input ends, and returns how many bytes it read.
+fn read_full<R: Read>(input: &mut R, buffer: &mut [u8]) -> io::Result<usize>
+    ensures { IfOk result (λ n. n ≤ length buffer.new) }
+{
+    let mut n = 0;
+    while n < buffer.len() {
+        let k = input.read(&mut buffer[n..])?;
+        if k == 0 {
+            break;
+        }
+        n += k;
+    }
+    Ok(n)
+}
+
+// The answers of one set of the input, and whether there was one.
+fn replay<R: Read, W: Write>(input: &mut R, out: &mut W) -> io::Result<bool> {
     let mut owner = [0u8; 64];
     let mut target = [0u8; 64];
     let mut kind = [0u8; 64];
     let mut label = [0u8; 64];
     let mut setting = [0u8; 64];
-    if io::read_full(0, &mut owner) == 0 {
-        return false;
+    if read_full(input, &mut owner)? == 0 {
+        return Ok(false);
     }
-    io::read_full(0, &mut target);
-    io::read_full(0, &mut kind);
-    io::read_full(0, &mut label);
-    io::read_full(0, &mut setting);
+    read_full(input, &mut target)?;
+    read_full(input, &mut kind)?;
+    read_full(input, &mut label)?;
+    read_full(input, &mut setting)?;
     let set = ones(&setting);
-    show_digits(&owner, &target, &kind, &label, &set);
-    true
+    show_digits(out, &owner, &target, &kind, &label, &set)?;
+    Ok(true)
 }
 
-fn main() {
-    let mut case = 0;
-    while case < 8 {
-        large(case);
-        case += 1;
+fn main(rt: HostRuntime) -> io::Result<()> {
+    let mut out = io::writer(&rt);
+    for case in 0..8 {
+        large(&mut out, case)?;
     }
-    let mut sets = 0usize;
-    while sets < 250 {
-        if !replay() {
-            return;
+    let mut input = rt.reader();
+    for _ in 0..250 {
+        if !replay(&mut input, &mut out)? {
+            break;
         }
-        sets += 1;
     }
+    Ok(())
 }

@@ -1,7 +1,13 @@
 // Runs the recorded conversions and compares: ident.txt has a name, its snake and its camel name on each line, strip.txt a
 // prefix, a name and what strip_enum_prefix gives.
+#![tactic(auto)]
+
 ghost use Rattle.std.specs.Prelude.{◌≡◌, ◌+◌, ◌<◌, ◌≤◌, min, length};
 ghost use Rattle.ident_cases.specs.Lines.{Inside, InOrder};
+
+use std::io::Write;
+use std::rt::Files;
+use std::{fs, io};
 
 // A line has three parts: the ends of all and the starts of the second and third, and where the next line starts.
 #[derive(Drop)]
@@ -27,10 +33,10 @@ fn end_of(s: &[u8], from: usize) -> usize
 {
     let mut i = from;
     while i < s.len() {
-        if s[i] == 32 {
+        if s[i] == b' ' {
             return i;
         }
-        if s[i] == 10 {
+        if s[i] == b'\n' {
             return i;
         }
         i += 1;
@@ -59,20 +65,13 @@ fn line_at(s: &[u8], at: usize) -> Line
     let third = behind(s, secondend);
     let thirdend = end_of(s, third);
     Line {
-        end: end,
-        second: second,
-        secondend: secondend,
-        third: third,
-        thirdend: thirdend,
+        end,
+        second,
+        secondend,
+        third,
+        thirdend,
         next: behind(s, thirdend),
     }
-}
-
-fn both(p: bool, q: bool) -> bool {
-    if p {
-        return q;
-    }
-    false
 }
 
 // Do the first n bytes of a buffer hold s?
@@ -102,21 +101,14 @@ fn stripped_is(prefix: &[u8], name: &[u8], stripped: &[u8]) -> bool {
 // Convert gives the same two names, where it takes the name.
 fn converted_is(name: &[u8], snake: &[u8], camel: &[u8]) -> bool {
     let c = ident::convert(name);
-    if c.number == 0 {
-        let x = c.snake;
-        let y = c.camel;
-        let p = is_text(&x, c.snakelen, snake);
-        let q = is_text(&y, c.camellen, camel);
-        return both(p, q);
+    if c.number != 0 {
+        return true;
     }
-    true
+    is_text(&c.snake, c.snakelen, snake) && is_text(&c.camel, c.camellen, camel)
 }
 
 fn names_are(name: &[u8], snake: &[u8], camel: &[u8]) -> bool {
-    let p = snake_is(name, snake);
-    let q = camel_is(name, camel);
-    let r = converted_is(name, snake, camel);
-    both(p, both(q, r))
+    snake_is(name, snake) && camel_is(name, camel) && converted_is(name, snake, camel)
 }
 
 fn agrees(strip: bool, x: &[u8], y: &[u8], z: &[u8]) -> bool {
@@ -127,17 +119,13 @@ fn agrees(strip: bool, x: &[u8], y: &[u8], z: &[u8]) -> bool {
 }
 
 fn counted(t: Tally, good: bool) -> Tally {
-    let compared = std::num::wrapping_add_u32(t.compared, 1);
-    if good {
-        return Tally {
-            compared: compared,
-            differ: t.differ,
-        };
-    }
-    Tally {
-        compared: compared,
-        differ: std::num::wrapping_add_u32(t.differ, 1),
-    }
+    let compared = t.compared.wrapping_add(1);
+    let differ = if good {
+        t.differ
+    } else {
+        t.differ.wrapping_add(1)
+    };
+    Tally { compared, differ }
 }
 
 fn compare(s: &[u8], strip: bool) -> Tally {
@@ -148,16 +136,11 @@ fn compare(s: &[u8], strip: bool) -> Tally {
     let mut at = 0;
     while at < s.len() {
         let line = line_at(s, at);
-        let end = line.end;
-        let second = line.second;
-        let secondend = line.secondend;
-        let third = line.third;
-        let thirdend = line.thirdend;
         let good = agrees(
             strip,
-            &s[at..end],
-            &s[second..secondend],
-            &s[third..thirdend],
+            &s[at..line.end],
+            &s[line.second..line.secondend],
+            &s[line.third..line.thirdend],
         );
         t = counted(t, good);
         at = line.next;
@@ -165,29 +148,16 @@ fn compare(s: &[u8], strip: bool) -> Tally {
     t
 }
 
-fn say(t: Tally) {
-    let mut out = [0u8; 64];
-    let a = writer::put_number(&mut out, 0, t.compared);
-    let a = writer::put(&mut out, a, b" compared, ");
-    let a = writer::put_number(&mut out, a, t.differ);
-    let a = writer::put(&mut out, a, b" differ\n");
-    let n = writer::within(a, 64);
-    io::write_all(1, &out[..n]);
+fn say<W: Write>(out: &mut W, t: Tally) -> io::Result<()> {
+    writeln!(out, "{} compared, {} differ", t.compared, t.differ)
 }
 
-fn run(path: &[u8], strip: bool) {
-    let file = os::open_read(path);
-    if file < 0 {
-        os::fail(path);
-        return;
-    }
-    let mut buffer = [0u8; 131072];
-    let n = io::read_full(file, &mut buffer);
-    libc::close(file);
-    say(compare(&buffer[..n], strip));
+fn run(rt: &(impl Files + Alloc + Print), path: &str, strip: bool) -> io::Result<()> {
+    let lines = fs::read(rt, path)?;
+    say(&mut io::writer(rt), compare(&lines, strip))
 }
 
-fn main() {
-    run(b"ident.txt", false);
-    run(b"strip.txt", true);
+fn main(rt: HostRuntime) -> io::Result<()> {
+    run(&rt, "ident.txt", false)?;
+    run(&rt, "strip.txt", true)
 }

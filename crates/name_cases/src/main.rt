@@ -1,6 +1,10 @@
 // Judges the sets of data/cases.bin by refusal 6, each file by itself, and compares. The file is a message in which a set whose
 // first file at fault has the index i is a field with the number i + 1; where there is none, i is the count of files. The
 // index of a case that differs is printed.
+#![tactic(auto)]
+
+use std::io::Write;
+use std::{fs, io};
 use wire::Step;
 
 #[derive(Drop)]
@@ -16,20 +20,19 @@ fn up(n: u64) -> u64 {
     n
 }
 
-fn counted(t: Tally, same: bool) -> Tally {
+fn counted<W: Write>(out: &mut W, t: Tally, same: bool) -> io::Result<Tally> {
     let compared = up(t.compared);
     if same {
-        return Tally {
+        return Ok(Tally {
             compared,
             differ: t.differ,
-        };
+        });
     }
-    io::print_decimal(1, t.compared);
-    io::write_all(1, b"\n");
-    Tally {
+    writeln!(out, "{}", t.compared)?;
+    Ok(Tally {
         compared,
         differ: up(t.differ),
-    }
+    })
 }
 
 fn is_behind(n: u64, i: usize) -> bool {
@@ -39,7 +42,7 @@ fn is_behind(n: u64, i: usize) -> bool {
     n - 1 == i as u64
 }
 
-fn compare(s: &[u8]) -> Tally {
+fn compare<W: Write>(out: &mut W, s: &[u8]) -> io::Result<Tally> {
     let mut at: usize = 0;
     let mut t = Tally {
         compared: 0,
@@ -47,30 +50,20 @@ fn compare(s: &[u8]) -> Tally {
     };
     loop {
         match wire::read_step(s, at) {
-            Step::End => return t,
-            Step::Fault(_) => return counted(t, false),
+            Step::End => return Ok(t),
+            Step::Fault(_) => return counted(out, t, false),
             Step::Found(f) => {
                 at = f.next;
                 let number = f.number;
                 let first = file_names::first_bad_file(parts::embedded(s, f));
-                t = counted(t, is_behind(number, first));
+                t = counted(out, t, is_behind(number, first))?;
             }
         }
     }
 }
 
-fn main() {
-    let file = os::open_read(b"cases.bin");
-    if file < 0 {
-        os::fail(b"cases.bin");
-        return;
-    }
-    let mut buffer = io::large_buffer();
-    let n = io::read_full(file, &mut buffer);
-    libc::close(file);
-    let t = compare(&buffer[..n]);
-    io::print_decimal(1, t.compared);
-    io::write_all(1, b" compared, ");
-    io::print_decimal(1, t.differ);
-    io::write_all(1, b" differ\n");
+fn main(rt: HostRuntime) -> io::Result<()> {
+    let cases = fs::read(&rt, "cases.bin")?;
+    let t = compare(&mut io::writer(&rt), &cases)?;
+    println!(rt; "{} compared, {} differ", t.compared, t.differ)
 }

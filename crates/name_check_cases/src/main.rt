@@ -1,7 +1,11 @@
 // Asks the name check about the cases of data/cases.bin, and compares. The file is a message in which a case is a field, with the
 // set as its field 1 and the options as its field 2; its number is 16 p + n + 1 for the number n and the place p of the answer (n is
 // 0 without a refusal, and p is then 1 for yes and 0 for no). The index of a case that differs is printed.
+#![tactic(auto)]
+
 use name_call::Numbers;
+use std::io::Write;
+use std::{fs, io};
 use wire::Step;
 
 #[derive(Drop)]
@@ -17,20 +21,19 @@ fn up(n: u64) -> u64 {
     n
 }
 
-fn counted(t: Tally, same: bool) -> Tally {
+fn counted<W: Write>(out: &mut W, t: Tally, same: bool) -> io::Result<Tally> {
     let compared = up(t.compared);
     if same {
-        return Tally {
+        return Ok(Tally {
             compared,
             differ: t.differ,
-        };
+        });
     }
-    io::print_decimal(1, t.compared);
-    io::write_all(1, b"\n");
-    Tally {
+    writeln!(out, "{}", t.compared)?;
+    Ok(Tally {
         compared,
         differ: up(t.differ),
-    }
+    })
 }
 
 // The field number of an answer; 0 for a place that no case has.
@@ -67,7 +70,7 @@ fn answer_of(p: &[u8]) -> u64 {
     coded(name_call::numbers_of(name_call::check_names(part_with(p, 1), part_with(p, 2))))
 }
 
-fn compare(s: &[u8]) -> Tally {
+fn compare<W: Write>(out: &mut W, s: &[u8]) -> io::Result<Tally> {
     let mut at: usize = 0;
     let mut t = Tally {
         compared: 0,
@@ -75,30 +78,20 @@ fn compare(s: &[u8]) -> Tally {
     };
     loop {
         match wire::read_step(s, at) {
-            Step::End => return t,
-            Step::Fault(_) => return counted(t, false),
+            Step::End => return Ok(t),
+            Step::Fault(_) => return counted(out, t, false),
             Step::Found(f) => {
                 at = f.next;
                 let number = f.number;
                 let found = answer_of(parts::embedded(s, f));
-                t = counted(t, number == found);
+                t = counted(out, t, number == found)?;
             }
         }
     }
 }
 
-fn main() {
-    let file = os::open_read(b"cases.bin");
-    if file < 0 {
-        os::fail(b"cases.bin");
-        return;
-    }
-    let mut buffer = io::large_buffer();
-    let n = io::read_full(file, &mut buffer);
-    libc::close(file);
-    let t = compare(&buffer[..n]);
-    io::print_decimal(1, t.compared);
-    io::write_all(1, b" compared, ");
-    io::print_decimal(1, t.differ);
-    io::write_all(1, b" differ\n");
+fn main(rt: HostRuntime) -> io::Result<()> {
+    let cases = fs::read(&rt, "cases.bin")?;
+    let t = compare(&mut io::writer(&rt), &cases)?;
+    println!(rt; "{} compared, {} differ", t.compared, t.differ)
 }

@@ -2,11 +2,16 @@
 // asked, options in hex, a name, and the answer. Asked are: `o` number and place of refusal 1 or 2; `p` the row of kind 5 that
 // a path finds first, and the values of all that it finds; `e` what extern paths make of a full name.
 // A line that differs is printed.
+#![tactic(auto)]
+
 ghost use Rattle.std.specs.Prelude.{◌≡◌, ◌+◌, ◌≤◌, ◌<◌, min, length};
-ghost use Rattle.io.specs.Counts.{IsPrefixLen};
+ghost use Rattle.std.specs.Counts.{IsPrefixLen};
 
 use extern_checks::Externs;
 use options::check::Layout;
+use std::io::Write;
+use std::rt::Files;
+use std::{fs, io};
 
 #[derive(Drop)]
 struct Tally {
@@ -91,7 +96,7 @@ fn decode(s: &[u8], out: &mut [u8]) -> usize
 // Do the first n bytes of t stand as `want`?
 fn shows(t: &[u8], n: usize, want: &[u8]) -> bool {
     if n <= t.len() {
-        return check::same(&t[..n], want);
+        return base::same_bytes(&t[..n], want);
     }
     false
 }
@@ -179,10 +184,10 @@ fn put_answer(t: &mut [u8], asked: u8, o: &[u8], name: &[u8]) -> usize {
 }
 
 fn holds(line: &[u8]) -> bool {
-    let first = after(find(line, 0, 9), line.len());
-    let firstend = find(line, first, 9);
+    let first = after(find(line, 0, b'\t'), line.len());
+    let firstend = find(line, first, b'\t');
     let second = after(firstend, line.len());
-    let secondend = find(line, second, 9);
+    let secondend = find(line, second, b'\t');
     let third = after(secondend, line.len());
     let mut o = [0u8; 4608];
     let n = decode(&line[first..firstend], &mut o);
@@ -192,45 +197,34 @@ fn holds(line: &[u8]) -> bool {
     shows(&t, r, &line[third..])
 }
 
-fn judge(line: &[u8], t: Tally) -> Tally {
-    let ok = holds(line);
-    if ok {
-        return counted(t, true);
+fn judge<W: Write>(out: &mut W, line: &[u8], t: Tally) -> io::Result<Tally> {
+    if holds(line) {
+        return Ok(counted(t, true));
     }
-    io::write_all(1, line);
-    io::write_all(1, b"\n");
-    counted(t, false)
+    out.write_all(line)?;
+    out.write_all(b"\n")?;
+    Ok(counted(t, false))
 }
 
-fn compare(s: &[u8]) -> Tally {
+fn compare<W: Write>(out: &mut W, s: &[u8]) -> io::Result<Tally> {
     let mut t = Tally { n: 0, bad: 0 };
     let mut i = 0;
     while i < s.len() {
         let e = find(s, i, b'\n');
-        t = judge(&s[i..e], t);
+        t = judge(out, &s[i..e], t)?;
         i = after(e, s.len());
     }
-    t
+    Ok(t)
 }
 
-fn run(path: &[u8]) {
-    let file = os::open_read(path);
-    if file < 0 {
-        os::fail(path);
-        return;
-    }
-    let mut buffer = [0u8; 262144];
-    let n = io::read_full(file, &mut buffer);
-    libc::close(file);
-    let t = compare(&buffer[..n]);
-    io::print_decimal(1, t.n);
-    io::write_all(1, b" compared, ");
-    io::print_decimal(1, t.bad);
-    io::write_all(1, b" differ\n");
+fn run(rt: &(impl Files + Alloc + Print), path: &str) -> io::Result<()> {
+    let lines = fs::read(rt, path)?;
+    let t = compare(&mut io::writer(rt), &lines)?;
+    println!(rt; "{} compared, {} differ", t.n, t.bad)
 }
 
-fn main() {
-    run(b"options.txt");
-    run(b"paths.txt");
-    run(b"extern.txt");
+fn main(rt: HostRuntime) -> io::Result<()> {
+    run(&rt, "options.txt")?;
+    run(&rt, "paths.txt")?;
+    run(&rt, "extern.txt")
 }

@@ -1,20 +1,26 @@
-// Replays recorded answers: for each case of answers.bin and refused.bin, what document 01's program prints for its set and
+// Replays recorded answers: for each case of answers.bin and refused.bin, what the program generate prints for its set and
 // options is compared with the recorded output. A pack is eight bytes, then for each case three little-endian 32-bit lengths
 // (set, options, output) and the bytes of the three. The index of a case that differs is printed.
+#![tactic(auto)]
+
 ghost use Rattle.std.specs.Prelude.{◌<◌};
 
+use itoa::Buffer;
+use std::io::Write;
+use std::rt::Files;
+use std::{fs, io};
 use text_call::Numbers;
 
-const SET: usize = 32769;
-
-const OPTIONS: usize = 4097;
-
-const OUTPUT: usize = 131072;
+// No text is longer.
+const TEXT: usize = 65536;
 
 // Limit 2, and one more, which is refused.
 const FILES: usize = 33;
 
-const CASES: usize = 4096;
+// The bytes before the first case, and those of a case's head.
+const MAGIC: usize = 8;
+
+const HEAD: usize = 12;
 
 // Where the rest of the output begins, or that it is another one.
 #[derive(Drop)]
@@ -47,8 +53,7 @@ fn behind(s: &[u8], from: Place, piece: &[u8]) -> Place {
         return Place::Other;
     }
     let end = at + piece.len();
-    let same = check::same(&s[at..end], piece);
-    if same {
+    if base::same_bytes(&s[at..end], piece) {
         return Place::At(end);
     }
     Place::Other
@@ -71,9 +76,8 @@ fn behind_package(s: &[u8], from: Place, package: &[u8]) -> Place {
 }
 
 fn behind_number(s: &[u8], from: Place, n: u64) -> Place {
-    let mut digits = [0u8; 20];
-    let k = io::decimal(n, &mut digits);
-    behind(s, from, &digits[..k])
+    let mut digits = Buffer::new();
+    behind(s, from, digits.format(n).as_bytes())
 }
 
 fn behind_refusal(s: &[u8], from: Place, x: Numbers) -> Place {
@@ -97,29 +101,28 @@ fn is_output(set: &[u8], options: &[u8], output: &[u8], text: &mut [u8]) -> bool
         }
         at = behind_package(output, at, file_package::package_of(set, file));
         let n = writer::within(x.place, text.len());
-        at = behind(output, at, &text[0..n]);
+        at = behind(output, at, &text[..n]);
     }
     false
 }
 
-fn counted(t: Tally, same: bool) -> Tally {
-    let cases = std::num::wrapping_add_u64(t.cases, 1);
+fn counted<W: Write>(out: &mut W, t: Tally, same: bool) -> io::Result<Tally> {
+    let cases = t.cases.wrapping_add(1);
     if same {
-        return Tally {
+        return Ok(Tally {
             cases,
             differ: t.differ,
-        };
+        });
     }
-    io::print_decimal(1, t.cases);
-    io::write_all(1, b" differs\n");
-    Tally {
+    writeln!(out, "{} differs", t.cases)?;
+    Ok(Tally {
         cases,
-        differ: std::num::wrapping_add_u64(t.differ, 1),
-    }
+        differ: t.differ.wrapping_add(1),
+    })
 }
 
 // A 32-bit number of a case's head; larger ones, which no part of a case has, are cut.
-fn length_at(head: &[u8; 12], k: usize) -> usize
+fn length_at(head: &[u8; HEAD], k: usize) -> usize
     requires { k < 9 }
     ensures { result < 16777216 }
 {
@@ -129,62 +132,45 @@ fn length_at(head: &[u8; 12], k: usize) -> usize
     high * 65536 + middle * 256 + low
 }
 
-// Reads a part of a case; so many bytes of the buffer are used.
-fn read_part(file: i32, buffer: &mut [u8], len: usize) -> usize {
-    let n = writer::within(len, buffer.len());
-    io::read_full(file, &mut buffer[0..n])
+// The first n bytes, or as many as there are, and the rest.
+fn read_part(s: &[u8], n: usize) -> (&[u8], &[u8]) {
+    s.split_at(writer::within(n, s.len()))
 }
 
-fn replay_case(file: i32, head: &[u8; 12], text: &mut [u8]) -> bool {
-    let mut set = [0u8; SET];
-    let mut options = [0u8; OPTIONS];
-    let mut output = [0u8; OUTPUT];
-    let n = read_part(file, &mut set, length_at(head, 0));
-    let m = read_part(file, &mut options, length_at(head, 4));
-    let k = read_part(file, &mut output, length_at(head, 8));
-    let n = writer::within(n, SET);
-    let m = writer::within(m, OPTIONS);
-    let k = writer::within(k, OUTPUT);
-    is_output(&set[0..n], &options[0..m], &output[0..k], text)
+// Compares the case of the head, and gives what is behind its parts.
+fn replay_case<'a>(parts: &'a [u8], head: &[u8; HEAD], text: &mut [u8]) -> (bool, &'a [u8]) {
+    let (set, parts) = read_part(parts, length_at(head, 0));
+    let (options, parts) = read_part(parts, length_at(head, 4));
+    let (output, parts) = read_part(parts, length_at(head, 8));
+    (is_output(set, options, output, text), parts)
 }
 
-fn replay(file: i32) -> Tally {
-    let mut head = [0u8; 12];
-    let mut text = io::large_buffer();
+fn replay<W: Write>(out: &mut W, pack: &[u8], text: &mut [u8]) -> io::Result<Tally> {
     let mut t = Tally {
         cases: 0,
         differ: 0,
     };
-    for _ in 0..CASES {
-        let n = io::read_full(file, &mut head);
-        if n < 12 {
-            return t;
-        }
-        let same = replay_case(file, &head, &mut text);
-        t = counted(t, same);
+    let (_, mut rest) = read_part(pack, MAGIC);
+    // Each case has a head, so there are fewer of them than bytes.
+    for _ in 0..pack.len() {
+        let Some((head, parts)) = rest.split_first_chunk::<HEAD>() else {
+            break;
+        };
+        let (same, parts) = replay_case(parts, head, text);
+        t = counted(out, t, same)?;
+        rest = parts;
     }
-    t
+    Ok(t)
 }
 
-fn replay_pack(path: &[u8]) {
-    let file = os::open_read(path);
-    if file < 0 {
-        os::fail(path);
-        return;
-    }
-    let mut magic = [0u8; 8];
-    io::read_full(file, &mut magic);
-    let t = replay(file);
-    libc::close(file);
-    io::write_all(1, path);
-    io::write_all(1, b": ");
-    io::print_decimal(1, t.cases);
-    io::write_all(1, b" compared, ");
-    io::print_decimal(1, t.differ);
-    io::write_all(1, b" differ\n");
+fn replay_pack(rt: &(impl Files + Alloc + Print), path: &str) -> io::Result<()> {
+    let pack = fs::read(rt, path)?;
+    let mut text = vec![in rt.alloc(); 0u8; TEXT]?;
+    let t = replay(&mut io::writer(rt), &pack, &mut text)?;
+    println!(rt; "{path}: {} compared, {} differ", t.cases, t.differ)
 }
 
-fn main() {
-    replay_pack(b"answers.bin");
-    replay_pack(b"refused.bin");
+fn main(rt: HostRuntime) -> io::Result<()> {
+    replay_pack(&rt, "answers.bin")?;
+    replay_pack(&rt, "refused.bin")
 }

@@ -1,7 +1,11 @@
 // Judges the sets of data/cases.bin, each alone, and compares. The file is a message in which a set that is refused with the
 // number n and the place p is a field with the number 16 p + n + 1; without a refusal n and p are 0. The index of a case that
 // differs is printed.
+#![tactic(auto)]
+
 use set_rules::Judged;
+use std::io::Write;
+use std::{fs, io};
 use wire::Step;
 
 #[derive(Drop)]
@@ -17,20 +21,19 @@ fn up(n: u64) -> u64 {
     n
 }
 
-fn counted(t: Tally, same: bool) -> Tally {
+fn counted<W: Write>(out: &mut W, t: Tally, same: bool) -> io::Result<Tally> {
     let compared = up(t.compared);
     if same {
-        return Tally {
+        return Ok(Tally {
             compared,
             differ: t.differ,
-        };
+        });
     }
-    io::print_decimal(1, t.compared);
-    io::write_all(1, b"\n");
-    Tally {
+    writeln!(out, "{}", t.compared)?;
+    Ok(Tally {
         compared,
         differ: up(t.differ),
-    }
+    })
 }
 
 // The field number of a refusal with this number and place; 0 for a place that no set has.
@@ -54,7 +57,7 @@ fn code_of(j: Judged) -> u64 {
     }
 }
 
-fn compare(s: &[u8]) -> Tally {
+fn compare<W: Write>(out: &mut W, s: &[u8]) -> io::Result<Tally> {
     let mut at: usize = 0;
     let mut t = Tally {
         compared: 0,
@@ -62,30 +65,20 @@ fn compare(s: &[u8]) -> Tally {
     };
     loop {
         match wire::read_step(s, at) {
-            Step::End => return t,
-            Step::Fault(_) => return counted(t, false),
+            Step::End => return Ok(t),
+            Step::Fault(_) => return counted(out, t, false),
             Step::Found(f) => {
                 at = f.next;
                 let number = f.number;
                 let found = code_of(set_rules::judge_set(parts::embedded(s, f)));
-                t = counted(t, number == found);
+                t = counted(out, t, number == found)?;
             }
         }
     }
 }
 
-fn main() {
-    let file = os::open_read(b"cases.bin");
-    if file < 0 {
-        os::fail(b"cases.bin");
-        return;
-    }
-    let mut buffer = io::large_buffer();
-    let n = io::read_full(file, &mut buffer);
-    libc::close(file);
-    let t = compare(&buffer[..n]);
-    io::print_decimal(1, t.compared);
-    io::write_all(1, b" compared, ");
-    io::print_decimal(1, t.differ);
-    io::write_all(1, b" differ\n");
+fn main(rt: HostRuntime) -> io::Result<()> {
+    let cases = fs::read(&rt, "cases.bin")?;
+    let t = compare(&mut io::writer(&rt), &cases)?;
+    println!(rt; "{} compared, {} differ", t.compared, t.differ)
 }

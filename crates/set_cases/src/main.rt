@@ -5,9 +5,13 @@
 // 2, a, b, c: the first a bytes of the set have refusal b at place c (0 and 0: none);
 // 3, a, b, c, d: with the byte b at a, the set has refusal c at place d.
 // The number of a command whose answer differs is printed.
+#![tactic(auto)]
+
 ghost use Rattle.std.specs.Prelude.{◌≡◌, ◌+◌, ◌<◌, ◌≤◌, min, length};
 
 use limits::Read;
+use std::io::Write;
+use std::{fs, io};
 
 // How long the set is, which command this is, and how many answers were compared and differ.
 #[derive(Drop)]
@@ -33,43 +37,36 @@ fn word(s: &[u8], k: usize) -> usize
     high * 256 + low
 }
 
-fn both(p: bool, q: bool) -> bool {
-    if p {
-        return q;
-    }
-    false
-}
-
 fn answer_is(set: &[u8], number: usize, place: usize) -> bool {
     match limits::read_set(set) {
-        Read::Good => return number == 0,
-        Read::Fault(at) => return both(number == 3, place == at),
-        Read::Passed(limit) => return both(number == 4, place == limit),
+        Read::Good => number == 0,
+        Read::Fault(at) => number == 3 && place == at,
+        Read::Passed(limit) => number == 4 && place == limit,
     }
 }
 
-fn judged(t: Tally, good: bool) -> Tally {
-    let compared = std::num::wrapping_add_u32(t.compared, 1);
+fn judged<W: Write>(out: &mut W, t: Tally, good: bool) -> io::Result<Tally> {
+    let compared = t.compared.wrapping_add(1);
     if good {
-        return Tally {
+        return Ok(Tally {
             len: t.len,
             at: t.at,
-            compared: compared,
+            compared,
             differ: t.differ,
-        };
+        });
     }
-    say(t.at, b" differs\n");
-    Tally {
+    say(out, t.at, b" differs\n")?;
+    Ok(Tally {
         len: t.len,
         at: t.at,
-        compared: compared,
-        differ: std::num::wrapping_add_u32(t.differ, 1),
-    }
+        compared,
+        differ: t.differ.wrapping_add(1),
+    })
 }
 
 fn with_length(t: Tally, len: usize) -> Tally {
     Tally {
-        len: len,
+        len,
         at: t.at,
         compared: t.compared,
         differ: t.differ,
@@ -88,10 +85,8 @@ fn within(n: usize, end: usize) -> usize
 
 fn repeated(set: &mut [u8], from: usize, times: usize, bytes: &[u8]) -> usize {
     let mut n = from;
-    let mut i: usize = 0;
-    while i < times {
+    for _ in 0..times {
         n = writer::put(set, n, bytes);
-        i += 1;
     }
     n
 }
@@ -105,39 +100,47 @@ fn behind(s: &[u8], size: usize) -> &[u8]
     &s[start..end]
 }
 
-fn changed(set: &mut [u8], t: Tally, at: usize, byte: u8, number: usize, place: usize) -> Tally {
+fn changed<W: Write>(
+    out: &mut W,
+    set: &mut [u8],
+    t: Tally,
+    at: usize,
+    byte: u8,
+    number: usize,
+    place: usize,
+) -> io::Result<Tally> {
     let n = within(t.len, set.len());
     if at < n {
         let old = set[at];
         set[at] = byte;
         let good = answer_is(&set[..n], number, place);
         set[at] = old;
-        return judged(t, good);
+        return judged(out, t, good);
     }
-    judged(t, false)
+    judged(out, t, false)
 }
 
-fn apply(set: &mut [u8], s: &[u8], t: Tally) -> Tally {
+fn apply<W: Write>(out: &mut W, set: &mut [u8], s: &[u8], t: Tally) -> io::Result<Tally> {
     let kind = word(s, 0);
     let a = word(s, 2);
     let b = word(s, 4);
     let c = word(s, 6);
     let d = word(s, 8);
     if kind == 0 {
-        return with_length(t, 0);
+        return Ok(with_length(t, 0));
     }
     if kind == 1 {
         let n = repeated(set, t.len, a, behind(s, b));
-        return with_length(t, n);
+        return Ok(with_length(t, n));
     }
     if kind == 2 {
         if t.len < a {
-            return judged(t, false);
+            return judged(out, t, false);
         }
         let n = within(a, set.len());
-        return judged(t, answer_is(&set[..n], b, c));
+        return judged(out, t, answer_is(&set[..n], b, c));
     }
-    changed(set, t, a, base::byte_at(s, 4), c, d)
+    changed(out, set, t, a, base::byte_at(s, 4), c, d)
 }
 
 fn size_of(s: &[u8]) -> usize
@@ -149,7 +152,7 @@ fn size_of(s: &[u8]) -> usize
     10
 }
 
-fn compare(set: &mut [u8], s: &[u8]) -> Tally {
+fn compare<W: Write>(out: &mut W, set: &mut [u8], s: &[u8]) -> io::Result<Tally> {
     let mut t = Tally {
         len: 0,
         at: 0,
@@ -158,34 +161,24 @@ fn compare(set: &mut [u8], s: &[u8]) -> Tally {
     };
     let mut at: usize = 0;
     while at < s.len() {
-        t = apply(set, &s[at..], t);
-        t.at = std::num::wrapping_add_u32(t.at, 1);
+        t = apply(out, set, &s[at..], t)?;
+        t.at = t.at.wrapping_add(1);
         let size = size_of(&s[at..]);
         at = within(at + size, s.len());
     }
-    t
+    Ok(t)
 }
 
-fn say(n: u32, words: &[u8]) {
-    let mut out = [0u8; 64];
-    let a = writer::put_number(&mut out, 0, n);
-    let a = writer::put(&mut out, a, words);
-    let n = writer::within(a, 64);
-    io::write_all(1, &out[..n]);
+fn say<W: Write>(out: &mut W, n: u32, words: &[u8]) -> io::Result<()> {
+    write!(out, "{n}")?;
+    out.write_all(words)
 }
 
-fn main() {
-    let path = b"sets.bin";
-    let file = os::open_read(path);
-    if file < 0 {
-        os::fail(path);
-        return;
-    }
-    let mut buffer = [0u8; 131072];
-    let n = io::read_full(file, &mut buffer);
-    libc::close(file);
+fn main(rt: HostRuntime) -> io::Result<()> {
+    let commands = fs::read(&rt, "sets.bin")?;
     let mut set = [0u8; 40960];
-    let t = compare(&mut set, &buffer[..n]);
-    say(t.compared, b" compared, ");
-    say(t.differ, b" differ\n");
+    let mut out = io::writer(&rt);
+    let t = compare(&mut out, &mut set, &commands)?;
+    say(&mut out, t.compared, b" compared, ")?;
+    say(&mut out, t.differ, b" differ\n")
 }
