@@ -22,6 +22,8 @@ use Rattle.context_laws.specs.Numbers.{listed_at, number_at, number_one}
 use Rattle.context_laws.proofs.Rows.{row_within, row_listed, row_typed, row_owner, row_target, row_link, row_at}
 use Rattle.context_laws.specs.Links.{Led}
 
+-- ---- `leads` is the test of walks along links
+
 leads_walks : (ls : List Link) (a c : Bytes) → leads ls a c ≡ walks (λ (l : Link). l.from) (λ (l : Link). l.to) same ls a c
 unfolding leads walks
 leads_walks [] a c = refl

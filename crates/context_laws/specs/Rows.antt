@@ -1,9 +1,7 @@
--- The rows of the tables: entry by entry, as a loop fills them, and what stands in the row of a field. Assumes nothing.
+-- Where the rows of a message begin. Assumes nothing.
 use Rattle.std.specs.Prelude.{ℕ, length, take}
 use mathlib.Core.List.{List}
 use Rattle.name_rules.specs.FullNames.{Entry, fields_of_entries}
-
--- ---- the row of a field
 
 -- the row of the first field of the message with number a
 unfoldable pub first_row : List Entry → ℕ → ℕ

@@ -1,4 +1,4 @@
--- In a set that passes none of the limits nothing of an enum is left out: `enum_fits` and `meets_fully` hold. Assumes nothing.
+-- What it is that nothing of a set's enums is left out, and how long a variant's name can be. Assumes nothing.
 use Rattle.std.specs.Prelude.{◌+◌, ◌≤◌, ◌≡◌, Bool, true, false, length}
 use Rattle.std.proofs.Common.{arith}
 use Rattle.std.proofs.Math.Path.{refl}

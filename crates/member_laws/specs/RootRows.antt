@@ -1,4 +1,4 @@
--- Rows of names that have no home: two are the same exactly if two names are. Assumes nothing.
+-- Names that fit a row. Assumes nothing.
 use Rattle.std.specs.Prelude.{◌<◌, length}
 use Rattle.descriptor.specs.Descriptor.{Bytes}
 use Rattle.name_rows.proofs.RowLaws.{Plain}

@@ -1,4 +1,4 @@
--- Events and sights without what they are for. Assumes nothing.
+-- To read events without marks is to read them, and to take the marks away. Assumes nothing.
 use Rattle.std.specs.Prelude.{◌≡◌, refl, List, [], ◌∷◌, map}
 use Rattle.std.proofs.Common.{ap}
 use Rattle.std.proofs.lemmas.List.{map-append}
@@ -8,7 +8,6 @@ use Rattle.sights.specs.Events.{Event, open_module, open_declaration, open_block
 use Rattle.sights.specs.Sights.{Item, Use, BoxUse, Sight, an_item, a_path, a_box, Frame, in_module, in_declaration, in_block, in_field, in_tag, in_wrap, place_of, owner_of, field_of, wraps_of, tagged, closed, declaration_at, box_seen, read, items, uses, boxes}
 use Rattle.sights.specs.Unmarked.{unmarked_event, unmarked_item, unmarked_label, map_option, unmarked_use, unmarked_box, unmarked}
 
--- ---- to read without marks is to read, and to take them away
 abbrev unmarked_frame : Frame → Frame
 unmarked_frame (in_module n) = in_module n
 unmarked_frame (in_declaration i) = in_declaration (unmarked_item i)

@@ -1,4 +1,4 @@
--- Of an accepted set, the text and the faults of each file by the tables are code_generator's. Assumes nothing.
+-- The number of the first message of each file. Assumes nothing.
 use Rattle.std.specs.Prelude.{ℕ, zero, suc, ◌+◌, List, [], ◌∷◌}
 use Rattle.descriptor.specs.Descriptor.{FileDescriptor}
 use Rattle.index.specs.Tree.{size}

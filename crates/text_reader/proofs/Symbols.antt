@@ -1,4 +1,4 @@
--- A text as a reader of bytes is given it: characters, and the values of options, each as one symbol. Assumes nothing.
+-- A text's symbols written out are its bytes. Assumes nothing.
 use Rattle.std.specs.Prelude.{refl, ◌≡◌, List, [], ◌∷◌, ◌++◌}
 use Rattle.std.proofs.Common.{sym, ap, ◌∙◌, append_assoc, append-nil}
 use Rattle.descriptor.specs.Descriptor.{Bytes, FileDescriptor}

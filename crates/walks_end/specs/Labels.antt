@@ -1,5 +1,4 @@
--- Each Box that is seen stands at a field of its message's struct, which is in no oneof, or at a variant of its own oneof's enum, under the name
--- that the field has there. Assumes nothing.
+-- The field or the variant that a Box which is seen stands at. Assumes nothing.
 use Rattle.std.specs.Prelude.{ℕ, ◌≡◌}
 use Rattle.std.proofs.Math.Option.{some, none}
 use mathlib.Core.List.{List, Memᴰ}
@@ -13,7 +12,6 @@ use Rattle.text_sights.specs.Written.{label_of}
 use Rattle.walks_end.specs.BoxedFields.{oneof_name}
 use Rattle.walks_end.specs.Origins.{owner_mark}
 
--- ---- the Boxes
 pub data Labelled (set : List FileDescriptor) (x : BoxUse) : Type 0 where
   at_field : (full : Bytes) (f : FieldDescriptor) → oneof_of f ≡ none → owner_mark x.owner ≡ some (type full) → x.field ≡ some (label_of full f (snake (text f.name))) → Labelled set x
   at_variant : (full : Bytes) (m : MessageDescriptor) (k : ℕ) (f : FieldDescriptor) → Memᴰ (record { full = full; message = m }) (set_entries set) → oneof_of f ≡ some k
