@@ -39,35 +39,37 @@ not_not : (a : Bool) → not (not a) ≡ a
 not_not true = refl
 not_not false = refl
 
-module _ (rs : List Setting) (set messages t : List ℕ) (passed : limit_passed set ≡ 0) (good : names (decode_set set) ≡ Good) (says : Says rs set messages t) (room : ℕ) (enough : 1081344 ≤ room) where
+module _ (rs : List Setting) (set messages t : List ℕ) (passed : limit_passed set ≡ 0) (good : names (decode_set set) ≡ Good) (says : Says rs set messages t) (room : ℕ) where
   abbrev declared : List Place
   declared = all_of (file_places rs) (decode_set set)
 
   abbrev modules : List Place
   modules = map module_place (package_modules (decode_set set))
 
-  -- all rows are there
-  laid_is : rows_laid rs room set messages t ≡ rows_of declared
-  laid_is =
-      let few = declared_few rs set messages t passed good says in
-      let size = rows_size declared in
-      ap (take room) (set_rows_are rs set messages t passed good says) ∙ take_all room (rows_of declared) (omega arith)
+  -- all rows are there, where they fit
+  laid_is : length (rows_of declared) ≤ room → rows_laid rs room set messages t ≡ rows_of declared
+  laid_is fits = ap (take room) (set_rows_are rs set messages t passed good says) ∙ take_all room (rows_of declared) fits
 
-  rows_there : rows_in (length (rows_laid rs room set messages t)) (rows_laid rs room set messages t) ≡ map place_row declared
-  rows_there =
-      let size = rows_size declared in
-      ap (λ (s : Bytes). rows_in (length s) s) laid_is ∙ rows_enough declared (length (rows_of declared)) (omega arith)
+  module _ (laid : rows_laid rs room set messages t ≡ rows_of declared) where
+    rows_there : rows_in (length (rows_laid rs room set messages t)) (rows_laid rs room set messages t) ≡ map place_row declared
+    rows_there =
+        let size = rows_size declared in
+        ap (λ (s : Bytes). rows_in (length s) s) laid ∙ rows_enough declared (length (rows_of declared)) (omega arith)
 
-  rows_differ_is : not (rows_overlap room (set_rows rs messages t set)) ≡ places_differ declared
-  unfolding rows_overlap
-  rows_differ_is = ap (λ (l : List Bytes). not (overlap l)) rows_there ∙ ap not (rows_differ declared (declared_hold rs set messages t passed good says)) ∙ not_not (places_differ declared)
+    rows_differ_is : not (rows_overlap room (set_rows rs messages t set)) ≡ places_differ declared
+    unfolding rows_overlap
+    rows_differ_is = ap (λ (l : List Bytes). not (overlap l)) rows_there ∙ ap not (rows_differ declared (declared_hold rs set messages t passed good says)) ∙ not_not (places_differ declared)
 
-  stands_is : packages_stand (length (rows_laid rs room set messages t)) (rows_laid rs room set messages t) set ≡ places_meet modules declared
-  stands_is = packages_stand_is set passed good declared (declared_hold rs set messages t passed good says) (length (rows_laid rs room set messages t)) (rows_laid rs room set messages t) rows_there
+    stands_is : packages_stand (length (rows_laid rs room set messages t)) (rows_laid rs room set messages t) set ≡ places_meet modules declared
+    stands_is = packages_stand_is set passed good declared (declared_hold rs set messages t passed good says) (length (rows_laid rs room set messages t)) (rows_laid rs room set messages t) rows_there
 
-  pub names_differ_is : names_differ rs room set messages t ≡ name_check rs (decode_set set)
-  unfolding names_differ name_check places
-  names_differ_is =
-      ap₂ ◌&&◌ rows_differ_is (ap₂ ◌&&◌ (sym (packages_differ set passed good)) (ap₂ ◌&&◌ (ap not stands_is) (ap not (set_meets_is rs set messages t room (omega arith) passed good says))))
-      ∙ in_order (places_differ declared) (places_differ modules) (places_meet modules declared) (any (file_members_meet rs) (decode_set set))
-      ∙ ap (λ (b : Bool). b && not (any (file_members_meet rs) (decode_set set))) (sym (differ_append modules declared))
+  module _ (enough : 1081344 ≤ room) where
+    pub names_differ_is : names_differ rs room set messages t ≡ name_check rs (decode_set set)
+    unfolding names_differ name_check places
+    names_differ_is =
+        let few = declared_few rs set messages t passed good says in
+        let size = rows_size declared in
+        let laid : rows_laid rs room set messages t ≡ rows_of declared = laid_is (omega arith) in
+        ap₂ ◌&&◌ (rows_differ_is laid) (ap₂ ◌&&◌ (sym (packages_differ set passed good)) (ap₂ ◌&&◌ (ap not (stands_is laid)) (ap not (set_meets_is rs set messages t room (omega arith) passed good says))))
+        ∙ in_order (places_differ declared) (places_differ modules) (places_meet modules declared) (any (file_members_meet rs) (decode_set set))
+        ∙ ap (λ (b : Bool). b && not (any (file_members_meet rs) (decode_set set))) (sym (differ_append modules declared))
