@@ -6,3 +6,4 @@ pub mod Each
 pub mod Steps
 pub mod Encoded
 pub mod Lists
+pub mod Refusal

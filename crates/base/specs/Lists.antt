@@ -1,18 +1,17 @@
 -- Lists: what holds of all elements or of one, how many pass a test, how many stand before the first that fails it. Assumes nothing.
-use Rattle.std.specs.Prelude.{ℕ, suc, ◌+◌, ◌≤◌, min, Bool, true, false, ◌&&◌, ◌||◌, ◌≡◌, refl, length}
+use Rattle.std.specs.Prelude.{ℕ, suc, ◌+◌, ◌≤◌, min, Bool, true, false, ◌&&◌, ◌≡◌, refl, length}
 use Rattle.std.proofs.Common.{sym, ap, arith}
+use Rattle.std.specs.List.{list_any, list_all}
 use mathlib.Core.List.{List, [], ◌∷◌, ◌++◌, map}
 use Rattle.std.proofs.Math.Nat.{zero-min, min-zero}
 use Rattle.base.specs.Choose.{choose}
 use Rattle.base.specs.Tests.{and_left, and_right}
 
-unfoldable pub all {ℓ} : {A : Type ℓ} → (A → Bool) → List A → Bool
-all p [] = true
-all p (x ∷ xs) = p x && all p xs
+unfoldable pub all : {A : Type 0} → (A → Bool) → List A → Bool
+all = list_all
 
-unfoldable pub any {ℓ} : {A : Type ℓ} → (A → Bool) → List A → Bool
-any p [] = false
-any p (x ∷ xs) = p x || any p xs
+unfoldable pub any : {A : Type 0} → (A → Bool) → List A → Bool
+any = list_any
 
 unfoldable pub count {ℓ} : {A : Type ℓ} → (A → Bool) → List A → ℕ
 count p [] = 0
@@ -39,7 +38,7 @@ Every P (x ∷ xs) = P x × Every P xs
 
 -- ---- laws
 
-pub all_map {ℓ κ} : {A : Type ℓ} {B : Type κ} (p : B → Bool) (g : A → B) (xs : List A) → all p (map g xs) ≡ all (λ (x : A). p (g x)) xs
+pub all_map : {A B : Type 0} (p : B → Bool) (g : A → B) (xs : List A) → all p (map g xs) ≡ all (λ (x : A). p (g x)) xs
 unfolding all
 all_map p g [] = refl
 all_map p g (x ∷ xs) = ap (λ (u : Bool). p (g x) && u) (all_map p g xs)
@@ -66,7 +65,7 @@ first_both p q (x ∷ xs) = go (p x) (q x) (first_failing p xs) (first_failing q
     go false false i j e = refl
 
 -- none fails where the first that does stands behind all of them
-pub none_fails {ℓ} : {A : Type ℓ} (p : A → Bool) (xs : List A) → length xs ≤ first_failing p xs → all p xs ≡ true
+pub none_fails : {A : Type 0} (p : A → Bool) (xs : List A) → length xs ≤ first_failing p xs → all p xs ≡ true
 unfolding first_failing all choose
 none_fails p [] h = refl
 none_fails p (x ∷ xs) h = go (p x) h (none_fails p xs)
@@ -75,7 +74,7 @@ none_fails p (x ∷ xs) h = go (p x) h (none_fails p xs)
     go true h others = others (omega arith)
     go false h others = absurd (omega arith)
 
-module _ {ℓ} {A : Type ℓ} (P : A → Type 0) where
+module _ {A : Type 0} (P : A → Type 0) where
   pub all_every : (p : A → Bool) → ((x : A) → p x ≡ true → P x) → (xs : List A) → all p xs ≡ true → Every P xs
   unfolding all
   all_every p f [] h = tt

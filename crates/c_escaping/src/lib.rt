@@ -1,206 +1,189 @@
-// The bytes of a bytes default, which stand in it with C's escapes (c_escaping.rs).
+//! The bytes of a bytes default, which stand in it with C's escapes (c_escaping.rs).
 #![tactic(auto)]
 
 ghost use Rattle.std.specs.Prelude.{◌≡◌, ◌+◌, ◌-◌, ◌≤◌, length, get_or};
 ghost use Rattle.writer.specs.Wrote.{Wrote};
+ghost use Rattle.writer.specs.Writing.{◌▻◌};
 ghost use Rattle.literal.specs.Escape.{escape_bytes};
 ghost use Rattle.c_escaping.specs.Unescape.{byte_of, letter, is_octal, octal_at, is_hex, hex_value, hex_at, escape_at, unescape_at, unescapes, unescaped};
 
-// What stands at a place: a byte with the place behind it, or none.
-#[derive(Drop)]
+mod bytes;
+
+pub use bytes::{BadEscape, Unescape};
+use writer::Text;
+
+/// What stands at a place: a byte with the place behind it, or none.
+// An enum as UTF-8's step is one: the definition of a step is stated by it. `Unescape` gives the bytes as results.
+#[derive(Clone, Copy, PartialEq, Eq)]
 pub enum Unescaped {
     Byte(u8, usize),
     Fault,
 }
 
+/// A value that fits a byte.
+#[tactic(auto, unfolding(crate::specs::Unescape::byte_of, base::specs::Choose::choose))]
 fn byte_of(v: u32, next: usize) -> Unescaped
     ensures { result ≡ byte_of v next }
 {
-    if v < 256 {
-        let x = v as u8;
-        return Unescaped::Byte(x, next);
+    match u8::try_from(v) {
+        Ok(x) => Unescaped::Byte(x, next),
+        Err(_) => Unescaped::Fault,
     }
-    Unescaped::Fault
 }
 
-// An escape of one letter.
+/// An escape of one letter.
+#[tactic(auto, unfolding(crate::specs::Unescape::letter, base::specs::Choose::choose))]
 fn letter(c: u8, next: usize) -> Unescaped
     ensures { result ≡ letter c next }
 {
-    if c == b'a' {
-        return Unescaped::Byte(0x07, next);
-    }
-    if c == b'b' {
-        return Unescaped::Byte(0x08, next);
-    }
-    if c == b'f' {
-        return Unescaped::Byte(0x0C, next);
-    }
-    if c == b'n' {
-        return Unescaped::Byte(0x0A, next);
-    }
-    if c == b'r' {
-        return Unescaped::Byte(0x0D, next);
-    }
-    if c == b't' {
-        return Unescaped::Byte(0x09, next);
-    }
-    if c == b'v' {
-        return Unescaped::Byte(0x0B, next);
-    }
-    if c == b'\\' {
-        return Unescaped::Byte(0x5C, next);
-    }
-    if c == b'?' {
-        return Unescaped::Byte(0x3F, next);
-    }
-    if c == b'\'' {
-        return Unescaped::Byte(0x27, next);
-    }
-    if c == b'"' {
-        return Unescaped::Byte(0x22, next);
-    }
-    Unescaped::Fault
+    let byte = match c {
+        b'a' => 0x07,
+        b'b' => 0x08,
+        b'f' => 0x0C,
+        b'n' => 0x0A,
+        b'r' => 0x0D,
+        b't' => 0x09,
+        b'v' => 0x0B,
+        b'\\' | b'?' | b'\'' | b'"' => c,
+        _ => return Unescaped::Fault,
+    };
+    Unescaped::Byte(byte, next)
 }
 
-// x less k, and 0 where k is more.
-fn less(x: u8, k: u8) -> u8
-    ensures { result ≡ x - k }
-{
-    if x < k {
-        return 0;
-    }
-    x - k
-}
-
+#[tactic(auto, unfolding(crate::specs::Unescape::is_octal, utf8::specs::Utf8::between, base::specs::Choose::choose))]
 fn is_octal(c: u8) -> bool
     ensures { result ≡ is_octal c }
 {
-    utf8::between(48, 55, c as u32)
+    matches!(c, b'0'..=b'7')
 }
 
-// One to three octal digits.
+/// What an octal digit stands for.
+fn octal_value(c: u8) -> u32
+    ensures { result ≡ c - 48 }
+{
+    u32::from(c.saturating_sub(b'0'))
+}
+
+/// One to three octal digits.
+#[tactic(auto, unfolding(crate::specs::Unescape::octal_at, base::specs::Choose::choose))]
 fn octal_at(s: &[u8], p: usize) -> Unescaped
     requires { p ≤ length s.now }
     ensures { result ≡ octal_at s.now p }
 {
+    let x = octal_value(base::byte_at(s, p));
     let c = base::byte_at(s, p + 1);
-    let d = base::byte_at(s, p + 2);
-    let x = less(base::byte_at(s, p), 48) as u32;
-    let y = less(c, 48) as u32;
-    let z = less(d, 48) as u32;
-    if is_octal(c) {
-        if is_octal(d) {
-            return byte_of((x * 8 + y) * 8 + z, p + 3);
-        }
-        return byte_of(x * 8 + y, p + 2);
+    if !is_octal(c) {
+        return byte_of(x, p + 1);
     }
-    byte_of(x, p + 1)
+    let y = x * 8 + octal_value(c);
+    let d = base::byte_at(s, p + 2);
+    if !is_octal(d) {
+        return byte_of(y, p + 2);
+    }
+    byte_of(y * 8 + octal_value(d), p + 3)
 }
 
+#[tactic(auto, unfolding(crate::specs::Unescape::is_hex, utf8::specs::Utf8::between, base::specs::Choose::choose))]
 fn is_hex(c: u8) -> bool
     ensures { result ≡ is_hex c }
 {
-    let x = c as u32;
-    if utf8::between(48, 57, x) {
-        return true;
-    }
-    if utf8::between(65, 70, x) {
-        return true;
-    }
-    utf8::between(97, 102, x)
+    c.is_ascii_hexdigit()
 }
 
+/// What a hexadecimal digit stands for.
+#[tactic(auto, unfolding(crate::specs::Unescape::hex_value, base::specs::Choose::choose))]
 fn hex_value(c: u8) -> u8
     ensures { result ≡ hex_value c }
 {
-    if c <= 57 {
-        return less(c, 48);
+    match c {
+        ..=b'9' => c.saturating_sub(b'0'),
+        ..=b'F' => c.saturating_sub(b'A' - 10),
+        _ => c.saturating_sub(b'a' - 10),
     }
-    if c <= 70 {
-        return less(c, 55);
-    }
-    less(c, 87)
 }
 
-// Two hexadecimal digits.
+/// Two hexadecimal digits.
+#[tactic(auto, unfolding(crate::specs::Unescape::hex_at, base::specs::Choose::choose))]
 fn hex_at(s: &[u8], p: usize) -> Unescaped
     requires { p ≤ length s.now + 1 }
     ensures { result ≡ hex_at s.now p }
 {
     let c = base::byte_at(s, p);
     let d = base::byte_at(s, p + 1);
-    if is_hex(c) {
-        if is_hex(d) {
-            let x = hex_value(c) as u32;
-            let y = hex_value(d) as u32;
-            return byte_of(x * 16 + y, p + 2);
-        }
-        return Unescaped::Fault;
+    if is_hex(c) && is_hex(d) {
+        byte_of(
+            u32::from(hex_value(c)) * 16 + u32::from(hex_value(d)),
+            p + 2,
+        )
+    } else {
+        Unescaped::Fault
     }
-    Unescaped::Fault
 }
 
-// An escape whose `\` stands before p.
+/// An escape whose `\` stands before `p`.
+#[tactic(auto, unfolding(crate::specs::Unescape::escape_at, base::specs::Choose::choose))]
 fn escape_at(s: &[u8], p: usize) -> Unescaped
     requires { p ≤ length s.now }
     ensures { result ≡ escape_at s.now p }
 {
     let c = base::byte_at(s, p);
     if is_octal(c) {
-        return octal_at(s, p);
+        octal_at(s, p)
+    } else if matches!(c, b'x' | b'X') {
+        hex_at(s, p + 1)
+    } else {
+        letter(c, p + 1)
     }
-    let next = p + 1;
-    if c == b'x' {
-        return hex_at(s, next);
-    }
-    if c == b'X' {
-        return hex_at(s, next);
-    }
-    letter(c, next)
 }
 
-// The byte that stands at p, as it is or as an escape.
+/// The byte that stands at `p`, as it is or as an escape.
+#[tactic(auto, unfolding(crate::specs::Unescape::unescape_at, base::specs::Choose::choose))]
 pub fn unescape_at(s: &[u8], p: usize) -> Unescaped
     ensures { result ≡ unescape_at s.now p }
 {
-    if s.len() <= p {
+    if p >= s.len() {
         return Unescaped::Fault;
     }
-    let c = base::byte_at(s, p);
-    let next = p + 1;
-    if c == b'\\' {
-        return escape_at(s, next);
+    match s[p] {
+        b'\\' => escape_at(s, p + 1),
+        c => Unescaped::Byte(c, p + 1),
     }
-    Unescaped::Byte(c, next)
 }
 
-// Does s unescape? (else refusal 9)
+/// Whether `s` unescapes, else refusal 9.
+#[tactic(auto, using(crate::proofs::ResultLaws::all_ok))]
 pub fn unescapes(s: &[u8]) -> bool
     ensures { result ≡ unescapes s.now }
 {
-    let mut p = 0;
-    while p < s.len() {
-        let Unescaped::Byte(_, next) = unescape_at(s, p) else {
+    for byte in Unescape::new(s) {
+        if byte.is_err() {
             return false;
-        };
-        p = next;
+        }
     }
     true
 }
 
-// The bytes of s, as a byte string literal has them that stands in a literal; where s doesn't unescape, those before the first fault.
+/// The bytes of `s`, as a byte string literal has them that stands in a literal; where `s` doesn't unescape, those before
+/// the first fault.
+pub fn escape_unescaped(text: &mut Text, s: &[u8])
+    ensures { text.new ≡ text.old ▻ escape_bytes (unescaped s.now) }
+{
+    for byte in Unescape::new(s) {
+        let Ok(byte) = byte else {
+            return;
+        };
+        literal::escape_byte(text, byte);
+    }
+}
+
+/// `escape_unescaped` over a slice from a place, for the writers over a place.
 pub fn put_unescaped(t: &mut [u8], at: usize, s: &[u8]) -> usize
     ensures { Wrote t.old at (escape_bytes (unescaped s.now)) t.new result }
 {
-    let mut a = at;
-    let mut p = 0;
-    while p < s.len() {
-        let Unescaped::Byte(x, next) = unescape_at(s, p) else {
-            return a;
-        };
-        a = literal::put_byte(t, a, x);
-        p = next;
-    }
-    a
+    let mut text = Text {
+        buffer: t,
+        length: at,
+    };
+    escape_unescaped(&mut text, s);
+    text.next(at)
 }

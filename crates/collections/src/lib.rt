@@ -1,60 +1,80 @@
-// collections.rs: which collection type a map field and a bytes field have.
+//! collections.rs: which collection type a map field and a bytes field have.
 #![tactic(auto)]
 
 ghost use Rattle.std.specs.Prelude.{◌≡◌};
 ghost use Rattle.writer.specs.Wrote.{Wrote};
 ghost use Rattle.collections.specs.Collections.{map_type, map_annotation, bytes_type, bytes_annotation};
 
-// The map type of a map field.
-#[derive(Drop)]
+/// The map type of a map field.
+#[derive(Clone, Copy, PartialEq, Eq)]
 pub enum MapType {
     HashMap,
     BTreeMap,
 }
 
-// The bytes type of a bytes field.
-#[derive(Drop)]
+impl MapType {
+    /// The word for the map type in a field's tag.
+    pub fn annotation(self) -> &'static [u8]
+        ensures { result.now ≡ map_annotation self }
+    {
+        match self {
+            MapType::HashMap => b"map",
+            MapType::BTreeMap => b"btree_map",
+        }
+    }
+}
+
+/// The bytes type of a bytes field.
+#[derive(Clone, Copy, PartialEq, Eq)]
 pub enum BytesType {
     Vec,
     Bytes,
 }
 
-// The map type of a field; btree: a setting asks for a BTreeMap.
+impl BytesType {
+    /// The word for the bytes type in a field's tag.
+    pub fn annotation(self) -> &'static [u8]
+        ensures { result.now ≡ bytes_annotation self }
+    {
+        match self {
+            BytesType::Vec => b"vec",
+            BytesType::Bytes => b"bytes",
+        }
+    }
+}
+
+/// The map type of a field, where `btree` says that a setting asks for a BTreeMap.
 pub fn map_type(btree: bool) -> MapType
     ensures { result ≡ map_type btree }
 {
     if btree {
-        return MapType::BTreeMap;
+        MapType::BTreeMap
+    } else {
+        MapType::HashMap
     }
-    MapType::HashMap
 }
 
-// The bytes type of a field; asbytes: a setting asks for Bytes.
+/// The bytes type of a field, where `asbytes` says that a setting asks for Bytes.
 pub fn bytes_type(asbytes: bool) -> BytesType
     ensures { result ≡ bytes_type asbytes }
 {
     if asbytes {
-        return BytesType::Bytes;
-    }
-    BytesType::Vec
-}
-
-// MapType::annotation.
-pub fn put_map_annotation(t: &mut [u8], at: usize, m: MapType) -> usize
-    ensures { Wrote t.old at (map_annotation m) t.new result }
-{
-    match m {
-        MapType::HashMap => writer::put(t, at, b"map"),
-        MapType::BTreeMap => writer::put(t, at, b"btree_map"),
+        BytesType::Bytes
+    } else {
+        BytesType::Vec
     }
 }
 
-// BytesType::annotation.
-pub fn put_bytes_annotation(t: &mut [u8], at: usize, m: BytesType) -> usize
-    ensures { Wrote t.old at (bytes_annotation m) t.new result }
+/// `MapType::annotation` over a slice from a place, for the writers over a place.
+pub fn put_map_annotation(t: &mut [u8], at: usize, map: MapType) -> usize
+    ensures { Wrote t.old at (map_annotation map) t.new result }
 {
-    match m {
-        BytesType::Vec => writer::put(t, at, b"vec"),
-        BytesType::Bytes => writer::put(t, at, b"bytes"),
-    }
+    writer::put(t, at, map.annotation())
+}
+
+/// `BytesType::annotation` over a slice from a place, for the writers over a place.
+pub fn put_bytes_annotation(t: &mut [u8], at: usize, bytes: BytesType) -> usize
+    ensures { Wrote t.old at (bytes_annotation bytes) t.new result }
+{
+    writer::put(t, at, bytes.annotation())
 }

@@ -1,14 +1,14 @@
 -- Refusal 2: an extern path that is invalid, or doubled, also against prost types.
-use Rattle.std.specs.Prelude.{Bool, true, false, ◌||◌, ◌&&◌, not, List, [], ◌∷◌, map, ℕ, zero, suc, ◌+◌, eqb, length, take, drop, get_or}
+use Rattle.std.specs.Prelude.{Bool, true, false, ◌||◌, ◌&&◌, not, List, [], ◌∷◌, map, ℕ, zero, suc, ◌+◌, eqb, length, take, drop, get_or, Result, Ok, Err}
 use Rattle.base.specs.Choose.{choose}
 use Rattle.base.specs.Lists.{any, is_empty}
 use Rattle.base.specs.Bytes.{b}
+use Rattle.base.specs.declared.refusal.Refusal.{Refusal}
+use Rattle.base.specs.declared.refusal.Refusal.TheVariants.{ExternPath}
 use Rattle.options.specs.Settings.{Setting}
 use Rattle.path.specs.Forms.{among}
 use Rattle.split.specs.Split.{split}
 use Rattle.extern_paths.specs.ExternPaths.{extern, prost_types}
-use Rattle.extern_checks.specs.declared.Externs.{Externs}
-use Rattle.extern_checks.specs.declared.Externs.TheVariants.{Good, Bad}
 
 -- has the path an empty segment behind a `.`?
 unfoldable pub has_gap : List ℕ → Bool
@@ -46,18 +46,9 @@ unfoldable pub at_fault : List Setting → Setting → Bool
 at_fault before r = any (λ x. not (valid_path x)) (lists r) || any (doubled r) before
 
 -- the lowest row at fault, of k rows from row i on
-unfoldable pub externs_from : List Setting → ℕ → ℕ → Externs
-externs_from rs zero i = Good
-externs_from rs (suc k) i = choose (at_fault (take i rs) (get_or rs i (extern [] []))) (Bad i) (externs_from rs k (i + 1))
+unfoldable pub externs_from : List Setting → ℕ → ℕ → Result Unit Refusal
+externs_from rs zero i = Ok tt
+externs_from rs (suc k) i = choose (at_fault (take i rs) (get_or rs i (extern [] []))) (Err (ExternPath i)) (externs_from rs k (i + 1))
 
-unfoldable pub externs : List Setting → Externs
+unfoldable pub externs : List Setting → Result Unit Refusal
 externs rs = externs_from rs (length rs) 0
-
--- ---- number and place of the refusal, 0 and 0 where there is none
-abbrev pub refusal_number : Externs → ℕ
-refusal_number Good = 0
-refusal_number (Bad place) = 2
-
-abbrev pub refusal_place : Externs → ℕ
-refusal_place Good = 0
-refusal_place (Bad place) = place

@@ -1,4 +1,3 @@
-pub mod WordLaws
 pub mod ByLaws
 pub mod TakerLaws
 pub mod Taken

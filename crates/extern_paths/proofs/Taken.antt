@@ -7,7 +7,7 @@ use Prim.Native.Nat.{ℕ, ◌+◌, ◌-◌, ◌≤◌, ◌<◌}
 use native.Mathlib.Omega.{arith}
 use native.Mathlib.Nat.{sub-zero}
 use native.Mathlib.Decide.{dec_lt}
-use borrow.Author.Tests.{eqb-true, eqb-false}
+use borrow.Author.Tests.{eq-eqb, ne_eqb, eqb-true, eqb-false}
 use lib.Dec.{eqb}
 use lib.ListN.{length, take, drop, get_or, length-append, get_or-append}
 use lib.Seq.{take-append-le, take-append_seam, get_or-append_seam}
@@ -20,7 +20,7 @@ use Rattle.ident.specs.Ident.{among as among_words, raw_words, kept_words, addit
 use Rattle.options.specs.Settings.{Setting, value_of}
 use Rattle.path.specs.Forms.{before_dots, filled, prefixes, among}
 use Rattle.path.specs.PathMap.{first_with, find_best}
-use Rattle.path.proofs.FormLaws.{prefix_empty, prefix_long, prefix_no_dot, prefix_same}
+use Rattle.path.proofs.FormLaws.{same_bytes, prefix_empty, prefix_long, prefix_is}
 use Rattle.split.proofs.SplitLaws.{by_test}
 use Rattle.split.specs.Split.{begins, split_behind, split}
 use Rattle.extern_paths.specs.ExternPaths.{extern, extern_paths, taken, first_segment, resolve_by, resolve_ident, extern_text}
@@ -85,6 +85,14 @@ any_on p q (r ∷ rs) f h =
     ⊎_elim (λ a. or_left (any q rs) (f r a)) (λ a. or_right (q r) (any_on p q rs f a)) (or_cases (p r) (any p rs) h)
 
 -- ---- the forms of a name are forms of a longer one
+module _ (s x : List ℕ) (f : length x ≡ 0 → ⊥) (h : length x < length s) where
+  prefix_no_dot : (get_or s (length x) 0 ≡ 46 → ⊥) → false ≡ among x (prefixes s)
+  prefix_no_dot n = rw (prefix_is s x (omega arith) h, ne_eqb (get_or s (length x) 0) 46 n) refl
+
+  prefix_same : (z : Bool) → get_or s (length x) 0 ≡ 46 → z ≡ same x (take (length x - 0) (drop 0 s)) → z ≡ among x (prefixes s)
+  prefix_same z e q =
+      rw (prefix_is s x (omega arith) h, eq-eqb (get_or s (length x) 0) 46 e, same_bytes x (take (length x) s)) (rw sub-zero at q)
+
 module _ (x y : List ℕ) where
   abbrev longer : List ℕ
   longer = x ++ (46 ∷ y)
@@ -111,7 +119,7 @@ module _ (x y : List ℕ) where
         sym (prefix_same longer z f k true (get_or-append x (46 ∷ y) 0 (length z) l ∙ dot_there) (sym (rw (sub-zero, take-append-le (length z) x (46 ∷ y) m) (rw sub-zero at same_there))))
 
   prefix_stays : (z : List ℕ) → among z (prefixes x) ≡ true → among z (prefixes longer) ≡ true
-  prefix_stays [] h = both_ways h (sym (prefix_empty x [] refl))
+  prefix_stays [] h = both_ways h (prefix_empty x [] refl)
   prefix_stays (c ∷ z) h = on (dec_lt (length (c ∷ z)) (length x))
     where
       full : length (c ∷ z) ≡ 0 → ⊥
@@ -119,7 +127,7 @@ module _ (x y : List ℕ) where
 
       on : Dec (length (c ∷ z) < length x) → among (c ∷ z) (prefixes longer) ≡ true
       on (yes l) = prefix_on (c ∷ z) full l h
-      on (no l) = both_ways h (sym (prefix_long x (c ∷ z) full (omega arith)))
+      on (no l) = both_ways h (prefix_long x (c ∷ z) (omega arith) (omega arith))
 
   forms_stay : (length x ≡ 0 → ⊥) → (z : List ℕ) → among z (x ∷ prefixes x) ≡ true → among z (longer ∷ prefixes longer) ≡ true
   unfolding among

@@ -10,27 +10,21 @@ use lib.ListN.{length, get_or, get_or-append}
 use lib.Seq.{get_or-append-add}
 use borrow.Author.Tests.{eq-eqb, ne_eqb}
 use Rattle.base.specs.Choose.{choose, choose_case}
-use Rattle.base.specs.Bytes.{b, same}
-use Rattle.options.specs.Settings.{Setting, row_count, bodies, path_length, value_length, settings_from, settings, row, setting_of, row_by, row_number, between, first_of_kind, value_of, prost_path}
-use Rattle.options.specs.declared.Row.{Row}
+use Rattle.base.specs.Bytes.{same}
+use Rattle.options.specs.Settings.{Setting, value_of, prost_path}
+use Rattle.options.specs.Rows.{is_of}
+use Rattle.std.proofs.Common.{Option, Some, None, if◌then◌else◌}
+use Rattle.std.specs.List.{find, slice_get}
+use Rattle.std.proofs.Math.Option as Math
+use Rattle.std.proofs.Math.Option.{some, none}
 use Rattle.options.specs.declared.Found.{Found}
-use Rattle.options.proofs.RowLaws.{settings_step, value_is, given, value_in}
 use Rattle.path.specs.PathMap.{find_best}
 use Rattle.path.specs.Worth.{Form, weighed, worth_in, worth_of, improve, best_of, none_yet, found_of}
 use Rattle.path.specs.declared.Best.{Best}
 use Rattle.path.proofs.BestLaws.{found_best, weighed_below, few_forms}
 use Rattle.split.specs.Split.{begins, split_behind, split}
-use Rattle.extern_paths.specs.ExternPaths.{extern, prost_types, if_given, extern_paths, taker, taken, resolve_by, resolve_ident, extern_text}
+use Rattle.extern_paths.specs.ExternPaths.{extern, prost_types, if_given, extern_paths, taker, taken, resolve_by, resolve_ident}
 use Rattle.extern_paths.specs.ProstTypes.{best_word, prost_type, path_words, value_words, prost_type_number}
-
-length_from : (o : List ℕ) (k i at : ℕ) → length (settings_from o k i at) ≡ k
-unfolding settings_from
-length_from o zero i at = refl
-length_from o (suc k) i at = ap suc (length_from o k (i + 1) (at + path_length o i + value_length o i))
-
-pub length_settings : (o : List ℕ) → length (settings o) ≡ row_count o
-unfolding settings
-length_settings o = length_from o (row_count o) 0 (bodies o)
 
 -- ---- the table of prost types
 -- the extern paths of two lists of words
@@ -83,24 +77,38 @@ unfolding best_of
 best_among fs kind m i [] h = let e : i + 0 ≡ i = omega arith in rw e h
 best_among fs kind m i (r ∷ rs) h = let e : i + suc (length rs) ≡ i + 1 + length rs = omega arith in rw e (best_among fs kind (improve m i (worth_of fs kind r)) (i + 1) rs (improve_among m i (worth_of fs kind r) h))
 
-abbrev types : List ℕ → Bool → List ℕ → List Setting
-types p t v = if_given p (given t v)
+-- ---- with a row of kind 12, prost types are extern paths too
+abbrev own_path : Option Setting → Math.Option (List ℕ)
+own_path None = none
+own_path (Some r) = some r.value
 
--- ---- the row of kind 12, as the code finds it
-module _ (o : List ℕ) (f : Found) (q : f ≡ first_of_kind 12 0 (settings o)) where
-  with_types : extern_paths (settings o) ≡ settings o ++ types (prost_path (settings o)) f.found (value_in o (row_number o f.number))
+own_found : (kind : ℕ) (rs : List Setting) → value_of kind rs ≡ own_path (find (is_of kind) rs)
+unfolding value_of choose
+own_found kind [] = refl
+own_found kind (r ∷ rs) = go (is_of kind r) _ _ (own_found kind rs)
+  where
+    go : (t : Bool) (o : Math.Option (List ℕ)) (q : Option Setting) → o ≡ own_path q → choose t (some r.value) o ≡ own_path (if t then Some r else q)
+    go true o q e = refl
+    go false o q e = e
+
+module _ (rs : List Setting) where
+  without : find (is_of 12) rs ≡ None → extern_paths rs ≡ rs
   unfolding extern_paths
-  with_types = rw (value_is o 12 f q) refl
+  without e = rw (own_found 12 rs, e, append-nil) refl
 
-  module _ (fs : List Form) (m : Best) (p : m ≡ best_of fs 1 none_yet 0 (settings o)) where
-    pub best_rows : f.found ≡ false → m ≡ best_of fs 1 none_yet 0 (extern_paths (settings o))
-    best_rows t = rw (with_types, t, append-nil) p
+  with_types : (r : Setting) → find (is_of 12) rs ≡ Some r → extern_paths rs ≡ rs ++ prost_types (prost_path rs) r.value
+  unfolding extern_paths
+  with_types r e = rw (own_found 12 rs, e) refl
 
-    pub best_all : f.found ≡ true → (n : ℕ) → n ≡ row_count o → best_word fs m n path_words ≡ best_of fs 1 none_yet 0 (extern_paths (settings o))
-    best_all t n e =
-        let prost = prost_path (settings o) in
-        let v = value_in o (row_number o f.number) in
-        rw (with_types, t, table prost v, best_append fs 1 none_yet 0 (settings o) (zipped prost v path_words value_words), ← p, best_zipped prost v fs m (0 + length (settings o)) path_words value_words words, length_settings o, zero-add, e) refl
+  pub best_rows : (fs : List Form) → find (is_of 12) rs ≡ None → best_of fs 1 none_yet 0 (extern_paths rs) ≡ best_of fs 1 none_yet 0 rs
+  best_rows fs e = rw (without e) refl
+
+  pub best_all : (fs : List Form) (r : Setting) → find (is_of 12) rs ≡ Some r → best_of fs 1 none_yet 0 (extern_paths rs) ≡ best_word fs (best_of fs 1 none_yet 0 rs) (length rs) path_words
+  best_all fs r e =
+      let prost = prost_path rs in
+      rw (with_types r e, table prost r.value, best_append fs 1 none_yet 0 rs (zipped prost r.value path_words value_words), best_zipped prost r.value fs (best_of fs 1 none_yet 0 rs) (0 + length rs) path_words value_words words, zero-add) refl
+
+pub ruleset bests = (best_rows, best_all)
 
 -- ---- what the search finds
 module _ (rs : List Setting) (ident : List ℕ) (l : length ident < 2 ^ 63) (m : Best) (e : m ≡ best_of (weighed false ident) 1 none_yet 0 (extern_paths rs)) where
@@ -123,11 +131,6 @@ module _ (rs : List Setting) (ident : List ℕ) (l : length ident < 2 ^ 63) (m :
   number_within z = let h : Among (0 + length (extern_paths rs)) m = rw e (best_among (weighed false ident) 1 none_yet 0 (extern_paths rs) (λ n. absurd (n refl))) in let k : m.number < 0 + length (extern_paths rs) = h z in omega arith
 
 -- ---- the extern path of a number
-row_at : (o : List ℕ) (d : Setting) (n i at j : ℕ) → i + j < n → get_or (settings_from o (n - i) i at) j d ≡ setting_of o (row_by o j i at)
-unfolding row_by
-row_at o d n i at zero h = rw (settings_step o n i at (omega arith)) refl
-row_at o d n i at (suc j) h = rw (settings_step o n i at (omega arith)) (row_at o d n (i + 1) (row o i at).end j (omega arith))
-
 type_at : (rs : List Setting) (p v : List ℕ) (j n : ℕ) → length rs ≡ n → n ≤ j → get_or (rs ++ prost_types p v) j (extern [] []) ≡ prost_type_number p v (j - n)
 unfolding prost_type_number
 type_at rs p v j n e h =
@@ -135,44 +138,29 @@ type_at rs p v j n e h =
     ap (λ (i : ℕ). get_or (rs ++ prost_types p v) i (extern [] [])) k ∙ get_or-append-add rs (prost_types p v) (j - n) (extern [] [])
     ∙ rw (table p v) (zipped_at p v path_words value_words (j - n) words)
 
-module _ (o : List ℕ) (j : ℕ) where
-  pub by_row : j < row_count o → get_or (extern_paths (settings o)) j (extern [] []) ≡ setting_of o (row_number o j)
-  unfolding extern_paths row_number settings
-  by_row h =
-      let z : row_count o - 0 ≡ row_count o = omega arith in
-      get_or-append (settings o) (if_given (prost_path (settings o)) (value_of 12 (settings o))) (extern [] []) j (rw (length_settings o) h)
-      ∙ rw z at (row_at o (extern [] []) (row_count o) 0 (bodies o) j (omega arith))
+pub found_row : (rs : List Setting) (j : ℕ) → j < length rs → slice_get rs j ≡ Some (get_or rs j (extern [] []))
+found_row [] j h = absurd (omega arith)
+found_row (r ∷ rs) zero h = refl
+found_row (r ∷ rs) (suc j) h = found_row rs j (omega arith)
 
-  -- row and value of prost types
-  pub by_type : row_count o ≤ j → j < length (extern_paths (settings o)) → (f : Found) → f ≡ first_of_kind 12 0 (settings o) → get_or (extern_paths (settings o)) j (extern [] []) ≡ prost_type_number (prost_path (settings o)) (value_in o (row_number o f.number)) (j - row_count o)
-  by_type h k f q = rw (with_types o f q) (on f.found (rw (with_types o f q) at k))
-    where
-      on : (t : Bool) → j < length (settings o ++ types (prost_path (settings o)) t (value_in o (row_number o f.number))) → get_or (settings o ++ types (prost_path (settings o)) t (value_in o (row_number o f.number))) j (extern [] []) ≡ prost_type_number (prost_path (settings o)) (value_in o (row_number o f.number)) (j - row_count o)
-      on false l = absurd (let n : length (settings o) ≡ row_count o = length_settings o in let m : j < length (settings o) = rw append-nil at l in omega arith)
-      on true l = type_at (settings o) (prost_path (settings o)) (value_in o (row_number o f.number)) j (row_count o) (length_settings o) h
+module _ (rs : List Setting) (ident : List ℕ) (l : length ident < 2 ^ 63) (m : Best) (e : m ≡ best_of (weighed false ident) 1 none_yet 0 (extern_paths rs)) (z : m.worth ≡ 0 → ⊥) where
+  -- a row is there where its number is one
+  pub row_there : m.number < length rs → slice_get rs m.number ≡ None → ⊥
+  row_there h n = let f = found_row rs m.number h in cc
 
--- ---- what is written
-by_places : (o : List ℕ) (r : Row) (ident : List ℕ) → resolve_by (extern (between o r.path r.value) (between o r.value r.end ++ [])) ident ≡ resolve_by (setting_of o r) ident
-unfolding resolve_by
-by_places o r ident = rw append-nil refl
-
-module _ (o ident : List ℕ) (l : length ident < 2 ^ 63) (m : Best) (e : m ≡ best_of (weighed false ident) 1 none_yet 0 (extern_paths (settings o))) (z : m.worth ≡ 0 → ⊥) (n : ℕ) (c : n ≡ row_count o) where
-  pub resolved_row : m.number < n → (r : Row) → r ≡ row_number o m.number → extern_text (resolve_by (extern (between o r.path r.value) (between o r.value r.end ++ [])) ident) ≡ extern_text (resolve_ident (settings o) ident)
+  pub resolved_row : m.number < length rs → (r : Setting) → slice_get rs m.number ≡ Some r → resolve_by (extern r.path (r.value ++ [])) ident ≡ resolve_ident rs ident
+  unfolding resolve_by extern_paths
   resolved_row h r q =
-      let k : m.number < row_count o = omega arith in
-      rw (by_places o r ident, resolves (settings o) ident l m e z, by_row o m.number k, q) refl
+      let f : get_or rs m.number (extern [] []) ≡ r = same (sym (found_row rs m.number h) ∙ q) in
+      rw (append-nil, resolves rs ident l m e z, get_or-append rs (if_given (prost_path rs) (value_of 12 rs)) (extern [] []) m.number h, f) refl
+    where
+      same : {x y : Setting} → Some x ≡ Some y → x ≡ y
+      same p = cc
 
-  pub resolved_type : n ≤ m.number → (f : Found) → f ≡ first_of_kind 12 0 (settings o) → (r : Row) → r ≡ row_number o f.number → (j : ℕ) → j ≡ m.number - n → extern_text (resolve_by (prost_type_number (prost_path (settings o)) (between o r.value r.end) j) ident) ≡ extern_text (resolve_ident (settings o) ident)
-  resolved_type h f p r q j i =
-      let k : row_count o ≤ m.number = omega arith in
-      rw (resolves (settings o) ident l m e z, by_type o m.number k (number_within (settings o) ident l m e z) f p, q, i, c) refl
+  -- else it is a prost type's
+  pub types_there : length rs ≤ m.number → find (is_of 12) rs ≡ None → ⊥
+  types_there h n = let k : m.number < length (extern_paths rs) = number_within rs ident l m e z in let q : length (extern_paths rs) ≡ length rs = ap length (without rs n) in omega arith
 
--- ---- the prost path
-module _ (o : List ℕ) (f : Found) (q : f ≡ first_of_kind 10 0 (settings o)) where
-  pub prost_given : f.found ≡ true → (r : Row) → r ≡ row_number o f.number → value_in o r ≡ prost_path (settings o)
-  unfolding prost_path
-  prost_given t r e = rw (value_is o 10 f q, t, e) refl
-
-  pub prost_default : f.found ≡ false → b "::prost" ≡ prost_path (settings o)
-  unfolding prost_path
-  prost_default t = rw (value_is o 10 f q, t) refl
+  pub resolved_type : length rs ≤ m.number → (r : Setting) → find (is_of 12) rs ≡ Some r → (x : Setting) → x ≡ prost_type_number (prost_path rs) r.value (m.number - length rs) → resolve_by x ident ≡ resolve_ident rs ident
+  resolved_type h r q x w =
+      rw (resolves rs ident l m e z, with_types rs r q, type_at rs (prost_path rs) r.value m.number (length rs) refl h, w) refl

@@ -1,3 +1,4 @@
 pub mod Split
 pub mod ExternPaths
 pub mod ProstTypes
+pub mod Seen

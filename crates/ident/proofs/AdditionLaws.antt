@@ -1,18 +1,23 @@
 -- What sanitising adds is seen from the first nine bytes of a name, since no listed word is as long. Assumes nothing.
 use mathlib.Core.Path.{◌≡◌, refl, sym, ap, ◌∙◌}
 use mathlib.Core.Bool.{Bool, true, ◌&&◌, ◌||◌}
-use mathlib.Core.List.{List, [], ◌∷◌}
-use Prim.Native.Nat.{ℕ, zero, suc, ◌+◌, ◌-◌, ◌^◌, ◌<◌, ◌≤◌, min}
+use mathlib.Core.List.{List, [], ◌∷◌, ◌++◌}
+use Prim.Native.Nat.{ℕ, zero, suc, ◌+◌, ◌^◌, ◌<◌, ◌≤◌, min}
 use native.Mathlib.Omega.{arith}
-use native.Mathlib.Decide.{dec_le}
 use lib.Dec.{ltb, eqb}
-use lib.ListN.{length, take, drop, length-take, take-append-drop}
+use lib.ListN.{length, take, drop, length-take}
 use lib.Seq.{sets-eq, take_all, take_at, get_or-take}
 use borrow.Author.Tests.{ltb-true}
 use Rattle.base.specs.Tests.{and_left, and_right}
 use Rattle.base.specs.Bytes.{same}
-use Rattle.writer.specs.Wrote.{Wrote, over, after, over_cut}
-use Rattle.ident.specs.Ident.{among, raw_words, kept_words, addition}
+use Rattle.writer.specs.Draft.{Draft, most, extended, Filled}
+use Rattle.writer.specs.Writing.{◌▻◌}
+use Rattle.writer.specs.declared.text.Text.{Text}
+use Rattle.writer.proofs.Laying.{sets-take}
+use Rattle.writer.proofs.TextLaws.{appended, put-nothing, measured}
+use Rattle.ident.specs.Ident.{among, raw_words, kept_words, addition, sanitize_identifier}
+use Rattle.ident.specs.Added.{before, behind, sanitized_around}
+use Rattle.ident.specs.declared.keywords.Addition.{Addition}
 
 short : ℕ → List (List ℕ) → Bool
 short n [] = true
@@ -38,30 +43,33 @@ unfolding addition short raw_words kept_words
 addition_front x =
     rw (among_front 9 x raw_words refl, among_front 9 x kept_words refl, get_or-take 9 x 0 0 (omega arith))
 
--- ---- the first bytes, written into a small buffer
-over_front : (t p : List ℕ) (n : ℕ) → length t ≡ n → Dec (length p ≤ n) → over t 0 p ≡ over t 0 (take n p)
-over_front t p n e (yes h) = rw (take_all n p h)
-over_front t p n e (no h) =
-    ap (over t 0) (sym (take-append-drop n p)) ∙ over_cut t 0 (take n p) (drop n p) (rw (length-take n p) (omega arith))
+-- ---- a name in a buffer
+-- as many bytes as there is room for
+front_of : {old p new : List ℕ} {n : ℕ} → Filled old p new n → length old < 2 ^ 63 → take (min n (length old)) new ≡ take (length old) p
+unfolding extended
+front_of {old} {p} {new} {n} w h =
+    let m : n ≡ min (length p) most = measured w in
+    let l : length (take (length old) p) ≡ min (length old) (length p) = length-take (length old) p in
+    ap (take (min n (length old))) (ap (λ (d : Draft). d.buffer) w.is ∙ sets-take old p 0 most (omega arith) ∙ sym (sets-take old p 0 (length old) (omega arith)) ∙ sets-eq (take (length old) p) old 0 (omega arith))
+    ∙ take_at (take (length old) p) (drop (0 + length (take (length old) p)) old) (min n (length old)) (omega arith)
 
-head_is : (t p : List ℕ) (n m : ℕ) → length t ≡ n → m ≡ length (take n p) → take m (over t 0 (take n p)) ≡ take n p
-unfolding over
-head_is t p n m e f =
-    ap (take m) (sets-eq (take n p) t 0 (rw (length-take n p) (omega arith))) ∙ take_at (take n p) (drop (0 + length (take n p)) t) m (sym f)
+pub head_addition : (old p new : List ℕ) (n : ℕ) → Filled old p new n → length old ≡ 9 → addition (take (min n 9) new) ≡ addition p
+head_addition old p new n w h =
+    let f : take (min n 9) new ≡ take 9 p = rw h at (front_of w (omega arith)) in
+    ap addition f ∙ addition_front p
 
-pub head_addition : {t t' p : List ℕ} {n m : ℕ} → Wrote t 0 p t' n → length t ≡ 9 → m ≡ min n 9 → addition (take m t') ≡ addition p
-unfolding after
-head_addition {t} {t'} {p} {n} {m} w e f =
-    let g : n ≡ 0 + min (length p) (2 ^ 63 - 0) = w.next in
-    let l : length (take 9 p) ≡ min 9 (length p) = length-take 9 p in
-    let h : m ≡ length (take 9 p) = omega arith in
-    ap (λ (l : List ℕ). addition (take m l)) (w.text ∙ over_front t p 9 e (dec_le (length p) 9))
-    ∙ ap addition (head_is t p 9 m e h) ∙ addition_front p
+pub whole_name : (old p new : List ℕ) (n : ℕ) → Filled old p new n → n ≤ length old → length old < 2 ^ 63 → take n new ≡ p
+whole_name old p new n w h k =
+    let m : n ≡ min (length p) most = measured w in
+    let e : min n (length old) ≡ n = omega arith in
+    let f : take n new ≡ take (length old) p = rw e at (front_of w k) in
+    f ∙ take_all (length old) p (omega arith)
 
--- ---- the whole name, in a buffer that has room for it
-pub written_whole : {t t' p : List ℕ} {n : ℕ} → Wrote t 0 p t' n → n ≤ length t → take n t' ≡ p
-unfolding after over
-written_whole {t} {t'} {p} {n} w h =
-    let g : n ≡ 0 + min (length p) (2 ^ 63 - 0) = w.next in
-    let r : length t < 2 ^ 63 = w.room in
-    ap (take n) (w.text ∙ sets-eq p t 0 (omega arith)) ∙ take_at p (drop (0 + length p) t) n (omega arith)
+-- ---- a name with what sanitising adds
+pub sanitized : (t t₁ t₂ t₃ : Text) (added : Addition) (x : List ℕ) → added ≡ addition x → t₁ ≡ t ▻ before added → t₂ ≡ t₁ ▻ x → t₃ ≡ t₂ ▻ behind added → t₃ ≡ t ▻ sanitize_identifier x
+sanitized t t₁ t₂ t₃ added x e f g h =
+    appended t t₂ t₃ (before added ++ x) (behind added) (appended t t₁ t₂ (before added) x f g) h
+    ∙ ap (λ (l : List ℕ). t ▻ l) (sanitized_around added x e)
+
+pub nothing_put : (t : Text) → t ≡ t ▻ []
+nothing_put t = sym (put-nothing t)

@@ -1,57 +1,45 @@
--- Tests of a name, from an index on. Assumes nothing.
-use mathlib.Core.Path.{◌≡◌, refl}
-use mathlib.Core.Bool.{Bool, true, false, ◌&&◌}
-use mathlib.Core.List.{List, [], ◌∷◌}
-use Prim.Native.Nat.{ℕ, ◌+◌, ◌<◌, ◌≤◌}
-use native.Mathlib.Numerals.{add-one}
-use native.Mathlib.Omega.{arith}
-use lib.ListN.{length, get_or, drop, drop_of_length-le}
-use lib.Seq.{drop-cons}
+-- The tests of names, by the library's words.
+use Rattle.std.proofs.Common.{◌≡◌, refl, sym, ap, ◌∙◌, Bool, true, false, ◌&&◌, ◌||◌, List, [], ◌∷◌, ℕ, eqb}
+use Rattle.std.proofs.Math.Bool.{or_assoc}
+use Rattle.std.specs.Char.{is_ascii_alphabetic, is_ascii_alphanumeric}
+use Rattle.std.specs.List.{list_any, list_all}
 use Rattle.base.specs.Choose.{choose}
-use Rattle.heck.specs.Case.{class, in_word}
-use Rattle.ident.specs.Name.{name_start, name_part, every, is_name, has_word}
+use Rattle.heck.specs.Case.{between, is_lower, is_upper, is_digit, class, in_word}
+use Rattle.heck.specs.declared.Class.TheVariants.{Other, Digit, Lower, Upper}
+use Rattle.ident.specs.Name.{name_start, every, has_word}
 
-module _ (s : List ℕ) (i : ℕ) where
-  pub has_end : length s ≤ i → false ≡ has_word (drop i s)
-  unfolding has_word
-  has_end h = rw (drop_of_length-le s {i = i} h)
+pub start_is : (c : ℕ) → name_start c ≡ (is_ascii_alphabetic c || eqb c 95)
+unfolding name_start between
+start_is c = sym (or_assoc (is_upper c) (is_lower c) (eqb c 95))
 
-  module _ (h : i < length s) (r : Bool) (e : r ≡ in_word (class (get_or s i 0))) where
-    pub has_yes : r ≡ true → true ≡ has_word (drop i s)
-    unfolding has_word choose
-    has_yes is = rw (drop-cons s i 0 h, ← e, is)
+pub every_is : (p : ℕ → Bool) (s : List ℕ) → every p s ≡ list_all p s
+unfolding every choose
+every_is p [] = refl
+every_is p (c ∷ s) = on (p c) (every_is p s)
+  where
+    on : (t : Bool) → every p s ≡ list_all p s → choose t (every p s) false ≡ (t && list_all p s)
+    on true e = e
+    on false e = refl
 
-    pub has_no : r ≡ false → has_word (drop (i + 1) s) ≡ has_word (drop i s)
-    unfolding has_word choose
-    has_no is = rw (add-one i, drop-cons s i 0 h, ← e, is)
+word_is : (c : ℕ) → in_word (class c) ≡ is_ascii_alphanumeric c
+unfolding class choose between
+word_is c = on (is_lower c) (is_upper c) (is_digit c)
+  where
+    on : (l u d : Bool) → in_word (choose l Lower (choose u Upper (choose d Digit Other))) ≡ ((d || u) || l)
+    on true true true = refl
+    on true true false = refl
+    on true false true = refl
+    on true false false = refl
+    on false true true = refl
+    on false true false = refl
+    on false false true = refl
+    on false false false = refl
 
-  module _ (p : ℕ → Bool) where
-    pub every_end : length s ≤ i → true ≡ every p (drop i s)
-    unfolding every
-    every_end h = rw (drop_of_length-le s {i = i} h)
-
-    module _ (h : i < length s) (r : Bool) (e : r ≡ p (get_or s i 0)) where
-      pub every_yes : r ≡ true → every p (drop (i + 1) s) ≡ every p (drop i s)
-      unfolding every choose
-      every_yes is = rw (add-one i, drop-cons s i 0 h, ← e, is)
-
-      pub every_no : r ≡ false → false ≡ every p (drop i s)
-      unfolding every choose
-      every_no is = rw (drop-cons s i 0 h, ← e, is)
-
-module _ (s : List ℕ) where
-  pub no_name : length s ≡ 0 → false ≡ is_name s
-  unfolding is_name
-  no_name h = on s h
-    where
-      on : (s : List ℕ) → length s ≡ 0 → false ≡ is_name s
-      on [] h = refl
-      on (c ∷ s) h = absurd (omega arith)
-
-  pub name_first : (length s ≡ 0 → ⊥) → is_name s ≡ (name_start (get_or s 0 0) && every name_part (drop 1 s))
-  unfolding is_name
-  name_first h = on s h
-    where
-      on : (s : List ℕ) → (length s ≡ 0 → ⊥) → is_name s ≡ (name_start (get_or s 0 0) && every name_part (drop 1 s))
-      on [] h = absurd (h refl)
-      on (c ∷ s) h = refl
+pub has_word_is : (s : List ℕ) → has_word s ≡ list_any is_ascii_alphanumeric s
+unfolding has_word choose
+has_word_is [] = refl
+has_word_is (c ∷ s) = on (in_word (class c)) (has_word_is s) ∙ ap (λ (t : Bool). t || list_any is_ascii_alphanumeric s) (word_is c)
+  where
+    on : (t : Bool) → has_word s ≡ list_any is_ascii_alphanumeric s → choose t true (has_word s) ≡ (t || list_any is_ascii_alphanumeric s)
+    on true e = refl
+    on false e = e

@@ -14,8 +14,10 @@ use Rattle.base.specs.Choose.{choose, choose_case}
 use Rattle.base.specs.Tests.{bool_cases, both_ways, and_left, and_right, or_cases}
 use Rattle.base.specs.Bytes.{b, same}
 use Rattle.writer.specs.Wrote.{Wrote, over, after}
+use Rattle.writer.specs.Draft.{Filled}
+use Rattle.writer.proofs.TextLaws.{measured, wholly}
 use Rattle.heck.specs.Case.{between, is_lower, is_upper, is_digit, class, lowered, raised, lower_first, parts, words, to_snake_case}
-use Rattle.heck.specs.Pass.{next, separated, spelt, character, piece, cased}
+use Rattle.heck.specs.Pass.{next, separated, spelt as spelt_byte, character, piece, cased}
 use Rattle.heck.specs.declared.Class.{Class}
 use Rattle.heck.specs.declared.Class.TheVariants.{Other, Digit, Lower, Upper}
 use Rattle.heck.specs.declared.State.TheVariants.{Start}
@@ -24,8 +26,8 @@ use Rattle.heck.proofs.Spelling.{snake_cased, camel_cased}
 use Rattle.heck.proofs.Lengths.{snake_length, camel_length}
 use Rattle.ident.specs.Name.{name_start, name_part, every, is_name, has_word}
 use Rattle.ident.specs.Ident.{among, raw_words, kept_words, addition, with_addition, sanitize_identifier, to_snake, to_upper_camel}
-use Rattle.ident.specs.Convert.{padded, convertible, converted}
-use Rattle.ident.specs.declared.Converted.{Converted}
+use Rattle.ident.specs.Convert.{padded, convertible, spelt}
+use Rattle.ident.specs.declared.Spellings.{Spellings}
 use Rattle.ident.proofs.EveryLaws.{all, all_among}
 
 -- ---- what sanitising adds to the length
@@ -61,21 +63,21 @@ start_low c h = on (or_cases (is_upper c) (is_lower c || eqb c 95) h)
     on (inl e) = from_low 65 90 c e
     on (inr e) = rest (or_cases (is_lower c) (eqb c 95) e)
 
-spelt_low : (k f : Bool) (c : ℕ) → 65 ≤ c → 65 ≤ spelt k f c
-unfolding spelt lowered raised
+spelt_low : (k f : Bool) (c : ℕ) → 65 ≤ c → 65 ≤ spelt_byte k f c
+unfolding spelt_byte lowered raised
 spelt_low k f c h =
     choose_case (λ x. 65 ≤ x) (k && f)
     (λ _. choose_case (λ x. 65 ≤ x) (is_lower c) (λ e. let g = from_low 97 122 c e in omega arith) (λ _. h))
     (λ _. choose_case (λ x. 65 ≤ x) (is_upper c) (λ _. omega arith) (λ _. h))
 
-spelt_no_digit : (k f : Bool) (c : ℕ) → 65 ≤ c → is_digit (spelt k f c) ≡ false
-spelt_no_digit k f c h = let g = spelt_low k f c h in above 48 57 (spelt k f c) (omega arith)
+spelt_no_digit : (k f : Bool) (c : ℕ) → 65 ≤ c → is_digit (spelt_byte k f c) ≡ false
+spelt_no_digit k f c h = let g = spelt_low k f c h in above 48 57 (spelt_byte k f c) (omega arith)
 
 begins_other : (k : Bool) (c : ℕ) (s : List ℕ) → name_start c ≡ true → is_digit (get_or (cased k Start (c ∷ s)) 0 0) ≡ true → cased k Start (c ∷ s) ≡ cased k Start s
 unfolding cased piece character separated choose
 begins_other k c s n d = on (class c) k d
   where
-    no : (k : Bool) → is_digit (spelt k true c) ≡ true → (l : List ℕ) → l ≡ cased k Start s
+    no : (k : Bool) → is_digit (spelt_byte k true c) ≡ true → (l : List ℕ) → l ≡ cased k Start s
     no k e l = both_ways e (spelt_no_digit k true c (start_low c n))
 
     on : (x : Class) (k : Bool) → is_digit (get_or (piece k Start x (lower_first s) c ++ cased k (next Start x) s) 0 0) ≡ true → piece k Start x (lower_first s) c ++ cased k (next Start x) s ≡ cased k Start s
@@ -133,11 +135,20 @@ module _ {n : ℕ} {p t : List ℕ} {r : ℕ} (w : Wrote (replicate n 0) 0 p t r
   unfolding after
   written_length k = w.next ∙ omega arith
 
-pub converted_is : (s : List ℕ) {snake camel : List ℕ} {a e : ℕ} → convertible s ≡ true → Wrote (replicate 106 0) 0 (to_snake s) snake a → Wrote (replicate 64 0) 0 (to_upper_camel s) camel e → ◌≡◌ {A = Converted} (record { number = 0; place = 0; snake = snake; snakelen = a; camel = camel; camellen = e }) (converted (to_snake s) (to_upper_camel s))
-unfolding convertible converted
-converted_is s {snake} {camel} {a} {e} h w v =
+-- a filled array of zeros
+filled_padded : {n : ℕ} {p t : List ℕ} {r : ℕ} → Filled (replicate n 0) p t r → length p ≤ n → n < 2 ^ 63 → t ≡ padded n p
+unfolding padded
+filled_padded {n} {p} w h k =
+    let l = length-replicate {A = ℕ} n 0 in
+    wholly w (omega arith) (omega arith) ∙ ap (λ (z : List ℕ). p ++ z) (drop_replicate 0 (length p) n)
+
+pub spellings_are : (s snake camel : List ℕ) (a e : ℕ) → convertible s ≡ true → Filled (replicate 106 0) (to_snake s) snake a → Filled (replicate 64 0) (to_upper_camel s) camel e → ◌≡◌ {A = Spellings} (record { snake = snake; snakelen = a; camel = camel; camellen = e }) (spelt (to_snake s) (to_upper_camel s))
+unfolding convertible spelt
+spellings_are s snake camel a e h w v =
     let name = and_left (is_name s) (leb (length s) 64) (and_left (is_name s && leb (length s) 64) (has_word s) h) in
     let size = leb-true (length s) 64 (and_right (is_name s) (leb (length s) 64) (and_left (is_name s && leb (length s) 64) (has_word s) h)) in
     let p = snake_fits s name size in
     let q = camel_fits s name size in
-    rw (written_padded w p, written_length w p (omega arith), written_padded v q, written_length v q (omega arith))
+    let m : a ≡ length (to_snake s) = measured w ∙ omega arith in
+    let n : e ≡ length (to_upper_camel s) = measured v ∙ omega arith in
+    rw (filled_padded w p (omega arith), m, filled_padded v q (omega arith), n)

@@ -13,7 +13,6 @@ use Rattle.base.specs.Choose.{choose, choose_case}
 use Rattle.base.specs.Bytes.{b, same, same_sound}
 use Rattle.base.specs.Tests.{bool_cases, both_ways, or_cases}
 use Rattle.heck.specs.Case.{between, is_lower, is_upper, is_digit, class, to_upper_camel_case}
-use Rattle.heck.specs.Pass.{cased}
 use Rattle.heck.specs.declared.State.TheVariants.{Start}
 use Rattle.heck.proofs.Characters.{to_high, under}
 use Rattle.heck.proofs.Spelling.{camel_cased}
@@ -237,20 +236,17 @@ pub strip_cased : (prefix name : List ℕ) → strip_enum_prefix (to_upper_camel
 unfolding strip_enum_prefix to_upper_camel
 strip_cased prefix name = strip_camel (to_upper_camel_case prefix) (to_upper_camel_case name) (camel prefix) (camel name)
 
--- ---- the same by the pass: the whole name is kept, or what stands behind the prefix
+-- ---- the whole name is kept, or what stands behind the prefix
 module _ (prefix name : List ℕ) where
-  abbrev kept_whole : Bool
-  kept_whole = is_trailing (addition (cased true Start prefix))
-
-  strip_by : (t : Bool) → kept_whole ≡ t → strip_enum_prefix (to_upper_camel prefix) (to_upper_camel name) ≡ sanitize_identifier (choose t (to_upper_camel_case name) (true_prefix (strip_prefix (to_upper_camel_case prefix) (to_upper_camel_case name)) (to_upper_camel_case name)))
+  strip_by : (t : Bool) → is_trailing (addition (to_upper_camel_case prefix)) ≡ t → strip_enum_prefix (to_upper_camel prefix) (to_upper_camel name) ≡ sanitize_identifier (choose t (to_upper_camel_case name) (true_prefix (strip_prefix (to_upper_camel_case prefix) (to_upper_camel_case name)) (to_upper_camel_case name)))
   strip_by t e =
       strip_cased prefix name
-      ∙ ap (λ (k : Bool). sanitize_identifier (choose k (to_upper_camel_case name) (true_prefix (strip_prefix (to_upper_camel_case prefix) (to_upper_camel_case name)) (to_upper_camel_case name)))) (ap (λ (l : List ℕ). is_trailing (addition l)) (sym (camel_cased prefix)) ∙ e)
+      ∙ ap (λ (k : Bool). sanitize_identifier (choose k (to_upper_camel_case name) (true_prefix (strip_prefix (to_upper_camel_case prefix) (to_upper_camel_case name)) (to_upper_camel_case name)))) e
 
-  pub strip_none : kept_whole ≡ true → sanitize_identifier (cased true Start name) ≡ strip_enum_prefix (to_upper_camel prefix) (to_upper_camel name)
+  pub strip_none : is_trailing (addition (to_upper_camel_case prefix)) ≡ true → strip_enum_prefix (to_upper_camel prefix) (to_upper_camel name) ≡ sanitize_identifier (to_upper_camel_case name)
   unfolding choose
-  strip_none e = ap sanitize_identifier (camel_cased name) ∙ sym (strip_by true e)
+  strip_none e = strip_by true e
 
-  pub strip_rest : kept_whole ≡ false → (rest : List ℕ) → rest ≡ true_prefix (strip_prefix (to_upper_camel_case prefix) (to_upper_camel_case name)) (to_upper_camel_case name) → sanitize_identifier rest ≡ strip_enum_prefix (to_upper_camel prefix) (to_upper_camel name)
+  pub strip_rest : is_trailing (addition (to_upper_camel_case prefix)) ≡ false → strip_enum_prefix (to_upper_camel prefix) (to_upper_camel name) ≡ sanitize_identifier (true_prefix (strip_prefix (to_upper_camel_case prefix) (to_upper_camel_case name)) (to_upper_camel_case name))
   unfolding choose
-  strip_rest e rest f = ap sanitize_identifier f ∙ sym (strip_by false e)
+  strip_rest e = strip_by false e

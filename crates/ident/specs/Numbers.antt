@@ -1,32 +1,17 @@
 -- The listed words by number: a name's first byte, middle byte and length leave one of them that it can be. Assumes nothing.
-use Rattle.std.specs.Prelude.{Bool, ◌||◌, List, [], ◌∷◌, ◌++◌, ℕ, zero, suc, ◌+◌, ◌*◌, ◌%◌, ltb, eqb, length, get_or, take, drop}
+use Rattle.std.specs.Prelude.{Bool, ◌||◌, Option, Some, None, List, [], ◌∷◌, ◌++◌, ℕ, ◌+◌, ◌*◌, ◌%◌, ltb, eqb, get_or}
 use Rattle.base.specs.Choose.{choose}
 use Rattle.heck.specs.Case.{is_digit}
 use Rattle.ident.specs.Ident.{raw_words, kept_words}
 use Rattle.ident.specs.declared.keywords.Addition.{Addition}
 use Rattle.ident.specs.declared.keywords.Addition.TheVariants.{Nothing, Raw, Trailing, Leading}
 
--- words in eight places each, and their lengths
-pad : ℕ → List ℕ → List ℕ
-pad zero w = []
-pad (suc n) [] = 32 ∷ pad n []
-pad (suc n) (c ∷ w) = c ∷ pad n w
+-- the listed words: those that gain `r#` come first
+abbrev pub listed : List (List ℕ)
+listed = raw_words ++ kept_words
 
-joined : List (List ℕ) → List ℕ
-joined [] = []
-joined (w ∷ ws) = pad 8 w ++ joined ws
-
-lengths : List (List ℕ) → List ℕ
-lengths [] = []
-lengths (w ∷ ws) = length w ∷ lengths ws
-
-unfoldable pub places : List ℕ
-unfolding raw_words kept_words pad joined
-places = joined (raw_words ++ kept_words)
-
-unfoldable pub sizes : List ℕ
-unfolding raw_words kept_words lengths
-sizes = lengths (raw_words ++ kept_words)
+unfoldable pub word : ℕ → List ℕ
+word k = get_or listed k []
 
 -- the number of the one word, 53 or more where there is none
 unfoldable pub numbers : List ℕ
@@ -40,13 +25,10 @@ numbers =
 unfoldable pub number_of : ℕ → ℕ → ℕ → ℕ
 number_of first middle n = get_or numbers ((first * 15 + middle * 8 + n * 5) % 111) 0
 
--- the first n bytes of the word k
-unfoldable pub front_of : ℕ → ℕ → List ℕ
-front_of k n = take n (drop (k * 8) places)
-
--- what sanitising adds to x, k being the number of the word that it is
-unfoldable pub numbered : ℕ → List ℕ → Addition
-numbered k x = choose (ltb k 47) Raw (choose (ltb k 53) Trailing (choose (is_digit (get_or x 0 0)) Leading Nothing))
+-- what sanitising adds to x, k being the number of the listed word that it is
+unfoldable pub numbered : Option ℕ → List ℕ → Addition
+numbered (Some k) x = choose (ltb k 47) Raw Trailing
+numbered None x = choose (is_digit (get_or x 0 0)) Leading Nothing
 
 -- does one of the words that gain a trailing `_` begin with c?
 unfoldable pub begins_kept : ℕ → Bool

@@ -1,122 +1,61 @@
-// ident.rs: the names that are written for names of the set.
+//! The names that are written for names of the set, and the convert call's names.
 #![tactic(auto)]
+
+ghost use Rattle.std.specs.Prelude.{◌≡◌};
+ghost use Rattle.writer.specs.Wrote.{Wrote};
+ghost use Rattle.ident.specs.Ident.{to_snake, to_upper_camel, strip_enum_prefix};
+ghost use Rattle.ident.specs.Convert.{convertible, spellings, convert};
 
 mod keywords;
 pub mod names;
 mod prefix;
+pub mod text;
 
-ghost use Rattle.std.specs.Prelude.{◌≡◌, true, drop};
-ghost use Rattle.writer.specs.Wrote.{Wrote};
-ghost use Rattle.heck.specs.Pass.{cased};
-ghost use Rattle.ident.specs.Ident.{addition, is_trailing, with_addition, sanitize_identifier, to_snake, to_upper_camel, strip_enum_prefix};
-ghost use Rattle.ident.specs.Convert.{convertible, convert};
+use writer::Text;
 
-use heck::State;
-use keywords::Addition;
-
-// What a name writer answers: the place behind the name.
+/// The two names of a name, zeros behind them, and their lengths.
 #[derive(Drop)]
-pub struct Named {
-    pub next: usize,
+pub struct Spellings {
+    pub snake: [u8; 106],
+    pub snakelen: usize,
+    pub camel: [u8; 64],
+    pub camellen: usize,
 }
 
-// What sanitising adds to the rest of a name, as the case rule spells it from a state on.
-fn addition_to(s: &[u8], from: usize, state: State, camel: bool) -> Addition
-    ensures { result ≡ addition (cased camel state (drop from s.now)) }
+/// The name is no identifier of at most 64 bytes with a letter or digit.
+#[derive(Drop)]
+pub struct NotConvertible;
+
+/// An identifier of at most 64 bytes with a letter or digit.
+#[tactic(auto, unfolding(crate::specs::Convert::convertible))]
+fn convertible(name: &[u8]) -> bool
+    ensures { result ≡ convertible name.now }
 {
-    let mut head = [0u8; 9];
-    let n = heck::put_case(&mut head, 0, s, from, state, camel);
-    let m = writer::within(n, 9);
-    keywords::addition_of(&head[..m])
+    names::is_name(name) && name.len() <= 64 && names::has_word(name)
 }
 
-// s, sanitised.
-pub fn put_sanitized(t: &mut [u8], at: usize, s: &[u8]) -> Named
-    ensures { Wrote t.old at (sanitize_identifier s.now) t.new result.next }
+/// Both names of one name.
+#[tactic(auto, unfolding(crate::specs::Convert::spellings, base::specs::Choose::choose))]
+pub fn convert_name(name: &[u8]) -> Result<Spellings, NotConvertible>
+    ensures { result ≡ spellings name.now }
 {
-    let added = keywords::addition_of(s);
-    let a = keywords::put_before(t, at, added);
-    let a = writer::put(t, a, s);
-    let a = keywords::put_behind(t, a, added);
-    Named { next: a }
-}
-
-// The rest of a name, as the case rule spells it from a state on, sanitised: a name of any length.
-fn put_long_name(t: &mut [u8], at: usize, s: &[u8], from: usize, state: State, camel: bool) -> Named
-    ensures { Wrote t.old at (sanitize_identifier (cased camel state (drop from s.now))) t.new result.next }
-{
-    let added = addition_to(s, from, state, camel);
-    let a = keywords::put_before(t, at, added);
-    let a = heck::put_case(t, a, s, from, state, camel);
-    let a = keywords::put_behind(t, a, added);
-    Named { next: a }
-}
-
-// The same, spelt once: 64 bytes of a name are spelt in at most 106.
-fn put_name(t: &mut [u8], at: usize, s: &[u8], from: usize, state: State, camel: bool) -> Named
-    ensures { Wrote t.old at (sanitize_identifier (cased camel state (drop from s.now))) t.new result.next }
-{
-    let mut name = [0u8; 106];
-    let n = heck::put_case(&mut name, 0, s, from, state, camel);
-    if n <= 106 {
-        return put_sanitized(t, at, &name[..n]);
+    if !convertible(name) {
+        return Err(NotConvertible);
     }
-    put_long_name(t, at, s, from, state, camel)
+    let mut snake = [0u8; 106];
+    let snakelen = text::fill_snake(&mut snake, name);
+    let mut camel = [0u8; 64];
+    let camellen = text::fill_upper_camel(&mut camel, name);
+    Ok(Spellings {
+        snake,
+        snakelen,
+        camel,
+        camellen,
+    })
 }
 
-// A name without a prefix that an uppercase letter follows, sanitised.
-pub fn put_stripped(t: &mut [u8], at: usize, prefix: &[u8], name: &[u8]) -> Named
-    ensures { Wrote t.old at (strip_enum_prefix prefix.now name.now) t.new result.next }
-{
-    let from = prefix::behind_bytes(prefix, name);
-    put_sanitized(t, at, &name[from..])
-}
-
-// The snake name of s: of a field, a module.
-pub fn put_snake(t: &mut [u8], at: usize, s: &[u8]) -> Named
-    ensures { Wrote t.old at (to_snake s.now) t.new result.next }
-{
-    put_name(t, at, s, 0, State::Start, false)
-}
-
-// The camel name of s: of a struct, an enum, a variant.
-pub fn put_upper_camel(t: &mut [u8], at: usize, s: &[u8]) -> Named
-    ensures { Wrote t.old at (to_upper_camel s.now) t.new result.next }
-{
-    put_name(t, at, s, 0, State::Start, true)
-}
-
-// Does the camel name of s gain a trailing `_`?
-fn is_kept(s: &[u8]) -> bool
-    ensures { result ≡ is_trailing (addition (cased true State.Start s.now)) }
-{
-    let step = heck::camel_step(s, 0, State::Start);
-    if step.more {
-        let maybe = keywords::begins_kept(step.byte);
-        if maybe {
-            return keywords::is_trailing(addition_to(s, 0, State::Start, true));
-        }
-        return false;
-    }
-    false
-}
-
-// The camel name of an enum's value, without the enum's own written name in front.
-pub fn put_variant(t: &mut [u8], at: usize, prefix: &[u8], name: &[u8]) -> Named
-    ensures { Wrote t.old at (strip_enum_prefix (to_upper_camel prefix.now) (to_upper_camel name.now)) t.new result.next }
-{
-    let kept = is_kept(prefix);
-    if kept {
-        return put_name(t, at, name, 0, State::Start, true);
-    }
-    let rest = prefix::behind(prefix, name);
-    let from = rest.at;
-    let state = rest.state;
-    put_name(t, at, name, from, state, true)
-}
-
-// The convert call's answer: number and place of the refusal (0 and 0 where there is none), and the two names with
-// their lengths, zeros behind them.
+/// The convert call's answer, as the C interface has it: the refusal's number and place, 0 and 0 where there is none, and
+/// the two names.
 #[derive(Drop)]
 pub struct Converted {
     pub number: u8,
@@ -127,45 +66,94 @@ pub struct Converted {
     pub camellen: usize,
 }
 
-// An identifier of at most 64 bytes with a letter or digit.
-fn convertible(s: &[u8]) -> bool
-    ensures { result ≡ convertible s.now }
-{
-    let name = names::is_name(s);
-    if name {
-        if s.len() <= 64 {
-            return names::has_word(s);
-        }
-        return false;
-    }
-    false
-}
-
-// Both names of one name.
+/// The same as the convert call's numbers: refusal 6 at place 0.
+#[tactic(auto, unfolding(crate::specs::Convert::spellings, crate::specs::Convert::convert, crate::specs::Convert::converted, crate::specs::Convert::refused, crate::specs::Convert::spelt, crate::specs::Convert::padded, base::specs::Choose::choose))]
 pub fn convert(name: &[u8]) -> Converted
     ensures { result ≡ convert name.now }
 {
-    let mut snake = [0u8; 106];
-    let mut camel = [0u8; 64];
-    let good = convertible(name);
-    if good {
-        let a = put_snake(&mut snake, 0, name);
-        let e = put_upper_camel(&mut camel, 0, name);
-        return Converted {
-            number: 0,
+    match convert_name(name) {
+        Ok(spelt) => {
+            let snake = spelt.snake;
+            let camel = spelt.camel;
+            Converted {
+                number: 0,
+                place: 0,
+                snake,
+                snakelen: spelt.snakelen,
+                camel,
+                camellen: spelt.camellen,
+            }
+        }
+        Err(NotConvertible) => Converted {
+            number: 6,
             place: 0,
-            snake: snake,
-            snakelen: a.next,
-            camel: camel,
-            camellen: e.next,
-        };
+            snake: [0; 106],
+            snakelen: 0,
+            camel: [0; 64],
+            camellen: 0,
+        },
     }
-    Converted {
-        number: 6,
-        place: 0,
-        snake: snake,
-        snakelen: 0,
-        camel: camel,
-        camellen: 0,
+}
+
+// The writers of `text`, for callers that write from a place in a buffer on and go on behind what is written.
+/// The place behind a written name.
+#[derive(Drop)]
+pub struct Named {
+    pub next: usize,
+}
+
+/// As `text::put_stripped`.
+pub fn put_stripped(t: &mut [u8], at: usize, prefix: &[u8], name: &[u8]) -> Named
+    ensures { Wrote t.old at (strip_enum_prefix prefix.now name.now) t.new result.next }
+{
+    let mut text = Text {
+        buffer: t,
+        length: at,
+    };
+    text::put_stripped(&mut text, prefix, name);
+    Named {
+        next: text.next(at),
+    }
+}
+
+/// As `text::put_snake`.
+pub fn put_snake(t: &mut [u8], at: usize, s: &[u8]) -> Named
+    ensures { Wrote t.old at (to_snake s.now) t.new result.next }
+{
+    let mut text = Text {
+        buffer: t,
+        length: at,
+    };
+    text::put_snake(&mut text, s);
+    Named {
+        next: text.next(at),
+    }
+}
+
+/// As `text::put_upper_camel`.
+pub fn put_upper_camel(t: &mut [u8], at: usize, s: &[u8]) -> Named
+    ensures { Wrote t.old at (to_upper_camel s.now) t.new result.next }
+{
+    let mut text = Text {
+        buffer: t,
+        length: at,
+    };
+    text::put_upper_camel(&mut text, s);
+    Named {
+        next: text.next(at),
+    }
+}
+
+/// As `text::put_variant`.
+pub fn put_variant(t: &mut [u8], at: usize, prefix: &[u8], name: &[u8]) -> Named
+    ensures { Wrote t.old at (strip_enum_prefix (to_upper_camel prefix.now) (to_upper_camel name.now)) t.new result.next }
+{
+    let mut text = Text {
+        buffer: t,
+        length: at,
+    };
+    text::put_variant(&mut text, prefix, name);
+    Named {
+        next: text.next(at),
     }
 }

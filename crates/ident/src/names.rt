@@ -1,64 +1,50 @@
 // What is a name: `[A-Za-z_][A-Za-z0-9_]*`, and has a letter or digit.
 ghost use Rattle.std.specs.Prelude.{◌≡◌};
+ghost use Rattle.std.specs.Char.{is_ascii_alphanumeric};
+ghost use Rattle.std.specs.List.{list_any, list_all};
 ghost use Rattle.ident.specs.Name.{name_start, name_part, is_name, has_word};
 
-fn is_name_start(c: u8) -> bool
-    ensures { result ≡ name_start c }
+#[tactic(auto, using(crate::proofs::NameLaws::start_is))]
+fn is_name_start(byte: u8) -> bool
+    ensures { result ≡ name_start byte }
 {
-    let upper = heck::is_upper(c);
-    if upper {
-        return true;
-    }
-    let lower = heck::is_lower(c);
-    if lower {
-        return true;
-    }
-    c == 95
+    byte.is_ascii_alphabetic() || byte == b'_'
 }
 
-fn is_name_part(c: u8) -> bool
-    ensures { result ≡ name_part c }
+#[tactic(auto, unfolding(crate::specs::Name::name_part, heck::specs::Case::between))]
+fn is_name_part(byte: u8) -> bool
+    ensures { result ≡ name_part byte }
 {
-    let digit = heck::is_digit(c);
-    if digit {
-        return true;
-    }
-    is_name_start(c)
+    byte.is_ascii_digit() || is_name_start(byte)
 }
 
+// A function of its own, as `any_alphanumeric`: a chain is proved against the library's `list_all` and `list_any` alone.
+fn are_name_parts(bytes: &[u8]) -> bool
+    ensures { result ≡ list_all name_part bytes.now }
+{
+    bytes.iter().all(|&byte| is_name_part(byte))
+}
+
+#[tactic(auto, using(crate::proofs::NameLaws::every_is), unfolding(crate::specs::Name::is_name))]
 pub fn is_name(s: &[u8]) -> bool
     ensures { result ≡ is_name s.now }
 {
-    if s.len() == 0 {
-        return false;
+    match s.split_first() {
+        Some((&first, rest)) => is_name_start(first) && are_name_parts(rest),
+        None => false,
     }
-    let good = is_name_start(s[0]);
-    if good {
-        let mut i = 1;
-        while i < s.len() {
-            let part = is_name_part(s[i]);
-            if part {
-                i += 1;
-            } else {
-                return false;
-            }
-        }
-        return true;
-    }
-    false
 }
 
-// Is a letter or digit among the bytes?
+fn any_alphanumeric(bytes: &[u8]) -> bool
+    ensures { result ≡ list_any is_ascii_alphanumeric bytes.now }
+{
+    bytes.iter().any(u8::is_ascii_alphanumeric)
+}
+
+/// Is a letter or digit among the bytes?
+#[tactic(auto, using(crate::proofs::NameLaws::has_word_is))]
 pub fn has_word(s: &[u8]) -> bool
     ensures { result ≡ has_word s.now }
 {
-    let mut i = 0;
-    while i < s.len() {
-        let word = heck::is_alphanumeric(s[i]);
-        if word {
-            return true;
-        }
-        i += 1;
-    }
-    false
+    any_alphanumeric(s)
 }

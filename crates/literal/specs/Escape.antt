@@ -4,6 +4,8 @@ use Rattle.base.specs.Choose.{choose}
 use Rattle.base.specs.Bytes.{b}
 use Rattle.base.specs.Each.{each}
 use Rattle.utf8.specs.Utf8.{chars}
+use Rattle.literal.specs.declared.Form.{Form}
+use Rattle.literal.specs.declared.Form.TheVariants.{Letter, Plain, Long}
 
 -- the last hexadecimal digit of n, in lower case
 unfoldable pub hex_digit : ℕ → ℕ
@@ -29,6 +31,12 @@ letter c =
 unfoldable pub escape : ℕ → List ℕ → List ℕ
 escape c other =
     choose (letter c == 0) (choose (nat_lt c 0x20) other (choose (nat_le c 0x7E) (c ∷ []) other)) (92 ∷ (letter c ∷ []))
+
+-- the same text by the form that code finds; the last argument stands for the rest
+abbrev pub form_text : Form → List ℕ → List ℕ
+form_text (Letter l) long = 92 ∷ (l ∷ [])
+form_text (Plain c) long = c ∷ []
+form_text Long long = long
 
 unfoldable pub unicode_escape : ℕ → List ℕ
 unicode_escape c = b "\\u{" ++ hexadecimal c ++ b "}"

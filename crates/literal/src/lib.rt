@@ -1,142 +1,136 @@
-// What stands between the quotes of the Rust literals that are written, by `escape_default`.
+//! What stands between the quotes of the Rust literals that are written, by `escape_default`.
 #![tactic(auto)]
 
-ghost use Rattle.std.specs.Prelude.{◌≡◌, [], ◌∷◌};
+ghost use Rattle.std.specs.Prelude.{◌≡◌, ℕ, List};
 ghost use Rattle.base.specs.Each.{each};
 ghost use Rattle.writer.specs.Wrote.{Wrote};
-ghost use Rattle.literal.specs.Escape.{hex_digit, hex_digits, letter, unicode_escape, byte_escape, escape_char, escape_byte, escape_text};
+ghost use Rattle.writer.specs.Writing.{◌▻◌};
+ghost use Rattle.literal.specs.Escape.{hex_digit, hex_digits, escape, form_text, unicode_escape, escape_char, escape_byte, escape_text};
 
-use utf8::Decoded;
+use utf8::Chars;
+use writer::Text;
 
-// The last hexadecimal digit of n.
+/// The last hexadecimal digit of `n`.
+#[tactic(auto, unfolding(crate::specs::Escape::hex_digit, base::specs::Choose::choose))]
 fn hex_digit(n: u32) -> u8
     ensures { result ≡ hex_digit n }
 {
-    let d = n % 16;
-    if d < 10 {
-        return 48 + d as u8;
-    }
-    87 + d as u8
+    let d = (n % 16) as u8;
+    if d < 10 { b'0' + d } else { b'a' - 10 + d }
 }
 
-// The last k hexadecimal digits of n at most, and no leading zero.
-fn put_hex(t: &mut [u8], at: usize, n: u32, k: usize) -> usize
-    ensures { Wrote t.old at (hex_digits k n) t.new result }
+/// The last `k` hexadecimal digits of `n` at most, and no leading zero.
+fn put_hex(text: &mut Text, n: u32, k: usize)
+    ensures { text.new ≡ text.old ▻ hex_digits k n }
 {
     if k == 0 {
-        return at;
+        return;
     }
-    let d = hex_digit(n);
-    if n < 16 {
-        return writer::put_byte(t, at, d);
+    if n >= 16 {
+        put_hex(text, n / 16, k - 1);
     }
-    let a = put_hex(t, at, n / 16, k - 1);
-    writer::put_byte(t, a, d)
+    text.put_byte(hex_digit(n));
 }
 
-fn put_unicode(t: &mut [u8], at: usize, c: u32) -> usize
-    ensures { Wrote t.old at (unicode_escape c) t.new result }
+fn escape_unicode(text: &mut Text, c: u32)
+    ensures { text.new ≡ text.old ▻ unicode_escape c }
 {
-    let a = writer::put(t, at, b"\\u{");
-    let a = put_hex(t, a, c, 8);
-    writer::put(t, a, b"}")
+    text.put(b"\\u{");
+    put_hex(text, c, 8);
+    text.put(b"}");
 }
 
-// The letter of an escape of one letter, and 0 for a character that has none.
-fn letter(c: u32) -> u8
-    ensures { result ≡ letter c }
+/// How a character is written: behind a `\` as a letter, as it is, or as a longer escape.
+#[derive(Clone, Copy, PartialEq, Eq)]
+enum Form {
+    Letter(u8),
+    Plain(u8),
+    Long,
+}
+
+#[tactic(auto, unfolding(crate::specs::Escape::escape, crate::specs::Escape::letter, base::specs::Choose::choose))]
+fn form_of(c: u32) -> Form
+    ensures { (long : List ℕ) → escape c long ≡ form_text result long }
 {
-    if c == 9 {
-        return b't';
+    match c {
+        0x09 => Form::Letter(b't'),
+        0x0D => Form::Letter(b'r'),
+        0x0A => Form::Letter(b'n'),
+        0x27 => Form::Letter(b'\''),
+        0x22 => Form::Letter(b'"'),
+        0x5C => Form::Letter(b'\\'),
+        0x20..=0x7E => Form::Plain(c as u8),
+        _ => Form::Long,
     }
-    if c == 13 {
-        return b'r';
-    }
-    if c == 10 {
-        return b'n';
-    }
-    if c == 39 {
-        return 39;
-    }
-    if c == 34 {
-        return 34;
-    }
-    if c == 92 {
-        return 92;
-    }
-    0
 }
 
-// `char::escape_default`
-pub fn put_char(t: &mut [u8], at: usize, c: u32) -> usize
-    ensures { Wrote t.old at (escape_char c) t.new result }
+/// `char::escape_default`
+pub fn escape_char(text: &mut Text, c: u32)
+    ensures { text.new ≡ text.old ▻ escape_char c }
 {
-    let l = letter(c);
-    if l != 0 {
-        let a = writer::put_byte(t, at, 92);
-        return writer::put_byte(t, a, l);
+    match form_of(c) {
+        Form::Letter(l) => {
+            text.put_byte(b'\\');
+            text.put_byte(l);
+        }
+        Form::Plain(c) => text.put_byte(c),
+        Form::Long => escape_unicode(text, c),
     }
-    if c < 0x20 {
-        return put_unicode(t, at, c);
-    }
-    if c <= 0x7E {
-        let x = c as u8;
-        return writer::put_byte(t, at, x);
-    }
-    put_unicode(t, at, c)
 }
 
-// `\` and c, each escaped.
-fn put_pair(t: &mut [u8], at: usize, c: u32) -> usize
-    ensures { Wrote t.old at (each escape_char (92 ∷ (c ∷ []))) t.new result }
+/// `escape_char` of each of these.
+fn escape_all(text: &mut Text, bytes: &[u8])
+    ensures { text.new ≡ text.old ▻ each escape_char bytes.now }
 {
-    let a = put_char(t, at, 92);
-    put_char(t, a, c)
+    for &c in bytes {
+        escape_char(text, u32::from(c));
+    }
 }
 
-// `\x` and two digits, each escaped.
-fn put_byte_escape(t: &mut [u8], at: usize, x: u32) -> usize
-    ensures { Wrote t.old at (each escape_char (byte_escape x)) t.new result }
+/// `ascii::escape_default`, each of its characters escaped.
+#[tactic(auto, unfolding(crate::specs::Escape::escape_byte, crate::specs::Escape::byte_escape))]
+pub fn escape_byte(text: &mut Text, x: u8)
+    ensures { text.new ≡ text.old ▻ each escape_char (escape_byte x) }
 {
-    let high = hex_digit(x / 16) as u32;
-    let low = hex_digit(x) as u32;
-    let a = put_char(t, at, 92);
-    let a = put_char(t, a, 120);
-    let a = put_char(t, a, high);
-    put_char(t, a, low)
+    let c = u32::from(x);
+    match form_of(c) {
+        Form::Letter(l) => escape_all(text, &[b'\\', l]),
+        Form::Plain(l) => escape_all(text, &[l]),
+        Form::Long => escape_all(text, &[b'\\', b'x', hex_digit(c / 16), hex_digit(c)]),
+    }
 }
 
-// `ascii::escape_default`, each of its characters escaped.
+/// `str::escape_default`: each character; where `s` is not well-formed, those before the first fault.
+pub fn escape_text(text: &mut Text, s: &[u8])
+    ensures { text.new ≡ text.old ▻ escape_text s.now }
+{
+    for c in Chars::new(s) {
+        escape_char(text, c);
+    }
+}
+
+// The same as texts laid over a slice from a place, for the writers over a place.
+
+/// `escape_byte` over a slice.
 pub fn put_byte(t: &mut [u8], at: usize, x: u8) -> usize
     ensures { Wrote t.old at (each escape_char (escape_byte x)) t.new result }
 {
-    let c = x as u32;
-    let l = letter(c);
-    if l != 0 {
-        let d = l as u32;
-        return put_pair(t, at, d);
-    }
-    if c < 0x20 {
-        return put_byte_escape(t, at, c);
-    }
-    if c <= 0x7E {
-        return put_char(t, at, c);
-    }
-    put_byte_escape(t, at, c)
+    let mut text = Text {
+        buffer: t,
+        length: at,
+    };
+    escape_byte(&mut text, x);
+    text.next(at)
 }
 
-// `str::escape_default`: each character; where s is not well-formed, those before the first fault.
+/// `escape_text` over a slice.
 pub fn put_text(t: &mut [u8], at: usize, s: &[u8]) -> usize
     ensures { Wrote t.old at (escape_text s.now) t.new result }
 {
-    let mut a = at;
-    let mut i = 0;
-    while i < s.len() {
-        let Decoded::Character(c, next) = utf8::char_at(s, i) else {
-            return a;
-        };
-        a = put_char(t, a, c);
-        i = next;
-    }
-    a
+    let mut text = Text {
+        buffer: t,
+        length: at,
+    };
+    escape_text(&mut text, s);
+    text.next(at)
 }

@@ -1,2 +1,4 @@
-pub mod RowLaws
-pub mod CheckLaws
+pub mod RowsLaws
+pub mod FindLaws
+pub mod KindLaws
+pub mod LayoutLaws

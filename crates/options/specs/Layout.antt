@@ -1,10 +1,10 @@
 -- Document 01's "Options file": which options break the layout, and where (refusal 1).
-use Rattle.std.specs.Prelude.{Bool, true, false, ◌||◌, ◌&&◌, not, List, [], ◌∷◌, ℕ, zero, suc, ◌+◌, ◌*◌, eqb, leb, ltb, length, take}
+use Rattle.std.specs.Prelude.{Bool, true, false, ◌||◌, ◌&&◌, not, List, [], ◌∷◌, ℕ, zero, suc, ◌+◌, ◌*◌, eqb, leb, ltb, length, take, Result, Ok, Err}
 use Rattle.base.specs.Choose.{choose}
+use Rattle.base.specs.declared.refusal.Refusal.{Refusal}
+use Rattle.base.specs.declared.refusal.Refusal.TheVariants.{Layout}
 use Rattle.options.specs.Kinds.{is_kind, has_path, has_value, stands_once}
 use Rattle.options.specs.Settings.{row_count, kind_at, path_length, value_length, zero_at, bodies, part}
-use Rattle.options.specs.declared.check.Layout.{Layout}
-use Rattle.options.specs.declared.check.Layout.TheVariants.{Good, Broken}
 
 -- a part that a kind has holds at least one byte; a part it lacks has length 0
 unfoldable pub fits : Bool → ℕ → Bool
@@ -41,22 +41,13 @@ row_good s i at =
     false)
 
 -- k rows from row i on, whose body starts at `at`, in options of `size` bytes that begin with s; then nothing else
-unfoldable pub layout_from : List ℕ → ℕ → ℕ → ℕ → ℕ → Layout
-layout_from s size zero i at = choose (eqb at size) (choose (leb at 4096) Good (Broken i)) (Broken i)
+unfoldable pub layout_from : List ℕ → ℕ → ℕ → ℕ → ℕ → Result Unit Refusal
+layout_from s size zero i at = choose (eqb at size) (choose (leb at 4096) (Ok tt) (Err (Layout i))) (Err (Layout i))
 layout_from s size (suc k) i at =
-    choose (row_good s i at) (layout_from s size k (i + 1) (at + path_length s i + value_length s i)) (Broken i)
+    choose (row_good s i at) (layout_from s size k (i + 1) (at + path_length s i + value_length s i)) (Err (Layout i))
 
 -- what lies past byte 4,096 counts as cut
-unfoldable pub layout : List ℕ → Layout
+unfoldable pub layout : List ℕ → Result Unit Refusal
 layout o =
-    choose (ltb (length o) 2) (Broken 0)
-    (choose (leb (row_count o) 64) (layout_from (take 4096 o) (length o) (row_count o) 0 (bodies o)) (Broken 0))
-
--- ---- number and place of the refusal, 0 and 0 where there is none
-abbrev pub refusal_number : Layout → ℕ
-refusal_number Good = 0
-refusal_number (Broken place) = 1
-
-abbrev pub refusal_place : Layout → ℕ
-refusal_place Good = 0
-refusal_place (Broken place) = place
+    choose (ltb (length o) 2) (Err (Layout 0))
+    (choose (leb (row_count o) 64) (layout_from (take 4096 o) (length o) (row_count o) 0 (bodies o)) (Err (Layout 0)))

@@ -1,3 +1,5 @@
 pub mod Kinds
+pub mod Kind
 pub mod Settings
+pub mod Rows
 pub mod Layout

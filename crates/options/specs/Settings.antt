@@ -1,9 +1,8 @@
 -- The rows of an options file, as its layout places them.
-use Rattle.std.specs.Prelude.{Bool, true, false, not, List, [], ◌∷◌, ℕ, zero, suc, ◌+◌, ◌*◌, ◌-◌, min, eqb, length, take, drop, get_or}
+use Rattle.std.specs.Prelude.{Bool, true, false, not, List, [], ◌∷◌, ℕ, zero, suc, ◌+◌, ◌*◌, ◌-◌, eqb, take, drop, get_or}
 use Rattle.std.proofs.Math.Option.{Option, some, none}
 use Rattle.base.specs.Choose.{choose}
 use Rattle.base.specs.Bytes.{b}
-use Rattle.options.specs.declared.Row.{Row}
 use Rattle.options.specs.declared.Found.{Found}
 
 -- the little-endian 16-bit number at a place
@@ -50,32 +49,9 @@ settings_from o (suc k) i at =
 unfoldable pub settings : List ℕ → List Setting
 settings o = settings_from o (row_count o) 0 (bodies o)
 
--- ---- a row by its places
 -- from one place to another
 abbrev pub between : List ℕ → ℕ → ℕ → List ℕ
 between o a e = take (e - a) (drop a o)
-
--- row i, whose body starts at `at`. A place past the end counts as the end; in options that aren't refused there is none
-unfoldable pub row : List ℕ → ℕ → ℕ → Row
-row o i at =
-    record {
-      kind = kind_at o i;
-      path = min at (length o);
-      value = min (at + path_length o i) (length o);
-      end = min (at + path_length o i + value_length o i) (length o);
-    }
-
-abbrev pub setting_of : List ℕ → Row → Setting
-setting_of o r = record { kind = r.kind; path = between o r.path r.value; value = between o r.value r.end }
-
--- where row i's body starts, k rows further on
-unfoldable pub row_by : List ℕ → ℕ → ℕ → ℕ → Row
-row_by o zero i at = row o i at
-row_by o (suc k) i at = row_by o k (i + 1) (row o i at).end
-
--- row i
-unfoldable pub row_number : List ℕ → ℕ → Row
-row_number o i = row_by o i 0 (bodies o)
 
 -- ---- what a search for a row finds
 abbrev pub found_at : ℕ → Found

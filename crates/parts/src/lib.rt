@@ -1,13 +1,80 @@
-// The embedded messages of a message, by their field number.
+//! The embedded messages of a message, by their field number.
 #![tactic(auto)]
 
-ghost use Rattle.std.specs.Prelude.{◌≡◌, length};
+ghost use Rattle.std.specs.Prelude.{◌≡◌, ◌≤◌, length};
+ghost use Rattle.std.specs.Iterator.{item_count, YieldsFirstRef};
 ghost use Rattle.wire.specs.Contents.{value_of};
+ghost use Rattle.wire.specs.Value.{value_seen};
 ghost use Rattle.descriptor.specs.Decode.{entries, bytes_in, parts};
 
-use wire::{Record, Step};
+use std::marker::Model;
+use wire::Record;
+use wire::records::{Records, Value};
 
-// The bytes of an embedded message; one of another wire type has none.
+/// The embedded messages with one field number that are left, as bytes.
+#[derive(Drop)]
+pub struct Parts<'a> {
+    records: Records<'a>,
+    number: u64,
+}
+
+impl<'a> Model for Parts<'a> {
+    ghost use Rattle.std.specs.Prelude.{List, ℕ};
+    ghost use Rattle.wire.specs.Message.{fields_in};
+    ghost use Rattle.descriptor.specs.Decode.{parts};
+
+    ghost Value = { List (List ℕ) };
+
+    ghost view = { λ s. parts s.number (fields_in s.records) };
+}
+
+impl<'a> Parts<'a> {
+    /// The embedded messages of `part` with the field number. A record with that number and another wire type counts
+    /// as one without bytes.
+    #[tactic(auto, using(crate::proofs::Fields::fields_of_part, crate::proofs::Fields::parts_bound))]
+    pub fn new(part: &'a [u8], number: u64) -> Self
+        ensures parts { result ≡ parts number (entries part.now) }
+        ensures bound { length result ≤ length part.now }
+    {
+        Parts {
+            records: Records::new(part, 0),
+            number,
+        }
+    }
+}
+
+impl<'a> Iterator for Parts<'a> {
+    type Item = &'a [u8];
+
+    ghost next_gives = { YieldsFirstRef (λ rest. rest) };
+
+    ghost remaining = { item_count (λ rest. rest) };
+
+    #[tactic(auto, unfolding(descriptor::specs::Decode::parts, wire::specs::Message::fields_in, base::specs::Choose::choose))]
+    #[inline(always)]
+    fn next(&mut self) -> Option<&'a [u8]> {
+        while let Some(record) = self.records.next() {
+            if let Ok(record) = record
+                && record.number == self.number
+            {
+                return Some(value_bytes(record.value));
+            }
+        }
+        None
+    }
+}
+
+/// The bytes of an embedded message; a value of another wire type has none.
+pub fn value_bytes(value: Value<'_>) -> &[u8]
+    ensures { result.now ≡ bytes_in (value_seen value.entry) }
+{
+    match value {
+        Value::Len(bytes) => bytes,
+        _ => &[],
+    }
+}
+
+/// The bytes of an embedded message, of a record by its position; one of another wire type has none.
 pub fn embedded(s: &[u8], f: Record) -> &[u8]
     ensures { result.now ≡ bytes_in (value_of s.now f) }
 {
@@ -19,22 +86,9 @@ pub fn embedded(s: &[u8], f: Record) -> &[u8]
     &s[0..0]
 }
 
-// How many embedded messages with this field number there are.
+/// How many embedded messages with this field number there are.
 pub fn count_parts(s: &[u8], number: u64) -> usize
     ensures { result ≡ length (parts number (entries s.now)) }
 {
-    let mut at: usize = 0;
-    let mut n: usize = 0;
-    loop {
-        match wire::read_step(s, at) {
-            Step::End => return n,
-            Step::Fault(_) => return n,
-            Step::Found(f) => {
-                at = f.next;
-                if f.number == number {
-                    n = n + 1;
-                }
-            }
-        }
-    }
+    Parts::new(s, number).count()
 }

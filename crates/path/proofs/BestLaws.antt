@@ -6,20 +6,18 @@ use Prim.Native.Nat.{ℕ, suc, ◌+◌, ◌-◌, ◌^◌, ◌≤◌, ◌<◌}
 use native.Mathlib.Omega.{arith}
 use lib.Dec.{eqb, ltb}
 use lib.ListN.{length}
-use borrow.Author.Tests.{le-ltb, lt-ltb, eq-eqb, ne_eqb}
+use borrow.Author.Tests.{le-ltb, lt-ltb, ne_eqb}
 use Rattle.base.specs.Choose.{choose, choose_case, then_is, else_is}
 use Rattle.base.specs.Tests.{both_ways, and_left, and_right}
 use Rattle.base.specs.Bytes.{b, same, same_sound}
-use Rattle.options.specs.Settings.{Setting, found_at, row_count, settings_from, row, setting_of, between}
-use Rattle.options.specs.declared.Row.{Row}
-use Rattle.options.proofs.RowLaws.{settings_step, settings_end}
+use Rattle.options.specs.Settings.{Setting, found_at}
 use Rattle.options.specs.declared.Found.{Found}
 use Rattle.path.specs.Forms.{filled, behind_dots, before_dots, suffixes, prefixes, sub_path_iter, among}
-use Rattle.path.specs.PathMap.{get_in, first_with, find_best}
-use Rattle.path.specs.Matches.{values_from}
+use Rattle.path.specs.PathMap.{get, get_in, first_with, find_best}
 use Rattle.path.specs.Worth.{Form, weigh, global, weighed, worth_in, worth_of, improve, best_of, none_yet, found_of}
 use Rattle.path.specs.declared.Best.{Best}
-use Rattle.path.proofs.FormLaws.{Falls, behind_falls, before_falls}
+use Rattle.std.specs.Str.{bytes_eq}
+use Rattle.path.proofs.FormLaws.{same_bytes, Falls, behind_falls, before_falls}
 
 -- by the two cases of a test
 by_test : (P : Bool → Type 0) (t : Bool) → (t ≡ true → P true) → (t ≡ false → P false) → P t
@@ -100,6 +98,22 @@ pub worth_is : (all : Bool) (path x : List ℕ) → worth_in (weighed all path) 
 unfolding weighed worth_in
 worth_is all path x =
     rw (weigh_worth (length path + 1) (choose all (suffixes path) []) (weigh 1 (prefixes path) ++ choose all (global ∷ []) []) x, weigh_worth 1 (prefixes path) (choose all (global ∷ []) []) x) refl
+
+module _ (path x : List ℕ) where
+  pub worth_itself : (all : Bool) → bytes_eq x path ≡ true → worth_in (weighed all path) x ≡ 2 ^ 64 - 1
+  unfolding choose
+  worth_itself all e = rw (worth_is all path x, ← same_bytes x path, e) refl
+
+  module _ (e : bytes_eq x path ≡ false) where
+    pub worth_few : worth_in (weighed false path) x ≡ choose (among x (prefixes path)) (1 + length x) 0
+    unfolding choose worth_in among
+    worth_few = rw (worth_is false path x, ← same_bytes x path, e) refl
+
+    pub worth_all : worth_in (weighed true path) x ≡ choose (among x (suffixes path)) (length path + 1 + length x) (choose (among x (prefixes path)) (1 + length x) (choose (bytes_eq x (46 ∷ [])) 1 0))
+    unfolding choose worth_in
+    worth_all = rw (worth_is true path x, ← same_bytes x path, e, same_bytes x (46 ∷ [])) refl
+
+pub ruleset worths = (worth_itself, worth_few, worth_all)
 
 -- it is worth something if it is one of the forms
 pub worth_among : (w : ℕ) (fs : List Form) (x : List ℕ) → Below w fs → not (eqb (worth_in fs x) 0) ≡ among x (forms_in fs)
@@ -210,32 +224,7 @@ found_best w (f ∷ fs) kind i rs d =
     rw (pass_by f fs kind none_yet i rs q)
     (else_is first others (found_of (best_of fs kind none_yet i rs)) first.found q (found_best f.worth fs kind i rs d.1)))
 
--- ---- the pass, row by row of the options
-module _ (o : List ℕ) (n i at : ℕ) where
-  pub best_end : (fs : List Form) (kind : ℕ) (b : Best) → n ≤ i → best_of fs kind b i (settings_from o (n - i) i at) ≡ b
-  unfolding best_of
-  best_end fs kind b h = rw (settings_end o n i at h) refl
-
-  module _ (h : i < n) (r : Row) (e : r ≡ row o i at) (w : ℕ) where
-    pub best_more : (fs : List Form) (kind : ℕ) (b c : Best) → w ≡ worth_of fs kind (setting_of o r) → c ≡ improve b i w → best_of fs kind c (i + 1) (settings_from o (n - (i + 1)) (i + 1) r.end) ≡ best_of fs kind b i (settings_from o (n - i) i at)
-    best_more fs kind b c p q = rw (settings_step o n i at h, q, p, e) (sym (best_step fs kind b i (setting_of o (row o i at)) (settings_from o (n - (i + 1)) (i + 1) (row o i at).end)))
-
-    module _ (kind : ℕ) (path : List ℕ) (l : length path < 2 ^ 63) (m : n ≡ row_count o) (p : w ≡ worth_of (weighed true path) kind (setting_of o r)) where
-      tells : not (eqb w 0) ≡ (eqb r.kind kind && among (between o r.path r.value) (sub_path_iter path))
-      tells = rw (p, ← all_forms path) (row_among (2 ^ 64) (weighed true path) kind (setting_of o r) (weighed_below true path l))
-
-      found_here : (t : Bool) → (eqb r.kind kind && among (between o r.path r.value) (sub_path_iter path)) ≡ t → values_from o kind path i at ≡ choose t (between o r.value r.end ∷ values_from o kind path (i + 1) r.end) (values_from o kind path (i + 1) r.end)
-      unfolding values_from get_in
-      found_here t q = rw (← q, ← m, settings_step o n i at h, e) refl
-
-      pub values_hit : (w ≡ 0 → ⊥) → values_from o kind path i at ≡ between o r.value r.end ∷ values_from o kind path (i + 1) r.end
-      unfolding choose
-      values_hit z = found_here true (sym tells ∙ ap not (ne_eqb w 0 z))
-
-      pub values_miss : w ≡ 0 → values_from o kind path i at ≡ values_from o kind path (i + 1) r.end
-      unfolding choose
-      values_miss z = found_here false (sym tells ∙ ap not (eq-eqb w 0 z))
-
-pub values_end : (o : List ℕ) (i at kind : ℕ) (path : List ℕ) → row_count o ≤ i → values_from o kind path i at ≡ []
-unfolding values_from get_in
-values_end o i at kind path h = rw (settings_end o (row_count o) i at h) refl
+-- ---- one row more
+pub get_step : (kind : ℕ) (path : List ℕ) (r : Setting) (rs : List Setting) (w : ℕ) → length path < 2 ^ 63 → w ≡ worth_of (weighed true path) kind r → get kind path (r ∷ rs) ≡ choose (not (eqb w 0)) (r.value ∷ get kind path rs) (get kind path rs)
+unfolding get_in
+get_step kind path r rs w l e = rw (e, row_among (2 ^ 64) (weighed true path) kind r (weighed_below true path l), all_forms path) refl

@@ -4,15 +4,22 @@ use mathlib.Core.Bool.{Bool, true, false, ◌&&◌, ◌||◌, and-false}
 use mathlib.Core.List.{List, [], ◌∷◌, ◌++◌, map}
 use Prim.Native.Nat.{ℕ, suc, ◌-◌, ◌≤◌, ◌<◌}
 use native.Mathlib.Omega.{arith}
-use native.Mathlib.Nat.{sub-zero}
 use native.Mathlib.Decide.{dec_lt}
 use lib.Dec.{eqb}
 use lib.ListN.{length, take, drop, get_or, length-drop}
 use lib.Seq.{take_all}
-use borrow.Author.Tests.{eq-eqb, ne_eqb}
+use Rattle.std.specs.Str.{bytes_eq}
 use Rattle.base.specs.Choose.{choose}
 use Rattle.base.specs.Bytes.{same, same_length}
 use Rattle.path.specs.Forms.{behind_dots, before_dots, filled, suffixes, prefixes, among}
+
+-- the library's equality of two byte strings
+pub same_bytes : (x y : List ℕ) → bytes_eq x y ≡ same x y
+unfolding same
+same_bytes [] [] = refl
+same_bytes [] (y ∷ ys) = refl
+same_bytes (x ∷ xs) [] = refl
+same_bytes (x ∷ xs) (y ∷ ys) = ap (λ (t : Bool). eqb x y && t) (same_bytes xs ys)
 
 -- ---- lengths fall, from below n on
 abbrev pub Falls : ℕ → List (List ℕ) → Type 0
@@ -135,51 +142,34 @@ prefix_at (c ∷ s) (d ∷ x) h =
 
 -- ---- what the code tests
 module _ (s x : List ℕ) where
-  pub suffix_empty : length x ≡ 0 → false ≡ among x (suffixes s)
+  pub suffix_empty : length x ≡ 0 → among x (suffixes s) ≡ false
   unfolding suffixes
-  suffix_empty h = sym (empty_none x (behind_dots s) h)
+  suffix_empty h = empty_none x (behind_dots s) h
 
-  pub prefix_empty : length x ≡ 0 → false ≡ among x (prefixes s)
+  pub prefix_empty : length x ≡ 0 → among x (prefixes s) ≡ false
   unfolding prefixes
-  prefix_empty h = sym (empty_none x (before_dots s) h)
+  prefix_empty h = empty_none x (before_dots s) h
 
-  module _ (f : length x ≡ 0 → ⊥) where
-    pub suffix_long : length s ≤ length x → false ≡ among x (suffixes s)
+  module _ (f : 0 < length x) where
+    pub suffix_long : length s ≤ length x → among x (suffixes s) ≡ false
     unfolding suffixes
-    suffix_long h = sym (full_among x (behind_dots s) f ∙ too_long (length s) x (behind_dots s) (behind_falls s) h)
+    suffix_long h = full_among x (behind_dots s) (λ e. omega arith) ∙ too_long (length s) x (behind_dots s) (behind_falls s) h
 
-    pub prefix_long : length s ≤ length x → false ≡ among x (prefixes s)
+    pub prefix_long : length s ≤ length x → among x (prefixes s) ≡ false
     unfolding prefixes
-    prefix_long h = sym (full_among x (before_dots s) f ∙ too_long (length s) x (before_dots s) (before_falls s) h)
+    prefix_long h = full_among x (before_dots s) (λ e. omega arith) ∙ too_long (length s) x (before_dots s) (before_falls s) h
 
     module _ (h : length x < length s) where
-      suffix_is : among x (suffixes s) ≡ (eqb (get_or s (length s - length x - 1) 0) 46 && same x (drop (length s - length x) s))
+      pub suffix_is : among x (suffixes s) ≡ (eqb (get_or s (length s - length x - 1) 0) 46 && bytes_eq x (take (length s - (length s - length x)) (drop (length s - length x) s)))
       unfolding suffixes
-      suffix_is = full_among x (behind_dots s) f ∙ suffix_at s x h
+      suffix_is =
+          rw (same_bytes x (take (length s - (length s - length x)) (drop (length s - length x) s)), take_all (length s - (length s - length x)) (drop (length s - length x) s) (rw length-drop (omega arith)))
+          (full_among x (behind_dots s) (λ e. omega arith) ∙ suffix_at s x h)
 
-      prefix_is : among x (prefixes s) ≡ (eqb (get_or s (length x) 0) 46 && same x (take (length x) s))
+      pub prefix_is : among x (prefixes s) ≡ (eqb (get_or s (length x) 0) 46 && bytes_eq x (take (length x) s))
       unfolding prefixes
-      prefix_is = full_among x (before_dots s) f ∙ prefix_at s x h
+      prefix_is = rw (same_bytes x (take (length x) s)) (full_among x (before_dots s) (λ e. omega arith) ∙ prefix_at s x h)
 
-      pub suffix_no_dot : (get_or s (length s - length x - 1) 0 ≡ 46 → ⊥) → false ≡ among x (suffixes s)
-      suffix_no_dot n = rw (suffix_is, ne_eqb (get_or s (length s - length x - 1) 0) 46 n) refl
+pub ruleset suffix_laws = (suffix_empty, suffix_long, suffix_is)
 
-      pub prefix_no_dot : (get_or s (length x) 0 ≡ 46 → ⊥) → false ≡ among x (prefixes s)
-      prefix_no_dot n = rw (prefix_is, ne_eqb (get_or s (length x) 0) 46 n) refl
-
-      pub suffix_same : (z : Bool) → get_or s (length s - length x - 1) 0 ≡ 46 → z ≡ same x (take (length s - (length s - length x)) (drop (length s - length x) s)) → z ≡ among x (suffixes s)
-      suffix_same z e q =
-          rw (suffix_is, eq-eqb (get_or s (length s - length x - 1) 0) 46 e)
-          (rw (take_all (length s - (length s - length x)) (drop (length s - length x) s) (rw length-drop (omega arith))) at q)
-
-      pub prefix_same : (z : Bool) → get_or s (length x) 0 ≡ 46 → z ≡ same x (take (length x - 0) (drop 0 s)) → z ≡ among x (prefixes s)
-      prefix_same z e q = rw (prefix_is, eq-eqb (get_or s (length x) 0) 46 e) (rw sub-zero at q)
-
-  -- only with all forms is a suffix a form
-  pub suffix_off : (all : Bool) → all ≡ false → false ≡ among x (choose all (suffixes s) [])
-  unfolding choose among
-  suffix_off all e = rw e refl
-
-  pub suffix_on : (all z : Bool) → all ≡ true → z ≡ among x (suffixes s) → z ≡ among x (choose all (suffixes s) [])
-  unfolding choose
-  suffix_on all z e q = rw e q
+pub ruleset prefix_laws = (prefix_empty, prefix_long, prefix_is)

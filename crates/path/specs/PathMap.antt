@@ -1,5 +1,5 @@
 -- path.rs: the rows of a kind that a path finds.
-use Rattle.std.specs.Prelude.{◌&&◌, List, [], ◌∷◌, ℕ, ◌+◌, eqb}
+use Rattle.std.specs.Prelude.{◌&&◌, List, [], ◌∷◌, ℕ, ◌+◌, eqb, Option, Some, None, if◌then◌else◌}
 use Rattle.base.specs.Choose.{choose}
 use Rattle.base.specs.Bytes.{same}
 use Rattle.options.specs.Settings.{Setting, found_at, not_found}
@@ -28,3 +28,7 @@ find_best kind (f ∷ fs) i rs = choose (first_with kind f i rs).found (first_wi
 -- PathMap::get_first
 abbrev pub get_first : ℕ → List ℕ → List Setting → Found
 get_first kind path rs = find_best kind (sub_path_iter path) 0 rs
+
+-- a row that was found, by its number
+abbrev pub number_of : Found → Option ℕ
+number_of f = if f.found then Some f.number else None

@@ -10,10 +10,12 @@ use lib.Seq.{take_all, drop-drop, drop-append-add}
 use Rattle.base.specs.Choose.{choose, choose_case}
 use Rattle.base.specs.Tests.{both_ways, and_left, and_right}
 use borrow.Author.Tests.{eqb-true}
+use Rattle.std.specs.Str.{bytes_eq}
+use Rattle.path.proofs.FormLaws.{same_bytes}
 use Rattle.base.specs.Bytes.{b, same, same_sound}
 use Rattle.split.specs.Split.{begins, push, split_behind, split}
 use Rattle.rust_paths.specs.Parts.{cut, is_tail}
-use Rattle.split.proofs.SplitLaws.{by_test, split_is}
+use Rattle.split.proofs.SplitLaws.{begins_starts, by_test, split_is}
 
 -- all of p, or all but its last byte
 pub record Cut (p : List ℕ) (n : ℕ) : Type 0 where
@@ -72,14 +74,33 @@ module _ (p : List ℕ) (i : ℕ) where
     whole : take (length p - i) (drop i p) ≡ drop i p
     whole = take_all (length p - i) (drop i p) (rw length-drop (omega arith))
 
-    pub cut_stops : a ≡ true → i + cut (drop i p) ≡ i
-    cut_stops t = rw (cut_alone (drop i p) (sym (rw whole at q) ∙ t)) (omega arith)
+    stops : a ≡ true → i + cut (drop i p) ≡ i
+    stops t = rw (cut_alone (drop i p) (sym (rw whole at q) ∙ t)) (omega arith)
 
-    pub cut_goes : a ≡ false → (r : Bool) → r ≡ begins (b "::") (drop i p) → (n : ℕ) → n ≡ choose r 2 1 → i + n + cut (drop (i + n) p) ≡ i + cut (drop i p)
-    cut_goes t r e n k =
+    goes : a ≡ false → (r : Bool) → r ≡ begins (b "::") (drop i p) → (n : ℕ) → n ≡ choose r 2 1 → i + n + cut (drop (i + n) p) ≡ i + cut (drop i p)
+    goes t r e n k =
         let l : length (drop i p) ≡ length p - i = length-drop i p in
         let s : cut (drop i p) ≡ n + cut (drop n (drop i p)) = rw (k, e) (cut_step (drop i p) (omega arith) (sym (rw whole at q) ∙ t)) in
         rw (← drop-drop) (omega arith)
+
+  -- as the code tests what is left
+  module _ (h : i < length p) where
+    pub cut_stops : bytes_eq (take (length p - i) (drop i p)) (58 ∷ []) ≡ true → i + cut (drop i p) ≡ i
+    cut_stops e = stops h _ (same_bytes (take (length p - i) (drop i p)) (58 ∷ [])) e
+
+    module _ (f : bytes_eq (take (length p - i) (drop i p)) (58 ∷ []) ≡ false) where
+      here : bytes_eq (58 ∷ 58 ∷ []) (take 2 (take (length p - i) (drop i p))) ≡ begins (b "::") (drop i p)
+      here = rw (take_all (length p - i) (drop i p) (rw length-drop (omega arith))) (sym (begins_starts (58 ∷ 58 ∷ []) (drop i p)))
+
+      pub cut_past_two : bytes_eq (58 ∷ 58 ∷ []) (take 2 (take (length p - i) (drop i p))) ≡ true → i + 2 + cut (drop (i + 2) p) ≡ i + cut (drop i p)
+      unfolding choose
+      cut_past_two e = goes h _ (same_bytes (take (length p - i) (drop i p)) (58 ∷ [])) f true (sym e ∙ here) 2 refl
+
+      pub cut_past_one : bytes_eq (58 ∷ 58 ∷ []) (take 2 (take (length p - i) (drop i p))) ≡ false → i + 1 + cut (drop (i + 1) p) ≡ i + cut (drop i p)
+      unfolding choose
+      cut_past_one e = goes h _ (same_bytes (take (length p - i) (drop i p)) (58 ∷ [])) f false (sym e ∙ here) 1 refl
+
+pub ruleset cuts_on = (cut_end, cut_stops, cut_past_two, cut_past_one)
 
 -- ---- the parts on both sides
 push_append : (c : ℕ) (s : List ℕ) (ys : List (List ℕ)) → push c (split (b "::") s ++ ys) ≡ push c (split (b "::") s) ++ ys

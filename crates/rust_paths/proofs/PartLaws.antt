@@ -2,9 +2,11 @@
 use mathlib.Core.Path.{◌≡◌, refl, sym, ap, ◌∙◌}
 use mathlib.Core.Bool.{Bool, true, false}
 use mathlib.Core.List.{List, [], ◌∷◌, ◌++◌, map, map-append, append-nil, append_assoc}
-use Prim.Native.Nat.{ℕ, ◌+◌, ◌-◌, ◌≤◌, ◌<◌}
+use native.Mathlib.Decide.{dec_le}
+use Prim.Native.Nat.{ℕ, min, ◌+◌, ◌-◌, ◌≤◌, ◌<◌}
 use native.Mathlib.Omega.{arith}
-use lib.ListN.{length, take, drop}
+use lib.ListN.{length, take, drop, drop_of_length-le}
+use Rattle.std.specs.Str.{bytes_eq}
 use Rattle.base.specs.Bytes.{b}
 use Rattle.writer.specs.Wrote.{Wrote, ◌►◌, named}
 use Rattle.heck.specs.Case.{join}
@@ -13,7 +15,7 @@ use Rattle.ident.specs.Ident.{to_snake, to_upper_camel}
 use Rattle.split.specs.Split.{begins, split, first_part}
 use Rattle.rust_paths.specs.Segments.{Segment, snake, written, first_segment, rust_path, extern_text}
 use Rattle.rust_paths.specs.Parts.{led, segments, led_parts, path_text, is_tail}
-use Rattle.split.proofs.SplitLaws.{Parted, parts_behind, split_is, parts_last, parts_more}
+use Rattle.split.proofs.SplitLaws.{begins_starts, Parted, parts_behind, split_is, parts_last, parts_more}
 
 -- ---- texts with a `::` between them
 join_led : (x : List ℕ) (xs : List (List ℕ)) → join (b "::") (x ∷ xs) ≡ x ++ led xs
@@ -83,12 +85,22 @@ empty_tail p [] h = sym (append-nil p)
 empty_tail p (c ∷ q) h = absurd (omega arith)
 
 -- ---- is a text empty, or a `::` first in it?
-pub tail_empty : (q : List ℕ) → length q ≡ 0 → true ≡ is_tail q
+pub tail_empty : (q : List ℕ) → length q ≡ 0 → is_tail q ≡ true
 unfolding is_tail
 tail_empty [] h = refl
 tail_empty (c ∷ q) h = absurd (omega arith)
 
-pub tail_begins : (q : List ℕ) (r : Bool) → (length q ≡ 0 → ⊥) → r ≡ begins (b "::") (drop 0 q) → r ≡ is_tail q
+pub tail_begins : (q : List ℕ) → (length q ≡ 0 → ⊥) → is_tail q ≡ bytes_eq (58 ∷ 58 ∷ []) (take 2 q)
 unfolding is_tail
-tail_begins [] r n e = absurd (n refl)
-tail_begins (c ∷ q) r n e = e
+tail_begins [] n = absurd (n refl)
+tail_begins (c ∷ q) n = begins_starts (58 ∷ 58 ∷ []) (c ∷ q)
+
+pub ruleset tails = (tail_empty, tail_begins)
+
+-- a place past the end counts as the end
+pub drop_within : (s : List ℕ) (at from : ℕ) → from ≡ min at (length s) → drop from s ≡ drop at s
+drop_within s at from f = on (dec_le at (length s))
+  where
+    on : Dec (at ≤ length s) → drop from s ≡ drop at s
+    on (yes h) = let e : from ≡ at = omega arith in rw e refl
+    on (no h) = rw (drop_of_length-le s {i = from} (omega arith), drop_of_length-le s {i = at} (omega arith)) refl

@@ -9,7 +9,7 @@ ghost use Rattle.writer.specs.Text.{pick};
 ghost use Rattle.rust_paths.specs.Segments.{written, first_segment};
 ghost use Rattle.rust_paths.specs.Parts.{led_parts, path_text, cut, is_tail};
 
-use split::{begins_at, part_end};
+use split::part_end;
 
 // The parts of s from a place on, each behind a `::` and in snake case; with `camel`, the last in camel case.
 fn put_parts(t: &mut [u8], at: usize, s: &[u8], start: usize, sep: &[u8], camel: bool) -> usize
@@ -36,11 +36,11 @@ fn put_parts(t: &mut [u8], at: usize, s: &[u8], start: usize, sep: &[u8], camel:
 }
 
 // The first segment of a Rust path: `crate` isn't converted.
+#[tactic(auto, unfolding(crate::specs::Segments::first_segment, base::specs::Choose::choose, base::specs::Bytes::same))]
 fn put_first(t: &mut [u8], at: usize, x: &[u8]) -> usize
     ensures { Wrote t.old at (written (first_segment x.now)) t.new result }
 {
-    let root = base::same_bytes(x, b"crate");
-    if root {
+    if x == b"crate".as_slice() {
         return writer::put(t, at, x);
     }
     let named = ident::put_snake(t, at, x);
@@ -60,28 +60,22 @@ fn put_path(t: &mut [u8], at: usize, s: &[u8]) -> usize
     a
 }
 
-fn bytes_of(pair: bool) -> usize
-    ensures { (result ≡ choose pair 2 1) × (0 < result) × (result < 3) }
-{
-    if pair {
-        return 2;
-    }
-    1
-}
-
 // How much of p stands before the last separator, where a `::` follows p: all, or all but a `:` that makes one with it.
+#[tactic(auto, using(crate::proofs::CutLaws::cuts_on))]
 fn cut_at(p: &[u8]) -> usize
     ensures { result ≡ cut p.now }
 {
     let mut i = 0;
+    // no `for`: a separator is two bytes, any other step one
     while i < p.len() {
-        let alone = base::same_bytes(&p[i..], b":");
-        if alone {
+        if &p[i..] == b":".as_slice() {
             return i;
         }
-        let pair = begins_at(p, i, b"::");
-        let n = bytes_of(pair);
-        i = i + n;
+        if p[i..].starts_with(b"::") {
+            i += 2;
+        } else {
+            i += 1;
+        }
     }
     i
 }
@@ -91,7 +85,7 @@ fn put_joined(t: &mut [u8], at: usize, p: &[u8], q: &[u8]) -> usize
     requires { is_tail q.now ≡ true }
     ensures { Wrote t.old at (path_text (p.now ++ q.now)) t.new result }
 {
-    if q.len() == 0 {
+    if q.is_empty() {
         return put_path(t, at, p);
     }
     let e = cut_at(p);
@@ -101,21 +95,18 @@ fn put_joined(t: &mut [u8], at: usize, p: &[u8], q: &[u8]) -> usize
     put_parts(t, a, q, from, b"::", false)
 }
 
+#[tactic(auto, using(crate::proofs::PartLaws::tails))]
 fn is_rest(q: &[u8]) -> bool
     ensures { result ≡ is_tail q.now }
 {
-    if q.len() == 0 {
-        return true;
-    }
-    begins_at(q, 0, b"::")
+    q.is_empty() || q.starts_with(b"::")
 }
 
 // The Rust path p and q, its segments in snake case, where q is empty or begins with a `::`; nothing for another q.
 pub fn put_rust_path(t: &mut [u8], at: usize, p: &[u8], q: &[u8]) -> usize
     ensures { Wrote t.old at (pick (is_tail q.now) (path_text (p.now ++ q.now)) []) t.new result }
 {
-    let rest = is_rest(q);
-    if rest {
+    if is_rest(q) {
         return put_joined(t, at, p, q);
     }
     at
@@ -125,6 +116,6 @@ pub fn put_rust_path(t: &mut [u8], at: usize, p: &[u8], q: &[u8]) -> usize
 pub fn put_behind(t: &mut [u8], at: usize, s: &[u8], start: usize) -> usize
     ensures { Wrote t.old at (led_parts true (b ".") (drop start s.now)) t.new result }
 {
-    let from = writer::within(start, s.len());
+    let from = start.min(s.len());
     put_parts(t, at, s, from, b".", true)
 }

@@ -1,59 +1,47 @@
 -- Laws of `split`: its first part, and what is left behind the separator. Assumes nothing.
 use mathlib.Core.Path.{◌≡◌, refl, sym, ap, ◌∙◌}
-use mathlib.Core.Bool.{Bool, true, false, ◌&&◌, and-false}
+use mathlib.Core.Bool.{Bool, true, false, ◌&&◌}
 use mathlib.Core.List.{List, [], ◌∷◌}
-use Prim.Native.Nat.{ℕ, zero, suc, ◌+◌, ◌-◌, ◌≤◌, ◌<◌, min}
+use Prim.Native.Nat.{ℕ, zero, suc, ◌+◌, ◌-◌, ◌≤◌, ◌<◌}
 use native.Mathlib.Omega.{arith}
 use native.Mathlib.Numerals.{add-one}
-use native.Mathlib.Decide.{dec_le, dec_lt}
+use native.Mathlib.Decide.{dec_lt}
 use borrow.Author.Tests.{lt-ltb, le-ltb, eq-eqb, ne_eqb, eqb-true, eqb-false}
 use lib.Dec.{eqb, ltb}
 use lib.ListN.{length, take, drop, length-drop, drop_of_length-le}
-use lib.Seq.{drop-cons, drop-drop}
+use lib.Seq.{drop-cons, drop-drop, take-length}
 use Rattle.base.specs.Choose.{choose, choose_case}
 use Rattle.base.specs.Tests.{both_ways, and_right}
-use Rattle.base.specs.Bytes.{same}
-use Rattle.split.specs.Split.{begins, push, split_behind, split, first_part}
+use Rattle.std.specs.Str.{bytes_eq}
+use Rattle.std.specs.List.{list_any}
+use Rattle.path.specs.Forms.{among}
+use Rattle.path.proofs.FormLaws.{same_bytes}
+use Rattle.split.specs.Split.{begins, push, split_behind, split, first_part, parts_left}
+use Rattle.std.proofs.Common.{Option, Some, None, Bor, inl, inr, ◌⊎◌}
+use Rattle.std.specs.Option.{MatchOption, option_copied}
+use Rattle.std.specs.List.{slice_range}
 
 pub by_test : (P : Bool → Type 0) (t : Bool) → (t ≡ true → P true) → (t ≡ false → P false) → P t
 by_test P true f g = f refl
 by_test P false f g = g refl
 
--- ---- does the separator stand here?
-begins_short : (sep s : List ℕ) → length s < length sep → begins sep s ≡ false
-unfolding begins
-begins_short [] s h = absurd (omega arith)
-begins_short (x ∷ sep) [] h = refl
-begins_short (x ∷ sep) (c ∷ s) h = rw (begins_short sep s (omega arith)) (and-false (eqb c x))
+pub eqb_turned : (a c : ℕ) → eqb a c ≡ eqb c a
+eqb_turned a c =
+    by_test (λ (t : Bool). t ≡ eqb c a) (eqb a c) (λ q. sym (eq-eqb c a (sym (eqb-true a c q))))
+    (λ q. sym (ne_eqb c a (λ e. eqb-false a c q (sym e))))
 
-begins_same : (sep s : List ℕ) → length sep ≤ length s → begins sep s ≡ same (take (length sep) s) sep
-unfolding begins same
-begins_same [] s h = refl
-begins_same (x ∷ sep) [] h = absurd (omega arith)
-begins_same (x ∷ sep) (c ∷ s) h = ap (λ (t : Bool). eqb c x && t) (begins_same sep s (omega arith))
+-- ---- does the separator stand here?
+pub begins_starts : (sep s : List ℕ) → begins sep s ≡ bytes_eq sep (take (length sep) s)
+unfolding begins
+begins_starts [] s = refl
+begins_starts (x ∷ sep) [] = refl
+begins_starts (x ∷ sep) (c ∷ s) = rw (eqb_turned c x) (ap (λ (t : Bool). eqb x c && t) (begins_starts sep s))
 
 begins_room : (sep s : List ℕ) → begins sep s ≡ true → length sep ≤ length s
 unfolding begins
 begins_room [] s h = omega arith
 begins_room (x ∷ sep) [] h = both_ways h refl
 begins_room (x ∷ sep) (c ∷ s) h = let l : length sep ≤ length s = begins_room sep s (and_right (eqb c x) (begins sep s) h) in omega arith
-
--- a place past the end counts as the end
-pub drop_within : (s : List ℕ) (at from : ℕ) → from ≡ min at (length s) → drop from s ≡ drop at s
-drop_within s at from f = on (dec_le at (length s))
-  where
-    on : Dec (at ≤ length s) → drop from s ≡ drop at s
-    on (yes h) = let e : from ≡ at = omega arith in rw e refl
-    on (no h) = rw (drop_of_length-le s {i = from} (omega arith), drop_of_length-le s {i = at} (omega arith)) refl
-
-module _ (s sep : List ℕ) (at from : ℕ) (f : from ≡ min at (length s)) where
-  pub begins_not : length s - from < length sep → false ≡ begins sep (drop at s)
-  begins_not l = rw (← drop_within s at from f) (sym (begins_short sep (drop from s) (rw length-drop l)))
-
-  pub begins_is : (z : Bool) → length sep ≤ length s - from → z ≡ same (take (from + length sep - from) (drop from s)) sep → z ≡ begins sep (drop at s)
-  begins_is z l q =
-      let e : from + length sep - from ≡ length sep = omega arith in
-      rw (← drop_within s at from f) ((rw e at q) ∙ sym (begins_same sep (drop from s) (rw length-drop l)))
 
 -- ---- the first part
 module _ (s sep : List ℕ) (i : ℕ) where
@@ -178,7 +166,67 @@ module _ (sep s : List ℕ) (from e : ℕ) (z : 0 < length sep) (d : Parted sep 
       let k : from + (first_part sep (drop from s) + length sep) ≡ e + length sep = omega arith in
       split_is sep (drop from s) z ∙ rw (front, lt-ltb (first_part sep (drop from s)) (length (drop from s)) (omega arith), drop-drop, k) refl
 
-pub eqb_turned : (a c : ℕ) → eqb a c ≡ eqb c a
-eqb_turned a c =
-    by_test (λ (t : Bool). t ≡ eqb c a) (eqb a c) (λ q. sym (eq-eqb c a (sym (eqb-true a c q))))
-    (λ q. sym (ne_eqb c a (λ e. eqb-false a c q (sym e))))
+-- ---- the iterator
+module _ (s sep : List ℕ) (i : ℕ) where
+  starts_here : bytes_eq sep (take (length sep) (take (length s - i) (drop i s))) ≡ begins sep (drop i s)
+  starts_here = let k : length s - i ≡ length (drop i s) = sym (length-drop i s) in rw (k, take-length (drop i s)) (sym (begins_starts sep (drop i s)))
+
+  pub stops_here : i < length s → bytes_eq sep (take (length sep) (take (length s - i) (drop i s))) ≡ true → i + first_part sep (drop i s) ≡ i
+  stops_here h e = part_stops s sep i h (sym starts_here ∙ e)
+
+  pub goes_on : i < length s → bytes_eq sep (take (length sep) (take (length s - i) (drop i s))) ≡ false → i + first_part sep (drop i s) ≡ i + 1 + first_part sep (drop (i + 1) s)
+  goes_on h e = part_goes s sep i h (sym starts_here ∙ e)
+
+pub ruleset part_ends_here = (stops_here, goes_on, part_ends)
+
+push_length : (c : ℕ) (xs : List (List ℕ)) (n : ℕ) → length xs ≤ n + 1 → length (push c xs) ≤ n + 1
+push_length c [] n h = omega arith
+push_length c (x ∷ xs) n h = h
+
+behind_length : (sep : List ℕ) (n : ℕ) (s : List ℕ) → length (split_behind sep n s) ≤ length s + 1
+unfolding split_behind
+behind_length sep n [] = omega arith
+behind_length sep (suc n) (c ∷ s) = let l = behind_length sep n s in omega arith
+behind_length sep zero (c ∷ s) =
+    choose_case (λ (xs : List (List ℕ)). length xs ≤ suc (length s) + 1) (begins sep (c ∷ s))
+    (λ _. let l = behind_length sep (length sep - 1) s in omega arith)
+    (λ _. let l = push_length c (split_behind sep zero s) (length s) (behind_length sep zero s) in omega arith)
+
+pub split_length : (sep s : List ℕ) → length (split sep s) ≤ length s + 1
+unfolding split
+split_length sep s = behind_length sep zero s
+
+module _ (sep s : List ℕ) (h : 0 < length sep) (e : ℕ) (is : e ≡ 0 + first_part sep (drop 0 s)) where
+  first_is : e ≡ first_part sep s
+  first_is = omega (arith, is)
+
+  pub end_inside : e ≤ length s
+  end_inside = let l : first_part sep s ≤ length s = part_within sep s in let k = first_is in omega arith
+
+  pub more_parts : e + length sep ≤ length s → split sep s ≡ take e s ∷ split sep (drop (e + length sep) s)
+  unfolding parts_behind choose
+  more_parts l = rw first_is (split_is sep s h ∙ rw (lt-ltb (first_part sep s) (length s) (let k = first_is in omega arith)) refl)
+
+  pub last_part : length s < e + length sep → split sep s ≡ take e s ∷ []
+  unfolding parts_behind choose
+  last_part l =
+      let k = first_is in
+      let m : length s ≤ first_part sep s = go (dec_lt (first_part sep s) (length s)) in
+      rw k (split_is sep s h ∙ rw (le-ltb (first_part sep s) (length s) m) refl)
+    where
+      go : Dec (first_part sep s < length s) → length s ≤ first_part sep s
+      go (yes p) = let k = first_is in let q : first_part sep s + length sep ≤ length s = sep_fits sep s p in absurd (omega arith)
+      go (no p) = omega arith
+
+  -- what `get` gives behind the separator
+  pub next_parts : (o : Option (Bor (List ℕ))) → MatchOption o ((length s < e + length sep) ⊎ (length s < length s)) (λ x. (e + length sep ≤ length s) × (length s ≤ length s) × (x.now ≡ slice_range s (e + length sep) (length s)) × (length x.now + (e + length sep) ≡ length s)) → split sep s ≡ take e s ∷ parts_left sep (option_copied o)
+  next_parts None m = last_part (elim m [ inl l ↦ l | inr l ↦ omega arith ])
+  next_parts (Some x) m =
+      let k : length s - (e + length sep) ≡ length (drop (e + length sep) s) = sym (length-drop (e + length sep) s) in
+      let all : x.now ≡ drop (e + length sep) s = m.2 ∙ rw k (take-length (drop (e + length sep) s)) in
+      rw all (more_parts m.0)
+
+pub among_any : (x : List ℕ) (xs : List (List ℕ)) → among x xs ≡ list_any (bytes_eq x) xs
+unfolding among
+among_any x [] = refl
+among_any x (y ∷ ys) = rw (among_any x ys, ← same_bytes x y) refl

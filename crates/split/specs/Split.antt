@@ -1,5 +1,5 @@
 -- Rust's `split`: the parts of a text between the places where a separator stands.
-use Rattle.std.specs.Prelude.{Bool, true, false, ◌&&◌, List, [], ◌∷◌, ℕ, zero, suc, ◌-◌, eqb, length}
+use Rattle.std.specs.Prelude.{Bool, true, false, ◌&&◌, List, [], ◌∷◌, ℕ, zero, suc, ◌-◌, eqb, length, Option, Some, None}
 use Rattle.base.specs.Choose.{choose}
 
 -- does s begin with the separator?
@@ -26,3 +26,8 @@ split sep s = split_behind sep zero s
 unfoldable pub first_part : List ℕ → List ℕ → ℕ
 first_part sep [] = 0
 first_part sep (c ∷ s) = choose (begins sep (c ∷ s)) 0 (suc (first_part sep s))
+
+-- the parts of what is left, if anything is
+abbrev pub parts_left : List ℕ → Option (List ℕ) → List (List ℕ)
+parts_left sep None = []
+parts_left sep (Some s) = split sep s

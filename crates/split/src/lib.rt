@@ -1,87 +1,88 @@
-// The parts of a text between the places where a separator stands.
+//! The parts of a text between the places where a separator stands.
 #![tactic(auto)]
 
-ghost use Rattle.std.specs.Prelude.{◌≡◌, ◌+◌, ◌<◌, drop};
+ghost use Rattle.std.specs.Prelude.{◌≡◌, ◌+◌, ◌<◌, ◌≤◌, ◌^◌, drop, length, slice_get};
+ghost use Rattle.std.specs.Iterator.{item_count, YieldsFirstRef};
+ghost use Rattle.std.specs.Option.{option_copied};
 ghost use Rattle.base.specs.Bytes.{b};
 ghost use Rattle.path.specs.Forms.{among};
-ghost use Rattle.split.specs.Split.{begins, first_part, split};
-ghost use Rattle.split.specs.Words.{IsWord};
+ghost use Rattle.split.specs.Split.{first_part, split};
 
-// Where a part starts and ends.
-#[derive(Drop)]
-pub struct Part {
-    pub start: usize,
-    pub end: usize,
-}
+use std::marker::Model;
 
-// Does the separator stand at a place?
-pub fn begins_at(s: &[u8], at: usize, sep: &[u8]) -> bool
-    ensures { result ≡ begins sep.now (drop at s.now) }
+/// Where the part that starts at a place ends.
+#[tactic(auto, using(crate::proofs::SplitLaws::part_ends_here))]
+pub fn part_end(s: &[u8], from: usize, separator: &[u8]) -> usize
+    ensures { result ≡ from + first_part separator.now (drop from s.now) }
 {
-    let from = writer::within(at, s.len());
-    let room = s.len() - from;
-    if room < sep.len() {
-        return false;
-    }
-    let e = from + sep.len();
-    base::same_bytes(&s[from..e], sep)
-}
-
-// Where the part that starts at a place ends.
-pub fn part_end(s: &[u8], from: usize, sep: &[u8]) -> usize
-    ensures { result ≡ from + first_part sep.now (drop from s.now) }
-{
-    let mut i = from;
-    while i < s.len() {
-        let here = begins_at(s, i, sep);
-        if here {
+    for i in from..s.len() {
+        if s[i..].starts_with(separator) {
             return i;
         }
-        i = i + 1;
     }
-    i
+    from.max(s.len())
 }
 
-// Is x one of the words of s, with blanks between them?
+/// The parts that are left.
+#[derive(Drop)]
+pub struct Parts<'a> {
+    rest: Option<&'a [u8]>,
+    separator: &'a [u8],
+}
+
+impl<'a> Model for Parts<'a> {
+    ghost use Rattle.std.specs.Prelude.{◌<◌, List, length, ℕ};
+    ghost use Rattle.std.specs.Option.{option_copied};
+    ghost use Rattle.split.specs.Split.{parts_left};
+
+    ghost Value = { List (List ℕ) };
+
+    ghost view = { λ p. parts_left p.separator.now (option_copied p.rest) };
+
+    ghost invariant = { λ p. 0 < length p.separator.now };
+}
+
+impl<'a> Parts<'a> {
+    /// All parts of a text. The separator isn't empty.
+    #[tactic(auto, using(crate::proofs::SplitLaws::split_length))]
+    pub fn new(s: &'a [u8], separator: &'a [u8]) -> Self
+        requires { 0 < length separator.now }
+        ensures parts { result ≡ split separator.now s.now }
+        ensures bound { length result ≤ length s.now + 1 }
+    {
+        Parts {
+            rest: Some(s),
+            separator,
+        }
+    }
+}
+
+impl<'a> Iterator for Parts<'a> {
+    type Item = &'a [u8];
+
+    ghost next_gives = { YieldsFirstRef (λ rest. rest) };
+
+    ghost remaining = { item_count (λ rest. rest) };
+
+    #[tactic(auto, using(crate::proofs::SplitLaws::end_inside))]
+    fn next(&mut self) -> Option<&'a [u8]> {
+        let rest = self.rest?;
+        let end = part_end(rest, 0, self.separator);
+        self.rest = rest.get(end + self.separator.len()..);
+        Some(&rest[..end])
+    }
+}
+
+/// Is x one of the words of s, with blanks between them?
 pub fn is_word(s: &[u8], x: &[u8]) -> bool
     ensures { result ≡ among x.now (split (b " ") s.now) }
 {
-    let mut from = 0;
-    let mut e = part_end(s, 0, b" ");
-    while e < s.len() {
-        let found = base::same_bytes(x, &s[from..e]);
-        if found {
-            return true;
-        }
-        from = e + 1;
-        e = part_end(s, from, b" ");
-    }
-    base::same_bytes(x, &s[from..e])
+    Parts::new(s, b" ").any(|word| x == word)
 }
 
-// Word j of s; an empty part if there is none.
-pub fn word(s: &[u8], j: usize) -> Part
-    ensures { IsWord s.now j result }
+/// Word j of s.
+pub fn word(s: &[u8], j: usize) -> Option<&[u8]>
+    ensures { option_copied result ≡ slice_get (split (b " ") s.now) j }
 {
-    let mut i = 0;
-    let mut from = 0;
-    let mut e = part_end(s, 0, b" ");
-    while e < s.len() {
-        if i == j {
-            return Part {
-                start: from,
-                end: e,
-            };
-        }
-        i = i + 1;
-        from = e + 1;
-        e = part_end(s, from, b" ");
-    }
-    if i == j {
-        return Part {
-            start: from,
-            end: e,
-        };
-    }
-    Part { start: e, end: e }
+    Parts::new(s, b" ").nth(j)
 }

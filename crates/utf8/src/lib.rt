@@ -1,142 +1,123 @@
-// UTF-8: the character at a place.
+//! UTF-8: the character at a place.
 #![tactic(auto)]
 
 ghost use Rattle.std.specs.Prelude.{◌≡◌, get_or};
 ghost use Rattle.utf8.specs.Utf8.{between, second_low, second_high, second, later, two, three, four, char_at};
 
-// What decoding at a place finds: a character with the place behind it, or none.
-#[derive(Drop)]
+mod chars;
+
+pub use chars::Chars;
+
+/// What decoding at a place finds: a character with the place behind it, or none.
+// The enum stays where Rust has an `Option`: the step is opened by `let .. else` on its variants.
+#[derive(Clone, Copy, PartialEq, Eq)]
 pub enum Decoded {
     Character(u32, usize),
     Fault,
 }
 
-fn wide(x: u8) -> u32
-    ensures { result ≡ x }
-{
-    x as u32
-}
-
-// The byte at i, and 0 past the end.
+/// The byte at `i`, and 0 past the end.
 fn byte(s: &[u8], i: usize) -> u32
     ensures { result ≡ get_or s.now i 0 }
 {
-    wide(base::byte_at(s, i))
+    u32::from(base::byte_at(s, i))
 }
 
-// Does x lie from low to high?
+/// Whether `x` lies from `low` to `high`.
+#[tactic(auto, unfolding(crate::specs::Utf8::between, base::specs::Choose::choose))]
 pub fn between(low: u32, high: u32, x: u32) -> bool
     ensures { result ≡ between low high x }
 {
-    if x < low {
-        return false;
-    }
-    x <= high
+    (low..=high).contains(&x)
 }
 
+/// The least second byte behind the first byte `a`.
+#[tactic(auto, unfolding(crate::specs::Utf8::second_low, base::specs::Choose::choose))]
 fn second_low(a: u32) -> u32
     ensures { result ≡ second_low a }
 {
-    if a == 0xE0 {
-        return 0xA0;
+    match a {
+        0xE0 => 0xA0,
+        0xF0 => 0x90,
+        _ => 0x80,
     }
-    if a == 0xF0 {
-        return 0x90;
-    }
-    0x80
 }
 
+/// The largest second byte behind the first byte `a`.
+#[tactic(auto, unfolding(crate::specs::Utf8::second_high, base::specs::Choose::choose))]
 fn second_high(a: u32) -> u32
     ensures { result ≡ second_high a }
 {
-    if a == 0xED {
-        return 0x9F;
+    match a {
+        0xED => 0x9F,
+        0xF4 => 0x8F,
+        _ => 0xBF,
     }
-    if a == 0xF4 {
-        return 0x8F;
-    }
-    0xBF
 }
 
-// Can x stand behind the first byte a?
+/// Whether `x` can stand behind the first byte `a`.
+#[tactic(auto, unfolding(crate::specs::Utf8::second))]
 fn second(a: u32, x: u32) -> bool
     ensures { result ≡ second a x }
 {
     between(second_low(a), second_high(a), x)
 }
 
-// Can x be the third or fourth byte?
+/// Whether `x` can be the third or fourth byte.
+#[tactic(auto, unfolding(crate::specs::Utf8::later))]
 fn later(x: u32) -> bool
     ensures { result ≡ later x }
 {
     between(0x80, 0xBF, x)
 }
 
+#[tactic(auto, unfolding(crate::specs::Utf8::two, base::specs::Choose::choose))]
 fn two(a: u32, x: u32, next: usize) -> Decoded
     ensures { result ≡ two a x next }
 {
     if second(a, x) {
-        let c = a % 32 * 64 + x % 64;
-        return Decoded::Character(c, next);
+        Decoded::Character(a % 32 * 64 + x % 64, next)
+    } else {
+        Decoded::Fault
     }
-    Decoded::Fault
 }
 
+#[tactic(auto, unfolding(crate::specs::Utf8::three, base::specs::Choose::choose))]
 fn three(a: u32, x: u32, y: u32, next: usize) -> Decoded
     ensures { result ≡ three a x y next }
 {
-    if second(a, x) {
-        if later(y) {
-            let c = a % 16 * 4096 + x % 64 * 64 + y % 64;
-            return Decoded::Character(c, next);
-        }
-        return Decoded::Fault;
+    if second(a, x) && later(y) {
+        Decoded::Character(a % 16 * 4096 + x % 64 * 64 + y % 64, next)
+    } else {
+        Decoded::Fault
     }
-    Decoded::Fault
 }
 
+#[tactic(auto, unfolding(crate::specs::Utf8::four, base::specs::Choose::choose))]
 fn four(a: u32, x: u32, y: u32, z: u32, next: usize) -> Decoded
     ensures { result ≡ four a x y z next }
 {
-    if second(a, x) {
-        if later(y) {
-            if later(z) {
-                let c = a % 8 * 262144 + x % 64 * 4096 + y % 64 * 64 + z % 64;
-                return Decoded::Character(c, next);
-            }
-            return Decoded::Fault;
-        }
-        return Decoded::Fault;
+    if second(a, x) && later(y) && later(z) {
+        Decoded::Character(a % 8 * 262144 + x % 64 * 4096 + y % 64 * 64 + z % 64, next)
+    } else {
+        Decoded::Fault
     }
-    Decoded::Fault
 }
 
-// The character at the place i.
+/// The character at the place `i`.
+#[tactic(auto, unfolding(crate::specs::Utf8::char_at, base::specs::Choose::choose))]
 pub fn char_at(s: &[u8], i: usize) -> Decoded
     ensures { result ≡ char_at s.now i }
 {
-    if s.len() <= i {
+    if i >= s.len() {
         return Decoded::Fault;
     }
     let a = byte(s, i);
-    if a <= 0x7F {
-        let next = i + 1;
-        return Decoded::Character(a, next);
+    match a {
+        0..=0x7F => Decoded::Character(a, i + 1),
+        0xC2..=0xDF => two(a, byte(s, i + 1), i + 2),
+        0xE0..=0xEF => three(a, byte(s, i + 1), byte(s, i + 2), i + 3),
+        0xF0..=0xF4 => four(a, byte(s, i + 1), byte(s, i + 2), byte(s, i + 3), i + 4),
+        _ => Decoded::Fault,
     }
-    if a < 0xC2 {
-        return Decoded::Fault;
-    }
-    let x = byte(s, i + 1);
-    if a <= 0xDF {
-        return two(a, x, i + 2);
-    }
-    let y = byte(s, i + 2);
-    if a <= 0xEF {
-        return three(a, x, y, i + 3);
-    }
-    let z = byte(s, i + 3);
-    if a <= 0xF4 {
-        return four(a, x, y, z, i + 4);
-    }
-    Decoded::Fault
 }

@@ -1,5 +1,5 @@
 -- The reader and the encoding's document: of any bytes, `contents` gives exactly the fields that they encode, and nothing where they encode none. Assumes nothing.
-use mathlib.Core.Path.{◌≡◌, refl, ◌∙◌}
+use mathlib.Core.Path.{◌≡◌, refl, sym, ◌∙◌}
 use mathlib.Core.List.{List, ◌++◌}
 use mathlib.Core.Option.{Option, none, some}
 use Prim.Native.Nat.{ℕ, ◌+◌}
@@ -7,7 +7,11 @@ use native.Mathlib.Omega.{arith}
 use lib.ListN.{length, drop}
 use Rattle.wire.specs.Step.{step_at}
 use Rattle.wire.specs.Encoding.{Bytes, Field, EncodesField, Encodes}
-use Rattle.wire.specs.Contents.{contents}
+use Rattle.std.specs.Prelude.{None}
+use Rattle.wire.specs.Contents.{contents, all_fields}
+use Rattle.wire.specs.Message.{record_at, records_at}
+use Rattle.wire.proofs.StepLaws.{Lies, lies}
+use Rattle.wire.proofs.SameRecords.{step_same, same_contents}
 use Rattle.wire.proofs.EncodingSound as reader
 use Rattle.wire.proofs.EncodingComplete as encoding
 use Rattle.wire.specs.declared.Step.TheVariants.{Fault, Found}
@@ -44,3 +48,17 @@ module _ (s : List ℕ) where
       let here : Found r.found ≡ Fault key = r.here ∙ e in
       let z : ◌≡◌ {A = ℕ} 0 1 = cc in
       omega arith
+
+  -- the same of the records that are read one after the other, wherever the bytes stand
+  pub records_sound : Bytes s → (base : ℕ) (fs : List Field) → all_fields (records_at base s) ≡ some fs → Encodes s fs
+  records_sound all_bytes base fs e = sound all_bytes fs (sym (same_contents base s) ∙ e)
+
+  pub records_complete : (base : ℕ) (fs : List Field) → Encodes s fs → all_fields (records_at base s) ≡ some fs
+  records_complete base fs w = same_contents base s ∙ complete fs w
+
+  -- where no record stands, no field begins
+  pub no_field_where_none : (base at : ℕ) → record_at (base + at) (drop at s) ≡ None → (f : Field) (bs rest : List ℕ) → EncodesField bs f → drop at s ≡ bs ++ rest → ⊥
+  no_field_where_none base at e f bs rest w there =
+      let r : encoding.RecordAt s at f (at + length bs) = encoding.field_read s at f bs rest w there in
+      let l : Lies (length s) at r.found = lies s at (step_at s at) r.found refl (sym r.here) in
+      rw (← r.here, e) at (step_same s base at (omega arith))

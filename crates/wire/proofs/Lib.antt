@@ -6,3 +6,7 @@ pub mod EncodingSound
 pub mod EncodingComplete
 pub mod EncodingTheorems
 pub mod Examples
+pub mod Caps
+pub mod Shorter
+pub mod MessageLaws
+pub mod SameRecords

@@ -16,7 +16,7 @@ use Rattle.wire.specs.declared.Record.{Record}
 use Rattle.wire.specs.declared.Step.{Step}
 use Rattle.wire.specs.declared.Step.TheVariants.{End, Fault, Found}
 
-past : (s : List ℕ) (at : ℕ) → length s ≤ at → step_at s at ≡ End
+pub past : (s : List ℕ) (at : ℕ) → length s ≤ at → step_at s at ≡ End
 unfolding step_at
 past s at h = sym (search choices)
 

@@ -4,6 +4,9 @@ use Rattle.std.proofs.Math.Option.{Option, none, some}
 use Rattle.base.specs.Choose.{choose}
 use Rattle.wire.specs.Encoding.{Value, varint_value, i64_value, len_value, i32_value, Field, little_endian}
 use Rattle.wire.specs.Records.{records, part}
+use Rattle.wire.specs.Message.{Entry}
+use Rattle.std.specs.Prelude.{Result, Ok, Err}
+use Rattle.wire.specs.declared.records.record.Fault.{Fault as FaultAt}
 use Rattle.wire.specs.declared.Record.{Record}
 use Rattle.wire.specs.declared.Step.{Step}
 use Rattle.wire.specs.declared.Step.TheVariants.{End, Fault, Found}
@@ -35,3 +38,9 @@ fields_of s (Found f ∷ rs) = also (field_of s f) (fields_of s rs)
 -- what the reader makes of a message
 unfoldable pub contents : List ℕ → Option (List Field)
 contents s = fields_of s (records s 0)
+
+-- the fields of these records; none where there is a fault
+unfoldable pub all_fields : List (Result Entry FaultAt) → Option (List Field)
+all_fields [] = some []
+all_fields (Ok e ∷ rs) = also e.field (all_fields rs)
+all_fields (Err f ∷ rs) = none

@@ -3,3 +3,6 @@ pub mod Step
 pub mod Records
 pub mod Encoding
 pub mod Contents
+pub mod Readers
+pub mod Value
+pub mod Message

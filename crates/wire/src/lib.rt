@@ -5,6 +5,11 @@ ghost use Rattle.std.specs.Prelude.{◌≡◌, ℕ, ◌+◌, ◌≤◌, ◌<◌,
 ghost use Rattle.wire.specs.Varint.{groups, varint, cap};
 ghost use Rattle.wire.specs.Step.{step_at, keyed, payload, sized};
 
+mod read;
+pub mod records;
+
+// What follows reads by positions, for callers that loop over positions; `records` gives the same records one after the other.
+
 // A varint: its value, and the position after it. A fault is one that is cut or over 64 bits.
 #[derive(Drop)]
 pub enum Varint {

@@ -7,6 +7,10 @@ ghost use Rattle.writer.specs.Wrote.{over, after, Wrote};
 ghost use Rattle.writer.specs.Text.{pick, indent};
 ghost use Rattle.writer.specs.Decimal.{digits, decimal, signed};
 
+mod text;
+
+pub use text::Text;
+
 // No slice is so long: a place that comes to it stays there.
 const CAP: usize = 9223372036854775808;
 
@@ -152,6 +156,11 @@ pub fn put_part(t: &mut [u8], at: usize, s: &[u8], from: usize, n: usize) -> usi
 pub fn put_two(t: &mut [u8], at: usize, p: &[u8], q: &[u8]) -> usize
     ensures { Wrote t.old at (p.now ++ q.now) t.new result }
 {
-    let a = put(t, at, p);
-    put(t, a, q)
+    let mut text = Text {
+        buffer: t,
+        length: at,
+    };
+    text.put(p);
+    text.put(q);
+    text.next(at)
 }

@@ -1,12 +1,8 @@
-use Rattle.base.specs.Steps.{whole}
-use Rattle.c_escaping.specs.Unescape.{unescape_from}
-use mathlib.Core.Path.{◌≡◌}
-use Prim.Native.Nat.{◌-◌}
-use lib.ListN.{length}
+use Rattle.std.proofs.Common.{◌≡◌}
+use Rattle.std.specs.Prelude.{is_ok}
+use Rattle.std.specs.List.{list_all}
+use Rattle.c_escaping.specs.Unescape.{unescapes}
 use Rattle.c_escaping.proofs.unescapes.Given as goal
 
-abbrev pub invariant-loop-p : goal.invariant-loop-p
-invariant-loop-p l = whole (unescape_from l.s l.p) ≡ whole (unescape_from l.s 0)
-
-abbrev pub decreases-loop-p : goal.decreases-loop-p
-decreases-loop-p l = length l.s - l.p
+abbrev pub invariant-loop-byte : goal.invariant-loop-byte
+invariant-loop-byte l = list_all is_ok l.byte-iterator ≡ unescapes l.s

@@ -1,8 +1,10 @@
+use Rattle.std.proofs.Common.{sym, ◌∙◌}
+use Rattle.options.specs.Rows.{row_seen}
 use Rattle.extern_checks.proofs.DoubleLaws.{prost_one, prost_is}
 use Rattle.extern_checks.proofs.lists_prost_type.Goals as goal
 
-pub returns-then-row-eq1 : goal.returns-then-row-eq1
-returns-then-row-eq1 c = prost_one _ c.if-row-eq1.true _ c.is_prost_type.ensures
+pub returns-then-not-is : goal.returns-then-not-is
+returns-then-not-is c = c.is-then-not-is.ensures ∙ sym (prost_is (row_seen c.args.row.now) (sym c.is.ensures ∙ c.if-not-is.true))
 
 pub returns : goal.returns
-returns c = prost_is _ c.if-row-eq1.false
+returns c = c.is_prost_type.ensures ∙ sym (prost_one (row_seen c.args.row.now) (sym c.is.ensures ∙ c.if-not-is.false))

@@ -1,9 +1,6 @@
-use mathlib.Core.Path.{ap}
-use Rattle.writer.specs.Wrote.{named}
-use Rattle.ident.specs.Ident.{sanitize_identifier, to_snake}
-use Rattle.heck.proofs.Spelling.{snake_cased}
+use Rattle.std.proofs.Common.{rules, arith}
+use Rattle.writer.proofs.TextLaws.{placed}
 use Rattle.ident.proofs.put_snake.Goals as goal
 
 pub returns : goal.returns
-unfolding to_snake
-returns c = named (ap sanitize_identifier (snake_cased _)) c.put_name.ensures
+returns c = placed c.put_snake.new.text (omega arith) (search rules) c.put_snake.ensures c.next.ensures

@@ -1,11 +1,12 @@
+use Rattle.std.proofs.Common.{◌≡◌, false, sym, ◌∙◌}
+use Rattle.base.specs.Bytes.{b, same}
 use Rattle.base.specs.Choose.{choose}
+use Rattle.path.proofs.FormLaws.{same_bytes}
 use Rattle.rust_paths.specs.Segments.{first_segment}
 use Rattle.rust_paths.proofs.put_first.Goals as goal
 
-pub returns-then-root : goal.returns-then-root
-unfolding first_segment choose
-returns-then-root c = rw (← c.same_bytes-root.ensures, c.if-root.true) c.put.ensures
-
 pub returns : goal.returns
 unfolding first_segment choose
-returns c = rw (← c.same_bytes-root.ensures, c.if-root.false) c.put_snake-named.ensures
+returns c =
+    let other : same c.args.x.now (b "crate") ≡ false = sym (same_bytes c.args.x.now (b "crate")) ∙ (rw c.as_slice.ensures at (sym c.eq.ensures ∙ c.if-eq.false)) in
+    rw other c.put_snake-named.ensures

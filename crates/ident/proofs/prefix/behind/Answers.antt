@@ -1,21 +1,15 @@
-use mathlib.Core.Path.{sym, ◌∙◌}
-use Rattle.ident.proofs.PrefixLaws.{spells_one, spells_none, alike, unlike, capital_left, no_capital, none_left, whole_name, both_start}
+use Rattle.std.proofs.Common.{sym, ◌∙◌}
+use Rattle.ident.proofs.PrefixLaws.{other_byte, prefix_ends, no_prefix, upper_next, other_next}
 use Rattle.ident.proofs.prefix.behind.Goals as goal
 
-pub loop-q-init : goal.loop-q-init
-loop-q-init c = both_start _ _
+pub returns-then-ne : goal.returns-then-ne
+returns-then-ne c =
+    sym (no_prefix _ _ (sym c.loop-byte.invariant ∙ other_byte _ _ _ _ _ _ c.in-Some.ensures.steps c.next-in-loop-byte.ensures.steps (sym c.ne.ensures ∙ c.if-ne.true)))
 
-pub loop-q-preserved : goal.loop-q-preserved
-loop-q-preserved c = alike _ _ _ _ c.loop-q.invariant (spells_one c.camel_step-m.ensures c.if-m.true) (spells_one c.camel_step-n.ensures c.if-n.true) c.if-m-n.true
+pub returns-in-Some-next : goal.returns-in-Some-next
+returns-in-Some-next c =
+    sym (upper_next _ _ _ (sym c.loop-byte.invariant ∙ prefix_ends _ _ c.in-None.ensures.steps.0) _ _ (sym c.again.ensures ∙ c.in-Some-next.ensures.steps) (sym c.is_ascii_uppercase.ensures.value ∙ c.if-is_ascii_uppercase.true))
 
-pub returns-else-m-n : goal.returns-else-m-n
-returns-else-m-n c = whole_name _ _ _ (unlike _ _ _ _ c.loop-q.invariant (spells_one c.camel_step-m.ensures c.if-m.true) (spells_one c.camel_step-n.ensures c.if-n.true) c.if-m-n.false) c.whole.ensures
-
-pub returns-then-upper : goal.returns-then-upper
-returns-then-upper c = sym (capital_left _ _ _ _ c.loop-q.invariant (spells_none c.camel_step-m.ensures c.if-m.false) (spells_one c.camel_step-n.ensures c.if-n.true) (sym c.is_upper-upper.ensures ∙ c.if-upper.true))
-
-pub returns-else-m : goal.returns-else-m
-returns-else-m c = whole_name _ _ _ (no_capital _ _ _ _ c.loop-q.invariant (spells_none c.camel_step-m.ensures c.if-m.false) (spells_one c.camel_step-n.ensures c.if-n.true) (sym c.is_upper-upper.ensures ∙ c.if-upper.false)) c.whole-else-m.ensures
-
-pub returns-else-n : goal.returns-else-n
-returns-else-n c = whole_name _ _ _ (none_left _ _ _ _ c.loop-q.invariant (spells_none c.camel_step-n.ensures c.if-n.false)) c.whole-else-n.ensures
+pub returns-in_default : goal.returns-in_default
+returns-in_default c =
+    sym (other_next _ _ _ (sym c.loop-byte.invariant ∙ prefix_ends _ _ c.in-None.ensures.steps.0) _ _ (sym c.again.ensures ∙ c.in-Some-next.ensures.steps) (sym c.is_ascii_uppercase.ensures.value ∙ c.if-is_ascii_uppercase.false))

@@ -1,10 +1,11 @@
+use Rattle.std.proofs.Common.{◌≡◌, ◌≤◌, ◌-◌, ◌+◌, ◌*◌, ◌^◌}
+use Rattle.options.specs.Settings.{row_count, bodies}
 use Rattle.options.specs.Layout.{layout_from}
-use mathlib.Core.Path.{◌≡◌}
-use Prim.Native.Nat.{◌≤◌, ◌-◌, ◌+◌, ◌*◌}
 use Rattle.options.proofs.check.check_rows.Given as goal
 
-abbrev pub invariant-loop-i : goal.invariant-loop-i
-invariant-loop-i l = (l.i ≤ l.n) × (l.at ≤ 100000000000 + l.i * 131072) × (layout_from l.s l.size (l.n - l.i) l.i l.at ≡ layout_from l.s l.size l.n 0 l.start)
-
-abbrev pub decreases-loop-i : goal.decreases-loop-i
-decreases-loop-i l = l.n - l.i
+abbrev pub invariant-loop-row : goal.invariant-loop-row
+invariant-loop-row l =
+    record {
+      body : l.body ≤ 2 ^ 20 + l.row * 131072;
+      rest : layout_from l.bytes l.size (row_count l.bytes - l.row) l.row l.body ≡ layout_from l.bytes l.size (row_count l.bytes) 0 (bodies l.bytes);
+    }

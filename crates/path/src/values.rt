@@ -1,0 +1,58 @@
+//! The rows that a path finds, one after the other.
+ghost use Rattle.std.specs.Prelude.{◌≡◌};
+ghost use Rattle.std.specs.Iterator.{item_count, YieldsFirstRef};
+ghost use Rattle.options.specs.Kind.{kind_number};
+ghost use Rattle.path.specs.PathMap.{get};
+
+use options::{Kind, Options, Rows};
+use std::marker::Model;
+
+/// The values of the rows of a kind that a path finds and that are left.
+#[derive(Drop)]
+pub struct Values<'a> {
+    rows: Rows<'a>,
+    kind: u16,
+    path: &'a [u8],
+}
+
+impl<'a> Model for Values<'a> {
+    ghost use Rattle.std.specs.Prelude.{◌<◌, ◌^◌, List, length, ℕ};
+    ghost use Rattle.path.specs.PathMap.{get};
+
+    ghost Value = { List (List ℕ) };
+
+    ghost view = { λ v. get v.kind v.path.now v.rows };
+
+    ghost invariant = { λ v. length v.path.now < 2 ^ 63 };
+}
+
+impl<'a> Values<'a> {
+    /// The values of all rows of a kind that a path finds, in the rows' order.
+    pub fn new(options: &Options<'a>, kind: Kind, path: &'a [u8]) -> Self
+        ensures { result ≡ get (kind_number kind) path.now options.now }
+    {
+        Values {
+            rows: options.rows(),
+            kind: kind.number(),
+            path,
+        }
+    }
+}
+
+impl<'a> Iterator for Values<'a> {
+    type Item = &'a [u8];
+
+    ghost next_gives = { YieldsFirstRef (λ rest. rest) };
+
+    ghost remaining = { item_count (λ rest. rest) };
+
+    #[tactic(auto, using(crate::proofs::MatchLaws::gets))]
+    fn next(&mut self) -> Option<&'a [u8]> {
+        while let Some(row) = self.rows.next() {
+            if crate::row_worth(&row, self.kind, self.path, true) != 0 {
+                return Some(row.value);
+            }
+        }
+        None
+    }
+}
