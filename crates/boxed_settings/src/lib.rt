@@ -1,4 +1,4 @@
-// Which fields of a set have a boxed setting at `.M.f`, by bytes of a table: 1 for each that has, 0 for each other.
+//! Which fields of a set have a boxed setting at `.M.f`, by bytes of a table: 1 for each that has, 0 for each other.
 #![tactic(auto)]
 
 ghost use Rattle.writer.specs.Wrote.{Wrote};
@@ -7,7 +7,7 @@ ghost use Rattle.options.specs.Settings.{settings};
 ghost use Rattle.boxed_settings.specs.Flags.{flag, field_flag, field_flags, messages_flags, file_flags, set_flags};
 
 use joined::MAX_PATH;
-use wire::Step;
+use parts::Parts;
 
 fn put_flag(t: &mut [u8], at: usize, on: bool) -> usize
     ensures { Wrote t.old at (flag on) t.new result }
@@ -31,20 +31,11 @@ fn put_field(t: &mut [u8], at: usize, o: &[u8], full: &[u8], p: &[u8]) -> usize
 fn put_fields(t: &mut [u8], at: usize, o: &[u8], full: &[u8], s: &[u8]) -> usize
     ensures { Wrote t.old at (field_flags (settings o.now) full.now s.now) t.new result }
 {
-    let mut i: usize = 0;
     let mut a = at;
-    loop {
-        match wire::read_step(s, i) {
-            Step::End => return a,
-            Step::Fault(_) => return a,
-            Step::Found(f) => {
-                i = f.next;
-                if f.number == 2 {
-                    a = put_field(t, a, o, full, parts::embedded(s, f));
-                }
-            }
-        }
+    for p in Parts::new(s, 2) {
+        a = put_field(t, a, o, full, p);
     }
+    a
 }
 
 // The messages with this field number in a scope, and those nested in them, so many levels.
@@ -62,25 +53,14 @@ fn put_messages(
     if left == 0 {
         return at;
     }
-    let fewer = left - 1;
-    let mut i: usize = 0;
     let mut a = at;
-    loop {
-        match wire::read_step(s, i) {
-            Step::End => return a,
-            Step::Fault(_) => return a,
-            Step::Found(f) => {
-                i = f.next;
-                if f.number == number {
-                    let p = parts::embedded(s, f);
-                    let mut full = [0u8; MAX_PATH];
-                    let n = joined::path_in(&mut full, scope, joined::name_of(p));
-                    a = put_fields(t, a, o, &full[0..n], p);
-                    a = put_messages(t, a, o, &full[0..n], p, 3, fewer);
-                }
-            }
-        }
+    for p in Parts::new(s, number) {
+        let mut full = [0u8; MAX_PATH];
+        let n = joined::path_in(&mut full, scope, joined::name_of(p));
+        a = put_fields(t, a, o, &full[0..n], p);
+        a = put_messages(t, a, o, &full[0..n], p, 3, left - 1);
     }
+    a
 }
 
 fn put_file(t: &mut [u8], at: usize, o: &[u8], s: &[u8]) -> usize
@@ -91,22 +71,13 @@ fn put_file(t: &mut [u8], at: usize, o: &[u8], s: &[u8]) -> usize
     put_messages(t, at, o, &scope[0..n], s, 4, 16)
 }
 
-// The fields of a set in declaration order.
+/// The fields of a set in declaration order.
 pub fn boxed_settings(t: &mut [u8], o: &[u8], set: &[u8]) -> usize
     ensures { Wrote t.old 0 (set_flags (settings o.now) set.now) t.new result }
 {
-    let mut i: usize = 0;
-    let mut a: usize = 0;
-    loop {
-        match wire::read_step(set, i) {
-            Step::End => return a,
-            Step::Fault(_) => return a,
-            Step::Found(f) => {
-                i = f.next;
-                if f.number == 1 {
-                    a = put_file(t, a, o, parts::embedded(set, f));
-                }
-            }
-        }
+    let mut a = 0;
+    for p in Parts::new(set, 1) {
+        a = put_file(t, a, o, p);
     }
+    a
 }

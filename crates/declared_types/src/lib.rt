@@ -1,4 +1,4 @@
-// Refusal 7: the first file with a type name that the set doesn't declare, or with a full name declared before.
+//! Refusal 7: the first file with a type name that the set doesn't declare, or with a full name declared before.
 #![tactic(auto)]
 
 ghost use Rattle.std.specs.Prelude.{◌≡◌, true, false, ℕ, ltb, length};
@@ -10,7 +10,7 @@ ghost use Rattle.type_names.specs.LookUp.{find_row, row_sums};
 ghost use Rattle.declared_types.specs.Undeclared.{type_known, row_good, first_undeclared_row};
 
 use descriptor::{Number, Text};
-use wire::Step;
+use parts::Parts;
 
 // A field's type; double (1) where it is missing.
 fn type_of(n: Number) -> u32
@@ -63,25 +63,12 @@ fn type_good(s: &[u8], set: &[u8], t: &[usize], count: usize, sums: &[u64]) -> b
 }
 
 // Those of all fields of the message with these bytes?
+#[tactic(auto, unfolding(base::specs::Lists::all))]
 fn types_good(s: &[u8], set: &[u8], t: &[usize], count: usize, sums: &[u64]) -> bool
     requires { sums.now ≡ row_sums set.now t.now (length sums.now) }
     ensures { result ≡ all (type_known set.now t.now count) (parts 2 (entries s.now)) }
 {
-    let mut at: usize = 0;
-    loop {
-        match wire::read_step(s, at) {
-            Step::End => return true,
-            Step::Fault(_) => return true,
-            Step::Found(f) => {
-                at = f.next;
-                if f.number == 2 {
-                    if !type_good(parts::embedded(s, f), set, t, count, sums) {
-                        return false;
-                    }
-                }
-            }
-        }
-    }
+    Parts::new(s, 2).all(|field| type_good(field, set, t, count, sums))
 }
 
 // Is a row without refusal 7?
@@ -120,7 +107,7 @@ fn undeclared_by(set: &[u8], t: &[usize], count: usize, sums: &[u64]) -> usize
     files
 }
 
-// The file of the first of so many rows with refusal 7; the count of files where there is none. The checksums of rows go into `sums`.
+/// The file of the first of so many rows with refusal 7; the count of files where there is none. The checksums of rows go into `sums`.
 pub fn first_undeclared(set: &[u8], t: &[usize], count: usize, sums: &mut [u64]) -> usize
     ensures { result ≡ first_undeclared_row set.now t.now count }
 {

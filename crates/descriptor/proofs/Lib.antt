@@ -3,4 +3,5 @@ pub mod ViewLaws
 pub mod PassLaws
 pub mod ViewTheorems
 pub mod EntriesLaws
+pub mod StepLaws
 pub mod Examples

@@ -52,3 +52,18 @@ pub record FileDescriptor : Type 0 where
   pub syntax : Option Bytes
   pub messages : Forest MessageDescriptor
   pub enums : List EnumDescriptor
+
+-- what messages and files say of themselves, without the declarations in them
+pub record MessageHeader : Type 0 where
+  pub name : Option Bytes
+  pub map_entry : Bool
+
+abbrev pub message_header : MessageDescriptor → MessageHeader
+message_header m = record { name = m.name; map_entry = m.map_entry }
+
+pub record FileHeader : Type 0 where
+  pub package_name : Option Bytes
+  pub syntax : Option Bytes
+
+abbrev pub file_header : FileDescriptor → FileHeader
+file_header f = record { package_name = f.package_name; syntax = f.syntax }

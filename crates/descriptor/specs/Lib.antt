@@ -4,3 +4,6 @@ pub mod Decode
 pub mod Views
 pub mod Passes
 pub mod Limits
+pub mod Accessors
+pub mod Steps
+pub mod Seen

@@ -1,5 +1,4 @@
-// The descriptors of a set: views of its parts, by value. A part is bytes of the set from start to end; a view's texts are
-// places in the set.
+//! The descriptors of a set, each read from the bytes that hold it.
 #![tactic(auto)]
 
 ghost use Rattle.std.specs.Prelude.{◌≡◌, ◌+◌, ◌-◌, ◌<◌, ◌≤◌, ◌^◌, length};
@@ -8,6 +7,21 @@ ghost use Rattle.descriptor.specs.Views.{length_in, value_in, file_in, message_i
 ghost use Rattle.descriptor.specs.Passes.{text_in, number_in, flag_in, fold, flag_step, inside, no_text, no_number, texts_step, no_texts, value_step, no_value, no_field};
 
 use wire::{Record, Step};
+
+mod enumeration;
+mod field;
+mod message;
+mod reading;
+mod values;
+
+pub use enumeration::EnumValueDescriptor;
+pub use field::{
+    FieldDescriptor, FieldOptions, LABEL_OPTIONAL, LABEL_REPEATED, TYPE_ENUM, TYPE_GROUP,
+    TYPE_MESSAGE,
+};
+pub use message::{FileHeader, MessageHeader, name_of};
+
+// For callers that hold a set and the places of its parts: the same descriptors as views, whose texts are places in the set.
 
 // The last record of each field number below 18, where there is one: what the views are defined by.
 #[derive(Drop)]

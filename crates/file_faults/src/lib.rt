@@ -1,4 +1,4 @@
-// Refusals 8 and 9 of a file.
+//! Refusals 8 and 9 of a file.
 #![tactic(auto)]
 
 ghost use Rattle.std.specs.Prelude.{◌≡◌, ◌||◌, ◌+◌, ◌-◌, ◌≤◌, ◌<◌, ◌^◌};
@@ -12,28 +12,13 @@ ghost use Rattle.file_faults.specs.FileFaults.{no_faults, ◌or◌, default_fail
 
 use descriptor::Text;
 use joined::MAX_PATH;
-use wire::Step;
+use parts::Parts;
 
-// Variants of a written enum overlap (8); a bytes default to be written doesn't unescape (9).
+/// Variants of a written enum overlap (8); a bytes default to be written doesn't unescape (9).
 #[derive(Drop)]
 pub struct Faults {
     pub overlap: bool,
     pub default: bool,
-}
-
-fn wide(x: u32) -> usize
-    ensures { (result ≡ x) × (result < 2 ^ 32) }
-{
-    x as usize
-}
-
-fn either(p: bool, q: bool) -> bool
-    ensures { result ≡ (p || q) }
-{
-    if p {
-        return true;
-    }
-    q
 }
 
 fn no_faults() -> Faults
@@ -49,31 +34,18 @@ fn no_faults() -> Faults
 fn or(x: Faults, y: Faults) -> Faults
     ensures { result ≡ (x or y) }
 {
-    let overlap = either(x.overlap, y.overlap);
-    let default = either(x.default, y.default);
-    Faults { overlap, default }
+    Faults {
+        overlap: x.overlap || y.overlap,
+        default: x.default || y.default,
+    }
 }
 
 // Do variants overlap in one of the enums with this field number?
+#[tactic(auto, unfolding(base::specs::Lists::any))]
 fn enums_meet(s: &[u8], number: u64, o: &[u8], scope: &[u8]) -> bool
     ensures { result ≡ enums_meet (settings o.now) scope.now (parts number (entries s.now)) }
 {
-    let mut at: usize = 0;
-    loop {
-        match wire::read_step(s, at) {
-            Step::End => return false,
-            Step::Fault(_) => return false,
-            Step::Found(f) => {
-                at = f.next;
-                if f.number == number {
-                    let meets = enum_text::overlap::enum_overlaps(parts::embedded(s, f), o, scope);
-                    if meets {
-                        return true;
-                    }
-                }
-            }
-        }
-    }
+    Parts::new(s, number).any(|part| enum_text::overlap::enum_overlaps(part, o, scope))
 }
 
 // Does field k name a map entry?
@@ -205,34 +177,22 @@ fn messages_faults(
     if left == 0 {
         return found;
     }
-    let fewer = left - 1;
     let mut k = i;
-    let mut at: usize = 0;
-    loop {
-        match wire::read_step(s, at) {
-            Step::End => return found,
-            Step::Fault(_) => return found,
-            Step::Found(f) => {
-                at = f.next;
-                if f.number == number {
-                    let p = parts::embedded(s, f);
-                    let own = message_faults(set, o, messages, t, scope, k, p, fewer);
-                    found = or(found, own);
-                    let row = text_tables::message_row(messages, k);
-                    k = row.after;
-                }
-            }
-        }
+    for p in Parts::new(s, number) {
+        let own = message_faults(set, o, messages, t, scope, k, p, left - 1);
+        found = or(found, own);
+        k = text_tables::message_row(messages, k).after;
     }
+    found
 }
 
-// The file whose part p is; its first message has the number i.
+/// The file whose part p is; its first message has the number i.
 pub fn file_faults(set: &[u8], o: &[u8], messages: &[u16], t: &[u16], i: u32, p: &[u8]) -> Faults
     ensures { result ≡ faults_of_file (settings o.now) set.now messages.now t.now i p.now }
 {
     let mut scope = [0u8; MAX_PATH];
     let n = joined::package_in(&mut scope, p);
-    let first = wide(i);
+    let first = i as usize;
     let found = messages_faults(set, o, messages, t, &scope[0..n], first, p, 4, 16);
     let overlap = enums_meet(p, 5, o, &scope[0..n]);
     let enums = Faults {

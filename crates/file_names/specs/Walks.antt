@@ -1,18 +1,13 @@
 -- Refusal 6 of messages and map entries as tests of their bytes, one by one.
-use Rattle.std.specs.Prelude.{ℕ, Bool, true, false, ◌&&◌, List, eqb}
+use Rattle.std.specs.Prelude.{ℕ, Bool, true, ◌&&◌, List}
 use Rattle.base.specs.Choose.{choose}
-use Rattle.descriptor.specs.Decode.{entries, parts, decode_field, decode_message, decode_messages, decode_file}
+use Rattle.descriptor.specs.Decode.{entries, parts, decode_message, decode_messages, decode_file}
 use Rattle.descriptor.specs.Descriptor.{FieldDescriptor}
-use Rattle.name_rules.specs.Rules.{is_text, is_number, key_good, value_field_good, message_good, entry_good, messages_good, file_good}
+use Rattle.name_rules.specs.Rules.{is_text, is_number, message_good, entry_good, messages_good, file_good}
 
 -- a field with this name and number that is optional
 unfoldable pub is_optional : List ℕ → ℕ → FieldDescriptor → Bool
 is_optional name number f = is_text name f.name && (is_number number f.number && is_number 1 f.label)
-
--- the field i of a map entry
-unfoldable pub entry_field_good : ℕ → List ℕ → Bool
-entry_field_good i p =
-    choose (eqb i 0) (key_good (decode_field p)) (choose (eqb i 1) (value_field_good (decode_field p)) false)
 
 -- a message without those nested in it, of which there are so many levels
 unfoldable pub own_good : ℕ → List ℕ → Bool

@@ -1,15 +1,15 @@
-// Refusal 6, as far as a file is judged by itself: what a map entry holds, messages with those nested in them, and the first file at fault.
+//! Refusal 6, as far as a file is judged by itself: what a map entry holds, messages with those nested in them, and the first file at fault.
 #![tactic(auto)]
 
-ghost use Rattle.std.specs.Prelude.{◌≡◌, map};
+ghost use Rattle.std.specs.Prelude.{◌≡◌, ℕ, List, map, not, position};
 ghost use Rattle.base.specs.Lists.{is_empty, first_failing};
 ghost use Rattle.descriptor.specs.Decode.{entries, parts, decode_field, decode_message, decode_messages, decode_file, decode_set};
 ghost use Rattle.descriptor.specs.Views.{text_of, number_of, field_of};
-ghost use Rattle.name_rules.specs.Rules.{is_text, key_type, key_and_value, entry_good, messages_good, file_good};
-ghost use Rattle.file_names.specs.Walks.{is_optional, entry_field_good, own_good};
+ghost use Rattle.name_rules.specs.Rules.{is_text, key_type, key_good, value_field_good, key_and_value, entry_good, messages_good, file_good};
+ghost use Rattle.file_names.specs.Walks.{is_optional, own_good, file_part_good};
 
 use descriptor::{FieldView, Number, Text};
-use wire::Step;
+use parts::Parts;
 
 // Is a text given, and are these its bytes?
 fn text_is(s: &[u8], t: Text, x: &[u8]) -> bool
@@ -55,55 +55,37 @@ fn is_optional(s: &[u8], v: FieldView, name: &[u8], number: u32) -> bool
     name_rules::number_is(1, label)
 }
 
-// The first field is the key, the second the value; there is no third.
-fn entry_field_good(s: &[u8], i: usize) -> bool
-    ensures { result ≡ entry_field_good i s.now }
+// Is the field with these bytes the key of a map entry?
+fn key_field_good(s: &[u8]) -> bool
+    ensures { result ≡ key_good (decode_field s.now) }
 {
-    let end = s.len();
-    let v = descriptor::field_view(s, 0, end);
-    let kind = v.kind;
-    if i == 0 {
-        if !is_optional(s, v, b"key", 1) {
-            return false;
-        }
-        return key_type(kind);
-    }
-    if i == 1 {
-        if !is_optional(s, v, b"value", 2) {
-            return false;
-        }
-        return !name_rules::number_is(10, kind);
-    }
-    false
+    let field = descriptor::field_view(s, 0, s.len());
+    is_optional(s, field, b"key", 1) && key_type(field.kind)
 }
 
+// Is it the value of one?
+fn value_field_good(s: &[u8]) -> bool
+    ensures { result ≡ value_field_good (decode_field s.now) }
+{
+    let field = descriptor::field_view(s, 0, s.len());
+    is_optional(s, field, b"value", 2) && !name_rules::number_is(10, field.kind)
+}
+
+// The first field is the key, the second the value; there is no third.
 fn key_and_value(s: &[u8]) -> bool
     ensures { result ≡ key_and_value (map decode_field (parts 2 (entries s.now))) }
 {
-    let mut at: usize = 0;
-    let mut n: usize = 0;
-    loop {
-        match wire::read_step(s, at) {
-            Step::End => return n == 2,
-            Step::Fault(_) => return n == 2,
-            Step::Found(f) => {
-                at = f.next;
-                if f.number == 2 {
-                    if !entry_field_good(parts::embedded(s, f), n) {
-                        return false;
-                    }
-                    n = n + 1;
-                }
-            }
-        }
-    }
+    let mut fields = Parts::new(s, 2);
+    let (Some(key), Some(value), None) = (fields.next(), fields.next(), fields.next()) else {
+        return false;
+    };
+    key_field_good(key) && value_field_good(value)
 }
 
 fn none_of(s: &[u8], number: u64) -> bool
     ensures { result ≡ is_empty (parts number (entries s.now)) }
 {
-    let n = parts::count_parts(s, number);
-    n == 0
+    Parts::new(s, number).next().is_none()
 }
 
 // What a map entry holds, where so many levels may be nested in it.
@@ -141,34 +123,22 @@ fn own_good(s: &[u8], left: usize) -> bool
 }
 
 // The messages of a file (field number 4) or of a message (3), in so many levels.
+#[tactic(auto, unfolding(base::specs::Lists::all, crate::specs::Walks::tree_good), using(crate::proofs::TreeLaws::trees))]
 fn messages_good(s: &[u8], number: u64, left: usize) -> bool
     ensures { result ≡ messages_good (decode_messages left (parts number (entries s.now))) }
 {
     if left == 0 {
         return true;
     }
-    let fewer = left - 1;
-    let mut at: usize = 0;
-    loop {
-        match wire::read_step(s, at) {
-            Step::End => return true,
-            Step::Fault(_) => return true,
-            Step::Found(f) => {
-                at = f.next;
-                if f.number == number {
-                    let message = parts::embedded(s, f);
-                    if !own_good(message, fewer) {
-                        return false;
-                    }
-                    if !messages_good(message, 3, fewer) {
-                        return false;
-                    }
-                }
-            }
+    for message in Parts::new(s, number) {
+        if !own_good(message, left - 1) || !messages_good(message, 3, left - 1) {
+            return false;
         }
     }
+    true
 }
 
+/// A file by itself: package, syntax, messages and enums.
 pub fn file_good(s: &[u8]) -> bool
     ensures { result ≡ file_good (decode_file s.now) }
 {
@@ -188,25 +158,17 @@ pub fn file_good(s: &[u8]) -> bool
     file_rules::enums_good(s, 5)
 }
 
-// The index of the first file at fault, and the count of files where there is none.
+// The index of the first file at fault.
+fn first_fault(set: &[u8]) -> Option<usize>
+    ensures { result ≡ position (λ (p : List ℕ). not (file_part_good p)) (parts 1 (entries set.now)) }
+{
+    Parts::new(set, 1).position(|file| !file_good(file))
+}
+
+/// The index of the first file at fault, and the count of files where there is none.
+#[tactic(auto, using(crate::proofs::TreeLaws::first_is))]
 pub fn first_bad_file(set: &[u8]) -> usize
     ensures { result ≡ first_failing file_good (decode_set set.now) }
 {
-    let mut at: usize = 0;
-    let mut n: usize = 0;
-    loop {
-        match wire::read_step(set, at) {
-            Step::End => return n,
-            Step::Fault(_) => return n,
-            Step::Found(f) => {
-                at = f.next;
-                if f.number == 1 {
-                    if !file_good(parts::embedded(set, f)) {
-                        return n;
-                    }
-                    n = n + 1;
-                }
-            }
-        }
-    }
+    first_fault(set).unwrap_or(parts::count_parts(set, 1))
 }

@@ -1,13 +1,17 @@
 -- The rules of refusal 6 as tests of a declaration's bytes.
-use Rattle.std.specs.Prelude.{ℕ, Bool, List, eqb}
-use Rattle.base.specs.Choose.{choose}
+use Rattle.std.specs.Prelude.{ℕ, Bool, List}
 use Rattle.descriptor.specs.Decode.{decode_field, decode_value, decode_oneof, decode_enum, decode_message}
 use Rattle.name_rules.specs.Rules.{has_name, field_good, value_good, enum_good, message_good}
 
--- a field (sort 0) of a message with so many oneofs, a oneof (1), or an enum's value
-unfoldable pub leaf_good : ℕ → ℕ → List ℕ → Bool
-leaf_good sort oneofs p =
-    choose (eqb sort 0) (field_good oneofs (decode_field p)) (choose (eqb sort 1) (has_name (decode_oneof p)) (value_good (decode_value p)))
+-- a field of a message with so many oneofs
+abbrev pub field_part_good : ℕ → List ℕ → Bool
+field_part_good oneofs p = field_good oneofs (decode_field p)
+
+abbrev pub value_part_good : List ℕ → Bool
+value_part_good p = value_good (decode_value p)
+
+abbrev pub oneof_part_good : List ℕ → Bool
+oneof_part_good p = has_name (decode_oneof p)
 
 unfoldable pub enum_part_good : List ℕ → Bool
 enum_part_good p = enum_good (decode_enum p)

@@ -1,3 +1,1 @@
-pub mod TableLaws
-pub mod CheckLaws
 pub mod Examples

@@ -1,93 +1,44 @@
 -- The known fields of descriptor.proto: document 01's list, one table. Every other field is unknown.
--- A sort of message is a number.
-use Rattle.std.specs.Prelude.{ℕ, ◌+◌, List, [], ◌∷◌, eqb}
-use Rattle.base.specs.Choose.{choose}
+use Rattle.std.specs.Prelude.{ℕ, List, [], ◌∷◌, ◌==◌, if◌then◌else◌}
+use Rattle.known_fields.specs.declared.Message.{Message}
+use Rattle.known_fields.specs.declared.Message.TheVariants.{FileDescriptorSet, FileDescriptorProto, DescriptorProto, FieldDescriptorProto, OneofDescriptorProto, EnumDescriptorProto, EnumValueDescriptorProto, MessageOptions, FieldOptions, EnumValueOptions}
+use Rattle.known_fields.specs.declared.Class.{Class}
+use Rattle.known_fields.specs.declared.Class.TheVariants.{Unknown, Number, Bytes, Once, Repeated}
 
-abbrev pub set : ℕ
-set = 0
+-- a field number, and its class
+abbrev pub ◌is◌ : ℕ → Class → ℕ × Class
+n is c = (n, c)
 
-abbrev pub file : ℕ
-file = 1
-
-abbrev pub message : ℕ
-message = 2
-
-abbrev pub field : ℕ
-field = 3
-
-abbrev pub oneof : ℕ
-oneof = 4
-
-abbrev pub enum : ℕ
-enum = 5
-
-abbrev pub value : ℕ
-value = 6
-
-abbrev pub message_options : ℕ
-message_options = 7
-
-abbrev pub field_options : ℕ
-field_options = 8
-
-abbrev pub value_options : ℕ
-value_options = 9
-
--- the classes of a field: unknown, a number (wire type 0), bytes (wire type 2), an embedded message of a sort that comes once, one that may come again
-abbrev pub unknown : ℕ
-unknown = 0
-
-abbrev pub number : ℕ
-number = 1
-
-abbrev pub bytes : ℕ
-bytes = 2
-
-abbrev pub once : ℕ → ℕ
-once sort = 16 + sort
-
-abbrev pub again : ℕ → ℕ
-again sort = 32 + sort
-
--- a field number of a sort of message, and its class
-pub record Known : Type 0 where
-  pub sort : ℕ
-  pub field_number : ℕ
-  pub class : ℕ
-
-abbrev pub ◌◦◌is◌ : ℕ → ℕ → ℕ → Known
-◌◦◌is◌ s n c = record { sort = s; field_number = n; class = c }
-
-infix 40 ◌◦◌is◌
+infix 40 ◌is◌
 -- in turn:
--- set: files
--- file: package, messages, enums, syntax
--- message: name, fields, nested messages, enums, options, oneofs
--- message_options: map_entry
--- field: name, number, label, type, type name, default, options, oneof index, proto3_optional
--- field_options: packed, deprecated
--- oneof: name
--- enum: name, values
--- value: name, number, options
--- value_options: deprecated
-abbrev pub known : List Known
-known =
-    (set ◦ 1 is again file) ∷
-    (file ◦ 2 is bytes) ∷ (file ◦ 4 is again message) ∷ (file ◦ 5 is again enum) ∷ (file ◦ 12 is bytes) ∷
-    (message ◦ 1 is bytes) ∷ (message ◦ 2 is again field) ∷ (message ◦ 3 is again message) ∷ (message ◦ 4 is again enum) ∷ (message ◦ 7 is once message_options) ∷ (message ◦ 8 is again oneof) ∷
-    (message_options ◦ 7 is number) ∷
-    (field ◦ 1 is bytes) ∷ (field ◦ 3 is number) ∷ (field ◦ 4 is number) ∷ (field ◦ 5 is number) ∷ (field ◦ 6 is bytes) ∷ (field ◦ 7 is bytes) ∷ (field ◦ 8 is once field_options) ∷ (field ◦ 9 is number) ∷ (field ◦ 17 is number) ∷
-    (field_options ◦ 2 is number) ∷ (field_options ◦ 3 is number) ∷
-    (oneof ◦ 1 is bytes) ∷
-    (enum ◦ 1 is bytes) ∷ (enum ◦ 2 is again value) ∷
-    (value ◦ 1 is bytes) ∷ (value ◦ 2 is number) ∷ (value ◦ 3 is once value_options) ∷
-    (value_options ◦ 1 is number) ∷
-    []
+-- FileDescriptorSet: files
+-- FileDescriptorProto: package, messages, enums, syntax
+-- DescriptorProto: name, fields, nested messages, enums, options, oneofs
+-- MessageOptions: map_entry
+-- FieldDescriptorProto: name, number, label, type, type name, default, options, oneof index, proto3_optional
+-- FieldOptions: packed, deprecated
+-- OneofDescriptorProto: name
+-- EnumDescriptorProto: name, values
+-- EnumValueDescriptorProto: name, number, options
+-- EnumValueOptions: deprecated
+unfoldable pub known : Message → List (ℕ × Class)
+known FileDescriptorSet = (1 is Repeated FileDescriptorProto) ∷ []
+known FileDescriptorProto = (2 is Bytes) ∷ (4 is Repeated DescriptorProto) ∷ (5 is Repeated EnumDescriptorProto) ∷ (12 is Bytes) ∷ []
+known DescriptorProto =
+    (1 is Bytes) ∷ (2 is Repeated FieldDescriptorProto) ∷ (3 is Repeated DescriptorProto) ∷ (4 is Repeated EnumDescriptorProto) ∷ (7 is Once MessageOptions) ∷ (8 is Repeated OneofDescriptorProto) ∷ []
+known MessageOptions = (7 is Number) ∷ []
+known FieldDescriptorProto =
+    (1 is Bytes) ∷ (3 is Number) ∷ (4 is Number) ∷ (5 is Number) ∷ (6 is Bytes) ∷ (7 is Bytes) ∷ (8 is Once FieldOptions) ∷ (9 is Number) ∷ (17 is Number) ∷ []
+known FieldOptions = (2 is Number) ∷ (3 is Number) ∷ []
+known OneofDescriptorProto = (1 is Bytes) ∷ []
+known EnumDescriptorProto = (1 is Bytes) ∷ (2 is Repeated EnumValueDescriptorProto) ∷ []
+known EnumValueDescriptorProto = (1 is Bytes) ∷ (2 is Number) ∷ (3 is Once EnumValueOptions) ∷ []
+known EnumValueOptions = (1 is Number) ∷ []
 
--- the class that the first row of the sort and number gives
-unfoldable pub class_in : List Known → ℕ → ℕ → ℕ
-class_in [] sort n = unknown
-class_in (k ∷ ks) sort n = choose (eqb sort k.sort) (choose (eqb n k.field_number) k.class (class_in ks sort n)) (class_in ks sort n)
+-- the class that stands by the number
+unfoldable pub class_in : List (ℕ × Class) → ℕ → Class
+class_in [] number = Unknown
+class_in (k ∷ ks) number = if number == k.0 then k.1 else class_in ks number
 
-unfoldable pub class : ℕ → ℕ → ℕ
-class sort n = class_in known sort n
+unfoldable pub class : Message → ℕ → Class
+class message number = class_in (known message) number

@@ -1,163 +1,171 @@
-// The known fields of descriptor.proto, and refusal 3: the first fault of a set.
+//! The known fields of descriptor.proto, and refusal 3: the first fault of a set.
 #![tactic(auto)]
 
-ghost use Rattle.std.specs.Prelude.{◌≡◌, ℕ, ◌+◌, ◌≤◌, ◌<◌, ◌^◌, length, get_or, set, true, false};
+ghost use Rattle.std.specs.Prelude.{◌≡◌, ◌+◌, ◌<◌, ◌^◌, length, get_or, false};
+ghost use Rattle.wire.specs.Value.{value_seen};
 ghost use Rattle.known_fields.specs.Known.{class};
-ghost use Rattle.known_fields.specs.Check.{levels_for, enter, judge, meet, check, check_set};
+ghost use Rattle.known_fields.specs.Check.{levels_for, inner, admits, meet, check, check_set};
 
-mod table;
+use wire::records::{Fault, Records, Value};
 
-use table::TABLE;
-use wire::Step;
-
-// What becomes of a record.
-#[derive(Drop)]
-pub enum Verdict {
-    Pass,
-    Wrong,
-    Inside(u8),
-}
-
-#[derive(Drop)]
-pub enum Checked {
-    Fault(usize),
-    Fine,
-}
-
-fn class_of(sort: u8, number: u64) -> u8
-    ensures { result ≡ class sort number }
-{
-    if number < 18 {
-        let row = sort as usize * 18;
-        let i = row + number as usize;
-        if i < 180 {
-            return TABLE[i];
-        }
-        return 0;
-    }
-    0
-}
-
-fn levels_for(sort: u8) -> usize
-    ensures { result ≡ levels_for sort }
-{
-    if sort == 2 {
-        return 4;
-    }
-    1
-}
-
-fn entered(left: usize, sort: u8) -> Verdict
-    ensures { result ≡ enter left sort }
-{
-    if left < levels_for(sort) {
-        return Verdict::Pass;
-    }
-    Verdict::Inside(sort)
-}
-
-fn judged(class: u8, left: usize, wiretype: u64, met: bool) -> Verdict
-    ensures { result ≡ judge class left wiretype met }
-{
-    if class == 0 {
-        return Verdict::Pass;
-    }
-    if class == 1 {
-        if wiretype == 0 {
-            if met {
-                return Verdict::Wrong;
-            }
-            return Verdict::Pass;
-        }
-        return Verdict::Wrong;
-    }
-    if wiretype == 2 {
-        if class < 32 {
-            if met {
-                return Verdict::Wrong;
-            }
-            if class == 2 {
-                return Verdict::Pass;
-            }
-            return entered(left, class % 16);
-        }
-        return entered(left, class % 16);
-    }
-    Verdict::Wrong
-}
-
-// Which field numbers below 18 were met.
+/// A message of descriptor.proto that is read.
 #[derive(Clone, Copy)]
-pub struct Met {
-    pub marks: [bool; 18],
+enum Message {
+    FileDescriptorSet,
+    FileDescriptorProto,
+    DescriptorProto,
+    FieldDescriptorProto,
+    OneofDescriptorProto,
+    EnumDescriptorProto,
+    EnumValueDescriptorProto,
+    MessageOptions,
+    FieldOptions,
+    EnumValueOptions,
 }
 
-fn was_met(met: Met, number: u64) -> bool
-    ensures { result ≡ get_or met.marks number false }
-{
-    if number < 18 {
-        let i = number as usize;
-        return met.marks[i];
+/// What a field of a message holds.
+#[derive(Clone, Copy)]
+enum Class {
+    /// Anything: the field isn't read.
+    Unknown,
+    /// A varint, once.
+    Number,
+    /// A string of bytes, once.
+    Bytes,
+    /// An embedded message, once.
+    Once(Message),
+    /// An embedded message in each record.
+    Repeated(Message),
+}
+
+impl Message {
+    /// The class of the field with a number.
+    #[tactic(auto, unfolding(crate::specs::Known::class, crate::specs::Known::class_in, crate::specs::Known::known))]
+    fn class(self, number: u64) -> Class
+        ensures { result ≡ class self number }
+    {
+        match (self, number) {
+            (Message::FileDescriptorSet, 1) => Class::Repeated(Message::FileDescriptorProto),
+            (Message::FileDescriptorProto, 2 | 12) => Class::Bytes,
+            (Message::FileDescriptorProto, 4) => Class::Repeated(Message::DescriptorProto),
+            (Message::FileDescriptorProto, 5) => Class::Repeated(Message::EnumDescriptorProto),
+            (Message::DescriptorProto, 1) => Class::Bytes,
+            (Message::DescriptorProto, 2) => Class::Repeated(Message::FieldDescriptorProto),
+            (Message::DescriptorProto, 3) => Class::Repeated(Message::DescriptorProto),
+            (Message::DescriptorProto, 4) => Class::Repeated(Message::EnumDescriptorProto),
+            (Message::DescriptorProto, 7) => Class::Once(Message::MessageOptions),
+            (Message::DescriptorProto, 8) => Class::Repeated(Message::OneofDescriptorProto),
+            (Message::MessageOptions, 7) => Class::Number,
+            (Message::FieldDescriptorProto, 1 | 6 | 7) => Class::Bytes,
+            (Message::FieldDescriptorProto, 3 | 4 | 5 | 9 | 17) => Class::Number,
+            (Message::FieldDescriptorProto, 8) => Class::Once(Message::FieldOptions),
+            (Message::FieldOptions, 2 | 3) => Class::Number,
+            (Message::OneofDescriptorProto, 1) => Class::Bytes,
+            (Message::EnumDescriptorProto, 1) => Class::Bytes,
+            (Message::EnumDescriptorProto, 2) => Class::Repeated(Message::EnumValueDescriptorProto),
+            (Message::EnumValueDescriptorProto, 1) => Class::Bytes,
+            (Message::EnumValueDescriptorProto, 2) => Class::Number,
+            (Message::EnumValueDescriptorProto, 3) => Class::Once(Message::EnumValueOptions),
+            (Message::EnumValueOptions, 1) => Class::Number,
+            _ => Class::Unknown,
+        }
     }
-    false
-}
 
-fn with_met(met: Met, number: u64) -> Met
-    ensures { result ≡ meet number met }
-{
-    let mut m = met;
-    if number < 18 {
-        let i = number as usize;
-        m.marks[i] = true;
-        return m;
-    }
-    m
-}
-
-// The first fault of a message of a sort, whose bytes start at `base` of the set; `left` levels may lie below it.
-fn check_message(s: &[u8], base: usize, sort: u8, left: usize) -> Checked
-    requires { base + length s.now < 2 ^ 64 }
-    ensures { result ≡ check left sort s.now base }
-{
-    let mut at: usize = 0;
-    let none = [false; 18];
-    let mut met = Met { marks: none };
-    loop {
-        match wire::read_step(s, at) {
-            Step::End => return Checked::Fine,
-            Step::Fault(key) => {
-                let place = base + key;
-                return Checked::Fault(place);
-            }
-            Step::Found(f) => {
-                let class = class_of(sort, f.number);
-                let before = was_met(met, f.number);
-                met = with_met(met, f.number);
-                match judged(class, left, f.wiretype, before) {
-                    Verdict::Pass => at = f.next,
-                    Verdict::Wrong => {
-                        let place = base + f.key;
-                        return Checked::Fault(place);
-                    }
-                    Verdict::Inside(inner) => {
-                        let start = f.start;
-                        let next = f.next;
-                        let from = base + start;
-                        let fewer = left - 1;
-                        match check_message(&s[start..next], from, inner, fewer) {
-                            Checked::Fault(place) => return Checked::Fault(place),
-                            Checked::Fine => at = next,
-                        }
-                    }
-                }
-            }
+    /// How many levels have to be left in the message around it, for it to be read.
+    #[tactic(auto, unfolding(crate::specs::Check::levels_for))]
+    fn levels(self) -> usize
+        ensures { result ≡ levels_for self }
+    {
+        match self {
+            Message::DescriptorProto => 4,
+            _ => 1,
         }
     }
 }
 
-// The first fault of a set.
-pub fn check_set(s: &[u8]) -> Checked
-    ensures { result ≡ check_set s.now }
+impl Class {
+    /// May a field of this class have the value, where one with its number was met before or not?
+    #[tactic(auto, unfolding(crate::specs::Check::admits))]
+    fn admits(self, met: bool, value: Value<'_>) -> bool
+        ensures { result ≡ admits self met (value_seen value.entry) }
+    {
+        match (self, value) {
+            (Class::Unknown, _) | (Class::Repeated(_), Value::Len(_)) => true,
+            (Class::Number, Value::Varint(_)) | (Class::Bytes | Class::Once(_), Value::Len(_)) => {
+                !met
+            }
+            _ => false,
+        }
+    }
+
+    /// The embedded message that the field holds, if it is read with so many levels left.
+    #[tactic(auto, unfolding(crate::specs::Check::inner, crate::specs::Check::enter))]
+    fn inner(self, left: usize) -> Option<Message>
+        ensures { result ≡ inner left self }
+    {
+        match self {
+            Class::Once(message) | Class::Repeated(message) if message.levels() <= left => {
+                Some(message)
+            }
+            _ => None,
+        }
+    }
+}
+
+/// The field numbers that were met, of those below 18.
+#[derive(Clone, Copy)]
+struct Met {
+    marks: [bool; 18],
+}
+
+impl Met {
+    /// Marks a field number; was it met before?
+    #[tactic(auto, unfolding(crate::specs::Check::meet))]
+    fn insert(&mut self, number: u64) -> bool
+        ensures before { result ≡ get_or self.old.marks number false }
+        ensures met { self.new ≡ meet number self.old }
+    {
+        let at = number as usize;
+        if at >= self.marks.len() {
+            return false;
+        }
+        let before = self.marks[at];
+        self.marks[at] = true;
+        before
+    }
+}
+
+/// The first fault of a message whose bytes stand at `at` of the set; so many levels are read, its own among them.
+#[tactic(auto, unfolding(crate::specs::Check::check, crate::specs::Check::check_records, crate::specs::Check::check_inside))]
+fn check_message(part: &[u8], at: usize, message: Message, levels: usize) -> Result<(), Fault>
+    requires { at + length part.now < 2 ^ 64 }
+    ensures { result ≡ check levels message at part.now }
 {
-    check_message(s, 0, 0, 20)
+    if levels == 0 {
+        return Ok(());
+    }
+    let left = levels - 1;
+    let mut met = Met { marks: [false; 18] };
+    for record in Records::new(part, at) {
+        let record = record?;
+        let class = message.class(record.number);
+        let before = met.insert(record.number);
+        if !class.admits(before, record.value) {
+            return Err(Fault { key: record.key });
+        }
+        if let Some(inner) = class.inner(left)
+            && let Value::Len(bytes) = record.value
+        {
+            check_message(bytes, record.start, inner, left)?;
+        }
+    }
+    Ok(())
+}
+
+/// The first fault of a set: where the innermost key at fault stands.
+#[tactic(auto, unfolding(crate::specs::Check::check_set))]
+pub fn check_set(set: &[u8]) -> Result<(), Fault>
+    ensures { result ≡ check_set set.now }
+{
+    check_message(set, 0, Message::FileDescriptorSet, 21)
 }

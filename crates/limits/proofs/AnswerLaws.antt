@@ -1,15 +1,82 @@
--- The two cases of refusal 3's answer. Assumes nothing.
-use mathlib.Core.Path.{◌≡◌}
-use Prim.Native.Nat.{ℕ}
-use Rattle.known_fields.specs.Check.{on_checked}
-use Rattle.known_fields.specs.declared.Checked.{Checked}
-use Rattle.known_fields.specs.declared.Checked.TheVariants.{Fault, Fine}
+-- The lowest limit that a set passes; a set that can be read and passes none.
+use Rattle.std.proofs.Common.{◌≡◌, refl, sym, ap, ◌∙◌, ℕ, ◌≤◌, ◌<◌, length, eqb-true}
+use Rattle.std.specs.Prelude.{Bool, true, false, cond, List, [], ◌∷◌, eqb, Option, Some, None, Result, Ok, Err}
+use Rattle.std.specs.List.{find}
+use Rattle.base.specs.Choose.{choose, then_lt, else_lt}
+use Rattle.base.specs.declared.refusal.Refusal.{Refusal}
+use Rattle.base.proofs.RefusalLaws.{not_refused, chosen, other}
+use Rattle.wire.specs.declared.records.record.Fault.{Fault}
+use Rattle.descriptor.specs.Descriptor.{Bytes}
+use Rattle.descriptor.specs.Decode.{entries, parts}
+use Rattle.descriptor.specs.Limits.{max_set, max_files, limit_passed}
+use Rattle.known_fields.specs.Check.{check_set}
+use Rattle.limits.specs.declared.limit.Limit.{Limit}
+use Rattle.limits.specs.declared.limit.Limit.TheVariants as limits
+use Rattle.limits.specs.Answer.{readable, read_set}
+use Rattle.limits.specs.Weights.{passes, limit_number, all_limits}
+use Rattle.limits.proofs.LimitLaws.{limit_is}
 
-module _ {ℓ} {A : Type ℓ} (z a : A) (f : ℕ → A) (r w : Checked) (e : r ≡ w) where
-  pub checked_fault : (place : ℕ) → r ≡ Fault place → z ≡ f place → z ≡ on_checked w f a
-  unfolding on_checked
-  checked_fault place is h = rw (← e, is) h
+-- ---- the lowest of the limits 3 to 10
+abbrev number_or : Option Limit → ℕ
+number_or None = 0
+number_or (Some limit) = limit_number limit
 
-  pub checked_fine : r ≡ Fine → z ≡ a → z ≡ on_checked w f a
-  unfolding on_checked
-  checked_fine is h = rw (← e, is) h
+lowest : (a c d e f g h i : Bool)
+    → choose a 3 (choose c 4 (choose d 5 (choose e 6 (choose f 7 (choose g 8 (choose h 9 (choose i 10 0)))))))
+    ≡ number_or
+    (cond a (Some limits.Messages)
+    (cond c (Some limits.Fields)
+    (cond d (Some limits.Enums)
+    (cond e (Some limits.Values) (cond f (Some limits.Nesting) (cond g (Some limits.Names) (cond h (Some limits.FullNames) (cond i (Some limits.Defaults) None))))))))
+unfolding choose limit_number
+lowest true c d e f g h i = refl
+lowest false true d e f g h i = refl
+lowest false false true e f g h i = refl
+lowest false false false true f g h i = refl
+lowest false false false false true g h i = refl
+lowest false false false false false true h i = refl
+lowest false false false false false false true i = refl
+lowest false false false false false false false true = refl
+lowest false false false false false false false false = refl
+
+none_found : (p : Limit → Bool) → ((limit : Limit) → p limit ≡ false) → (ls : List Limit) → find p ls ≡ None
+none_found p none [] = refl
+none_found p none (l ∷ ls) = rw (none l) (none_found p none ls)
+
+module _ (s : Bytes) where
+  pub passed_1 : max_set < length s → 1 ≡ limit_passed s
+  passed_1 long = rw (limit_is s) (then_lt _ _ 1 max_set (length s) long refl)
+
+  module _ (fits : length s ≤ max_set) where
+    pub passed_2 : max_files < length (parts 1 (entries s)) → 2 ≡ limit_passed s
+    passed_2 many = rw (limit_is s) (else_lt _ _ 2 max_set (length s) fits (then_lt _ _ 2 max_files (length (parts 1 (entries s))) many refl))
+
+    module _ (few : length (parts 1 (entries s)) ≤ max_files) where
+      found : (n : ℕ) (r : Option Limit) → r ≡ find (λ limit. passes limit s) all_limits → n ≡ number_or r → n ≡ limit_passed s
+      found n r is n_is =
+          rw (limit_is s)
+          (else_lt _ _ n max_set (length s) fits (else_lt _ _ n max_files (length (parts 1 (entries s))) few
+          (n_is ∙ ap number_or is
+          ∙ sym (lowest (passes limits.Messages s) (passes limits.Fields s) (passes limits.Enums s) (passes limits.Values s) (passes limits.Nesting s) (passes limits.Names s) (passes limits.FullNames s) (passes limits.Defaults s)))))
+
+      pub passed_some : (n : ℕ) (limit : Limit) (r : Option Limit) → r ≡ find (λ limit. passes limit s) all_limits → r ≡ Some limit → n ≡ limit_number limit → n ≡ limit_passed s
+      passed_some n limit r is some n_is = found n r is (rw some n_is)
+
+      pub passed_none : (r : Option Limit) → r ≡ find (λ limit. passes limit s) all_limits → r ≡ None → 0 ≡ limit_passed s
+      passed_none r is none = found 0 r is (rw none)
+
+      pub none_passes : ((limit : Limit) → passes limit s ≡ false) → 0 ≡ limit_passed s
+      none_passes none = found 0 None (sym (none_found (λ limit. passes limit s) none all_limits)) refl
+
+pub ruleset answers = (passed_1, passed_2, passed_some, passed_none, none_passes)
+
+-- ---- a set that can be read and passes no limit
+fine : (k : Result Unit Fault) (x : Result Unit Refusal) → readable k x ≡ Ok tt → x ≡ Ok tt
+fine (Err fault) x e = not_refused e
+fine (Ok u) x e = e
+
+pub none_passed : (s : Bytes) → read_set s ≡ Ok tt → limit_passed s ≡ 0
+unfolding read_set
+none_passed s e =
+    let rest = fine (check_set s) _ (other _ _ _ e).1 in
+    eqb-true (limit_passed s) 0 (chosen (eqb (limit_passed s) 0) _ _ rest).0

@@ -11,6 +11,8 @@ use Rattle.base.specs.Lists.{all_of}
 use Rattle.descriptor.specs.Descriptor.{Forest, done, node, preorder, Bytes, FieldDescriptor, EnumDescriptor, MessageDescriptor, FileDescriptor}
 use Rattle.descriptor.specs.Decode.{entries, parts, text, last, decode_field, decode_oneof, decode_enum, decode_message, decode_messages, decode_file, decode_set}
 use Rattle.descriptor.specs.Limits.{length_of, package_length, full_length, messages_in}
+use Rattle.limits.specs.declared.limit.Limit.{Limit}
+use Rattle.limits.specs.declared.sort.Sort.TheVariants as sorts
 use Rattle.limits.specs.Sums.{sum, bit}
 use Rattle.limits.specs.Weights.{bytes_or_none, text_length, counts, around_below, tally}
 use Rattle.limits.proofs.SumLaws.{sum_same, sum_zero, sum_plus, sum_append, sum_map, sum_all_of}
@@ -27,13 +29,13 @@ package_is (some []) = refl
 package_is (some (c ∷ cs)) = sym (else_eq _ _ (1 + length (c ∷ cs)) (length (c ∷ cs)) 0 (λ e. omega arith) (omega arith))
 
 -- What descriptors count for a limit: a file by itself; a message, by the length of the full name around it; a field; an enum with its values; a oneof.
-pub record Means (limit : ℕ) (P : FileDescriptor → ℕ) (N : ℕ → MessageDescriptor → ℕ) (F : FieldDescriptor → ℕ) (E : ℕ → EnumDescriptor → ℕ) (O : Option Bytes → ℕ) : Type 0 where
-  pub a_file : (p : Bytes) → bit (counts limit 1 0 p) ≡ P (decode_file p)
-  pub a_message : (around : ℕ) (p : Bytes) → bit (counts limit 2 around p) ≡ N around (decode_message p)
-  pub a_field : (around : ℕ) (p : Bytes) → bit (counts limit 3 around p) ≡ F (decode_field p)
+pub record Means (limit : Limit) (P : FileDescriptor → ℕ) (N : ℕ → MessageDescriptor → ℕ) (F : FieldDescriptor → ℕ) (E : ℕ → EnumDescriptor → ℕ) (O : Option Bytes → ℕ) : Type 0 where
+  pub a_file : (p : Bytes) → bit (counts limit sorts.File 0 p) ≡ P (decode_file p)
+  pub a_message : (around : ℕ) (p : Bytes) → bit (counts limit sorts.Message around p) ≡ N around (decode_message p)
+  pub a_field : (around : ℕ) (p : Bytes) → bit (counts limit sorts.Field around p) ≡ F (decode_field p)
   pub an_enum : (around : ℕ) (p : Bytes) → enum_weight limit around p ≡ E around (decode_enum p)
-  pub a_oneof : (around : ℕ) (p : Bytes) → bit (counts limit 4 around p) ≡ O (decode_oneof p)
-  pub too_deep : (around : ℕ) (p : Bytes) → bit (counts limit 7 around p) ≡ 0
+  pub a_oneof : (around : ℕ) (p : Bytes) → bit (counts limit sorts.Oneof around p) ≡ O (decode_oneof p)
+  pub too_deep : (around : ℕ) (p : Bytes) → bit (counts limit sorts.DeepMessage around p) ≡ 0
 
 module _ (P : FileDescriptor → ℕ) (N : ℕ → MessageDescriptor → ℕ) (F : FieldDescriptor → ℕ) (E : ℕ → EnumDescriptor → ℕ) (O : Option Bytes → ℕ) where
   abbrev pub held : ℕ → MessageDescriptor → ℕ
@@ -48,7 +50,7 @@ module _ (P : FileDescriptor → ℕ) (N : ℕ → MessageDescriptor → ℕ) (F
   weight_of_file f =
       P f + (forest_weight (package_length f.package_name) f.messages + sum (E (package_length f.package_name)) f.enums)
 
-  module _ (limit : ℕ) (means : Means limit P N F E O) where
+  module _ (limit : Limit) (means : Means limit P N F E O) where
     mapped : (v : Bytes → ℕ) {A : Type 0} (w : A → ℕ) (g : Bytes → A) → ((p : Bytes) → v p ≡ w (g p)) → (ps : List Bytes) → sum v ps ≡ sum w (map g ps)
     mapped v w g h ps = sum_same v (λ p. w (g p)) h ps ∙ sym (sum_map w g ps)
 
@@ -76,7 +78,7 @@ module _ (P : FileDescriptor → ℕ) (N : ℕ → MessageDescriptor → ℕ) (F
         let d = messages_decoded (suc n) around ps in
         omega arith
 
-    file_decoded : (p : Bytes) → bit (counts limit 1 0 p) + file_weight limit 16 (around_below 1 0 p) p ≡ weight_of_file (decode_file p)
+    file_decoded : (p : Bytes) → bit (counts limit sorts.File 0 p) + file_weight limit 16 (around_below sorts.File 0 p) p ≡ weight_of_file (decode_file p)
     unfolding decode_file around_below choose
     file_decoded p =
         ap₂ (λ (x y : ℕ). x + y) (means.a_file p)
@@ -84,7 +86,7 @@ module _ (P : FileDescriptor → ℕ) (N : ℕ → MessageDescriptor → ℕ) (F
         ∙ ap₂ (λ (x y : ℕ). x + y) (messages_decoded 16 (package_length (text (last 2 (entries p)))) (parts 4 (entries p)))
         (mapped _ (E (package_length (text (last 2 (entries p))))) decode_enum (means.an_enum (package_length (text (last 2 (entries p))))) (parts 5 (entries p))))
 
-    pub set_decoded : (s : Bytes) → tally limit 19 0 0 s ≡ sum weight_of_file (decode_set s)
+    pub set_decoded : (s : Bytes) → tally limit 19 sorts.Set 0 s ≡ sum weight_of_file (decode_set s)
     unfolding decode_set
     set_decoded s = set_weighed limit 16 s ∙ mapped _ weight_of_file decode_file file_decoded (parts 1 (entries s))
 
@@ -102,8 +104,8 @@ module _ (P : FileDescriptor → ℕ) (N : MessageDescriptor → ℕ) (F : Field
       let c = sum_append with_members (preorder nested) (preorder following) in
       omega arith
 
-  pub set_plain : (limit : ℕ) → Means limit P (λ _. N) F (λ _. E) O → (s : Bytes)
-      → tally limit 19 0 0 s ≡ sum P (decode_set s) + (sum with_members (messages_in (decode_set s)) + sum E (all_of (λ f. f.enums) (decode_set s)))
+  pub set_plain : (limit : Limit) → Means limit P (λ _. N) F (λ _. E) O → (s : Bytes)
+      → tally limit 19 sorts.Set 0 s ≡ sum P (decode_set s) + (sum with_members (messages_in (decode_set s)) + sum E (all_of (λ f. f.enums) (decode_set s)))
   unfolding messages_in
   set_plain limit means s =
       let fs : List FileDescriptor = decode_set s in

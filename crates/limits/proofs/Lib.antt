@@ -1,5 +1,6 @@
 pub mod TextLaws
 pub mod TallyLaws
+pub mod WalkLaws
 pub mod FitLaws
 pub mod PartTallies
 pub mod SumLaws

@@ -3,14 +3,15 @@ use mathlib.Core.Path.{◌≡◌, refl}
 use mathlib.Core.List.{List, [], ◌∷◌}
 use Prim.Native.Nat.{ℕ, zero, suc, ◌+◌, ◌-◌, ◌*◌, ◌/◌, ◌%◌, ◌≤◌, ◌<◌}
 use native.Mathlib.Omega.{arith}
-use lib.ListN.{length, length-append}
+use native.Mathlib.Nat.{min-le_left, min-le_right}
+use lib.ListN.{length, drop, length-append, length-take, length-drop}
 use lib.Dec.{leb, eqb}
 use borrow.Author.Tests.{eqb-true}
 use Rattle.base.specs.Choose.{choose, choose_case}
 use Rattle.base.specs.Lists.{all_of, map_length}
 use Rattle.wire.specs.Encoding.{Field}
 use Rattle.wire.specs.Contents.{field_of, value_of}
-use Rattle.wire.specs.Records.{on_step, scan, records}
+use Rattle.wire.specs.Records.{on_step, scan, records, part}
 use Rattle.wire.specs.Step.{step_at, payload, sized, scalar, delimited}
 use Rattle.wire.specs.Varint.{varint, on_varint}
 use Rattle.wire.proofs.StepLaws.{Lies, lies}
@@ -26,7 +27,6 @@ use Rattle.descriptor.specs.Limits.{messages_in, fields_in, enums_in}
 use Rattle.descriptor.proofs.ViewLaws.{bytes_of}
 use Rattle.limits.specs.Sums.{sum}
 use Rattle.limits.proofs.SumLaws.{sum_plus, sum_append, sum_below, sum_map, sum_all_of}
-use Rattle.limits.proofs.TextLaws.{part_length}
 use Rattle.limits.proofs.PartTallies.{at_number, sum_parts}
 
 -- ---- a record takes a byte for its key, and one more before or in its payload
@@ -69,6 +69,14 @@ step_long : (s : Bytes) (at : ℕ) → Long at (step_at s at)
 unfolding step_at
 step_long s at = choose_case (Long at) (leb (length s) at) (λ _. tt) (λ _. keyed_long s at (varint s at) (known_varint s at))
 
+-- how long an embedded message is
+part_length : (s : Bytes) (a m : ℕ) → (length (part s a m) ≤ m) × (length (part s a m) ≤ length s)
+part_length s a m =
+    let l : length (part s a m) ≤ m = rw (length-take m (drop a s)) (min-le_left m (length (drop a s))) in
+    let k : length (part s a m) ≤ length (drop a s) = rw (length-take m (drop a s)) (min-le_right m (length (drop a s))) in
+    let d : length (drop a s) ≡ length s - a = length-drop a s in
+    (l, omega arith)
+
 record_room : (s : Bytes) (at : ℕ) (f : Record) → Found f ≡ step_at s at → at + 2 + length (bytes_in (value_of s f)) ≤ f.next
 record_room s at f e =
     let l : Lies (length s) at f = lies s at (Found f) f e refl in
@@ -82,7 +90,7 @@ record_room s at f e =
 abbrev taken : Bytes → ℕ
 taken b = 2 + length b
 
-abbrev room : Field → ℕ
+abbrev pub room : Field → ℕ
 room f = taken (bytes_in f.value)
 
 step_room : (s : Bytes) (at : ℕ) (more : Record → List Step) → ((f : Record) → Lies (length s) at f → f.next + sum room (entries_of s (more f)) ≤ length s)
@@ -100,7 +108,7 @@ unfolding scan entries_of sum
 scan_room zero s at h = omega arith
 scan_room (suc n) s at h = step_room s at (λ f. scan n s f.next) (λ f l. scan_room n s f.next l.to) h (step_at s at) refl
 
-entries_room : (s : Bytes) → sum room (entries s) ≤ length s
+pub entries_room : (s : Bytes) → sum room (entries s) ≤ length s
 unfolding entries records
 entries_room s = let r = scan_room (length s - 0) s 0 (omega arith) in omega arith
 

@@ -47,10 +47,10 @@ module _ {ℓ} {A : Type ℓ} where
   sum_append w [] ys = (let z : sum w ys ≡ 0 + sum w ys = omega arith in z)
   sum_append w (x ∷ xs) ys = let b = sum_append w xs ys in omega arith
 
-  pub any_sum : (p : A → Bool) (w : A → ℕ) → ((x : A) → p x ≡ ltb 0 (w x)) → (xs : List A) → any p xs ≡ ltb 0 (sum w xs)
-  unfolding any sum
-  any_sum p w h [] = refl
-  any_sum p w h (x ∷ xs) = ap₂ (λ (a b : Bool). a || b) (h x) (any_sum p w h xs) ∙ or_sum (w x) (sum w xs)
+pub any_sum : {A : Type 0} (p : A → Bool) (w : A → ℕ) → ((x : A) → p x ≡ ltb 0 (w x)) → (xs : List A) → any p xs ≡ ltb 0 (sum w xs)
+unfolding any sum
+any_sum p w h [] = refl
+any_sum p w h (x ∷ xs) = ap₂ (λ (a b : Bool). a || b) (h x) (any_sum p w h xs) ∙ or_sum (w x) (sum w xs)
 
 module _ {ℓ κ} {A : Type ℓ} {B : Type κ} (w : B → ℕ) where
   pub sum_map : (g : A → B) (xs : List A) → sum w (map g xs) ≡ sum (λ x. w (g x)) xs

@@ -1,4 +1,4 @@
-// Names of a struct's members, and of a oneof's variants, that are the same. They are laid as rows into a lent buffer.
+//! Names of a struct's members, and of a oneof's variants, that are the same. They are laid as rows into a lent buffer.
 #![tactic(auto)]
 
 ghost use Rattle.std.specs.Prelude.{◌≡◌, true, false, [], ◌+◌, ◌-◌, ◌≤◌, ◌<◌, ◌^◌, length};
@@ -11,7 +11,7 @@ ghost use Rattle.members.specs.Members.{name_in, numbers_with};
 ghost use Rattle.member_rows.specs.MemberRows.{name_row, field_rows, rows_overlap, oneof_rows, struct_meets, oneofs_meet, own_meet, message_meets, messages_meet, file_meets, set_meets};
 
 use joined::MAX_PATH;
-use wire::Step;
+use parts::Parts;
 
 // The row of a name: a variant's is camel, a struct's member's snake.
 fn put_name(t: &mut [u8], at: usize, camel: bool, name: &[u8]) -> usize
@@ -81,25 +81,11 @@ fn put_oneofs(
     ensures { Wrote t.old at (oneof_rows messages.now fields.now i p.now) t.new result }
 {
     let range = members::fields_of(messages, i, p);
-    let first = range.first;
-    let last = range.last;
     let mut a = at;
-    let mut x: usize = 0;
-    let mut place: usize = 0;
-    loop {
-        match wire::read_step(p, place) {
-            Step::End => return a,
-            Step::Fault(_) => return a,
-            Step::Found(f) => {
-                place = f.next;
-                if f.number == 8 {
-                    let q = parts::embedded(p, f);
-                    x = x + 1;
-                    a = put_oneof(t, a, fields, q, x, first, last);
-                }
-            }
-        }
+    for (x, q) in Parts::new(p, 8).enumerate() {
+        a = put_oneof(t, a, fields, q, x + 1, range.first, range.last);
     }
+    a
 }
 
 // Do the names of two members of the struct of message i?
@@ -116,7 +102,7 @@ fn struct_meets(
     let range = members::fields_of(messages, i, p);
     let a = put_fields(t, 0, set, fields, false, 0, range.first, range.last);
     let a = put_oneofs(t, a, messages, fields, i, p);
-    let n = writer::within(a, t.len());
+    let n = a.min(t.len());
     name_rows::rows_meet(&t[0..n], n)
 }
 
@@ -132,7 +118,7 @@ fn variants_meet(
     ensures { result ≡ rows_overlap (length t.old) (field_rows set.now fields.now true (numbers_with fields.now c (last - first) first)) }
 {
     let a = put_fields(t, 0, set, fields, true, c, first, last);
-    let n = writer::within(a, t.len());
+    let n = a.min(t.len());
     name_rows::rows_meet(&t[0..n], n)
 }
 
@@ -227,27 +213,15 @@ fn messages_meet(
     if left == 0 {
         return false;
     }
-    let fewer = left - 1;
     let mut k = i;
-    let mut at: usize = 0;
-    loop {
-        match wire::read_step(s, at) {
-            Step::End => return false,
-            Step::Fault(_) => return false,
-            Step::Found(f) => {
-                at = f.next;
-                if f.number == number {
-                    let p = parts::embedded(s, f);
-                    let own = message_meets(t, o, set, messages, fields, scope, k, p, fewer);
-                    if own {
-                        return true;
-                    }
-                    let row = text_tables::message_row(messages, k);
-                    k = row.after;
-                }
-            }
+    for p in Parts::new(s, number) {
+        let own = message_meets(t, o, set, messages, fields, scope, k, p, left - 1);
+        if own {
+            return true;
         }
+        k = text_tables::message_row(messages, k).after;
     }
+    false
 }
 
 // The file whose part p is; its first message has the number i.
@@ -268,28 +242,17 @@ fn file_meets(
     messages_meet(t, o, set, messages, fields, &scope[0..n], i, p, 4, 16)
 }
 
-// Do the names of two members of a written struct, or of two variants of one of its oneofs? t: room for the rows.
+/// Do the names of two members of a written struct, or of two variants of one of its oneofs? t: room for the rows.
 pub fn members_meet(t: &mut [u8], o: &[u8], set: &[u8], messages: &[u16], fields: &[u16]) -> bool
     ensures { result ≡ set_meets (settings o.now) (length t.old) set.now messages.now fields.now }
 {
-    let mut at: usize = 0;
-    let mut i: usize = 0;
-    loop {
-        match wire::read_step(set, at) {
-            Step::End => return false,
-            Step::Fault(_) => return false,
-            Step::Found(f) => {
-                at = f.next;
-                if f.number == 1 {
-                    let p = parts::embedded(set, f);
-                    let meets = file_meets(t, o, set, messages, fields, i, p);
-                    if meets {
-                        return true;
-                    }
-                    let n = parts::count_parts(p, 4);
-                    i = file_parts::behind(messages, n, i);
-                }
-            }
+    let mut i = 0;
+    for p in Parts::new(set, 1) {
+        let meets = file_meets(t, o, set, messages, fields, i, p);
+        if meets {
+            return true;
         }
+        i = file_parts::behind(messages, parts::count_parts(p, 4), i);
     }
+    false
 }

@@ -1,4 +1,4 @@
-// The fields of a message by their numbers in the table of fields: those of a oneof, and those of none.
+//! The fields of a message by their numbers in the table of fields: those of a oneof, and those of none.
 #![tactic(auto)]
 
 ghost use Rattle.std.specs.Prelude.{◌≡◌, ◌&&◌, ◌||◌, not, List, ◌++◌, ℕ, ◌+◌, ◌-◌, ◌≤◌, eqb, length, take};
@@ -19,19 +19,19 @@ ghost use Rattle.members.specs.Members.{name_in, field_at, boxed_at, numbers_wit
 
 use descriptor::FieldView;
 use joined::MAX_PATH;
-use wire::Step;
+use parts::Parts;
 
-// More than the messages and enums that a message can hold (limits 3 and 5).
+/// More than the messages and enums that a message can hold (limits 3 and 5).
 pub const NAMES: usize = 512;
 
-// The numbers of a message's fields: from `first` on, below `last`.
+/// The numbers of a message's fields: from `first` on, below `last`.
 #[derive(Drop)]
 pub struct Range {
     pub first: usize,
     pub last: usize,
 }
 
-// Is the message whose part p is a map entry?
+/// Is the message whose part p is a map entry?
 pub fn is_entry(p: &[u8]) -> bool
     ensures { result ≡ (decode_message p.now).map_entry }
 {
@@ -40,7 +40,7 @@ pub fn is_entry(p: &[u8]) -> bool
     message.entry
 }
 
-// Field k of a set.
+/// Field k of a set.
 pub fn field_at(set: &[u8], t: &[u16], k: usize) -> FieldView
     ensures { field_of set.now result ≡ field_at set.now t.now k }
 {
@@ -48,7 +48,7 @@ pub fn field_at(set: &[u8], t: &[u16], k: usize) -> FieldView
     descriptor::field_view(set, row.start, row.end)
 }
 
-// Does a row of the kind match the path of a name in a scope?
+/// Does a row of the kind match the path of a name in a scope?
 pub fn setting(o: &[u8], kind: u16, full: &[u8], name: &[u8]) -> bool
     ensures { result ≡ has (settings o.now) kind (full.now ⊙ name.now) }
 {
@@ -58,7 +58,7 @@ pub fn setting(o: &[u8], kind: u16, full: &[u8], name: &[u8]) -> bool
     row.found
 }
 
-// Is the field marked as deprecated?
+/// Is the field marked as deprecated?
 pub fn is_deprecated(s: &[u8], f: FieldView) -> bool
     ensures { result ≡ deprecated (field_of s.now f) }
 {
@@ -68,7 +68,7 @@ pub fn is_deprecated(s: &[u8], f: FieldView) -> bool
     false
 }
 
-// should_box: `at` is the message's full name, or the oneof's.
+/// `should_box`: `at` is the message's full name, or the oneof's.
 pub fn boxed_at(o: &[u8], set: &[u8], t: &[u16], k: usize, at: &[u8]) -> bool
     ensures { result ≡ boxed_at (settings o.now) set.now t.now k at.now }
 {
@@ -85,7 +85,7 @@ pub fn boxed_at(o: &[u8], set: &[u8], t: &[u16], k: usize, at: &[u8]) -> bool
     setting(o, 4, at, name)
 }
 
-// Is one of the fields from `first` on, below `last`, of the oneof c: one more than its index, or 0 for none?
+/// Is one of the fields from `first` on, below `last`, of the oneof c: one more than its index, or 0 for none?
 pub fn has_members(t: &[u16], c: usize, first: usize, last: usize) -> bool
     ensures { result ≡ not (is_empty (numbers_with t.now c (last - first) first)) }
 {
@@ -100,7 +100,7 @@ pub fn has_members(t: &[u16], c: usize, first: usize, last: usize) -> bool
     false
 }
 
-// Is one of them in a oneof?
+/// Is one of them in a oneof?
 pub fn in_oneofs(t: &[u16], first: usize, last: usize) -> bool
     ensures { result ≡ in_oneofs t.now (last - first) first }
 {
@@ -137,7 +137,7 @@ fn denies_eq(t: &[u16], c: usize, k: usize) -> bool
     false
 }
 
-// can_oneof_derive_copy
+/// `can_oneof_derive_copy`: do all fields of the oneof c derive Copy?
 pub fn all_copy(t: &[u16], c: usize, first: usize, last: usize) -> bool
     ensures { result ≡ all_copy t.now (numbers_with t.now c (last - first) first) }
 {
@@ -152,7 +152,7 @@ pub fn all_copy(t: &[u16], c: usize, first: usize, last: usize) -> bool
     true
 }
 
-// can_oneof_derive_eq
+/// `can_oneof_derive_eq`: do they all derive Eq?
 pub fn all_eq(t: &[u16], c: usize, first: usize, last: usize) -> bool
     ensures { result ≡ all_eq t.now (numbers_with t.now c (last - first) first) }
 {
@@ -167,7 +167,7 @@ pub fn all_eq(t: &[u16], c: usize, first: usize, last: usize) -> bool
     true
 }
 
-// The fields of message i, whose part p is.
+/// The fields of message i, whose part p is.
 pub fn fields_of(messages: &[u16], i: usize, p: &[u8]) -> Range
     ensures { (result.first ≡ (message_row messages.now i).first) × (result.last ≡ result.first + length (parts 2 (entries p.now))) }
 {
@@ -183,7 +183,7 @@ fn camel_in(t: &mut [u8], name: &[u8]) -> usize
     ensures { (result ≤ length t.new) × (take result t.new ≡ take (length t.old) (to_upper_camel name.now)) }
 {
     let n = ident::put_upper_camel(t, 0, name);
-    writer::within(n.next, t.len())
+    n.next.min(t.len())
 }
 
 // Is it the camel name of the declaration whose part q is?
@@ -196,41 +196,20 @@ fn meets_part(camel: &[u8], q: &[u8]) -> bool
 }
 
 // Is it that of a declaration with the field number in a message?
+#[tactic(auto, unfolding(base::specs::Lists::any))]
 fn meets(p: &[u8], number: u64, camel: &[u8]) -> bool
     ensures { result ≡ any (λ (q : Bytes). same (cut_camel (name_in q)) camel.now) (parts number (entries p.now)) }
 {
-    let mut at: usize = 0;
-    loop {
-        match wire::read_step(p, at) {
-            Step::End => return false,
-            Step::Fault(_) => return false,
-            Step::Found(f) => {
-                at = f.next;
-                if f.number == number {
-                    let is = meets_part(camel, parts::embedded(p, f));
-                    if is {
-                        return true;
-                    }
-                }
-            }
-        }
-    }
+    Parts::new(p, number).any(|q| meets_part(camel, q))
 }
 
 fn conflicts(p: &[u8], deeper: bool, camel: &[u8]) -> bool
     ensures { result ≡ ((deeper && any (λ (q : Bytes). same (cut_camel (name_in q)) camel.now) (parts 3 (entries p.now))) || any (λ (q : Bytes). same (cut_camel (name_in q)) camel.now) (parts 4 (entries p.now))) }
 {
-    if deeper {
-        let nested = meets(p, 3, camel);
-        if nested {
-            return true;
-        }
-        return meets(p, 4, camel);
-    }
-    meets(p, 4, camel)
+    (deeper && meets(p, 3, camel)) || meets(p, 4, camel)
 }
 
-// has_type_name_conflict, of a oneof's name in the message whose part p is. deeper: are nested messages read?
+/// `has_type_name_conflict`, of a oneof's name in the message whose part p is. deeper: are nested messages read?
 pub fn conflict(p: &[u8], deeper: bool, name: &[u8]) -> bool
     ensures { result ≡ conflict deeper p.now name.now }
 {
@@ -252,25 +231,15 @@ fn camel_sum(name: &[u8]) -> u64
 fn put_sums(sums: &mut [u64], n: usize, p: &[u8], number: u64) -> usize
     ensures { (l : List ℕ) → Stored sums.old n l → Stored sums.new result (l ++ part_sums number p.now) }
 {
-    let mut m = n;
-    let mut at: usize = 0;
-    loop {
-        match wire::read_step(p, at) {
-            Step::End => return m,
-            Step::Fault(_) => return m,
-            Step::Found(f) => {
-                at = f.next;
-                if f.number == number {
-                    let q = parts::embedded(p, f);
-                    let x = camel_sum(joined::name_of(q));
-                    m = checksums::put_sum(sums, m, x);
-                }
-            }
-        }
+    let mut count = n;
+    for q in Parts::new(p, number) {
+        let x = camel_sum(joined::name_of(q));
+        count = checksums::put_sum(sums, count, x);
     }
+    count
 }
 
-// The checksums of all camel names that a oneof's name can meet in the message whose part p is; and how many they are.
+/// The checksums of all camel names that a oneof's name can meet in the message whose part p is; and how many they are.
 pub fn camel_sums(sums: &mut [u64], deeper: bool, p: &[u8]) -> usize
     ensures { Stored sums.new result (camel_sums deeper p.now) }
 {
@@ -281,7 +250,7 @@ pub fn camel_sums(sums: &mut [u64], deeper: bool, p: &[u8]) -> usize
     put_sums(sums, 0, p, 4)
 }
 
-// `conflict`, given those checksums: a name whose checksum is none of them meets no name.
+/// `conflict`, given those checksums: a name whose checksum is none of them meets no name.
 pub fn conflict_by(sums: &[u64], n: usize, p: &[u8], deeper: bool, name: &[u8]) -> bool
     ensures { Stored sums.now n (camel_sums deeper p.now) → result ≡ conflict deeper p.now name.now }
 {

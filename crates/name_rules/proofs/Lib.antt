@@ -2,3 +2,4 @@ pub mod Tests
 pub mod ViewedLaws
 pub mod SegmentLaws
 pub mod WellFormedLaws
+pub mod NamesLaws

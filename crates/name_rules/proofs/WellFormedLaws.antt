@@ -1,4 +1,5 @@
 -- A file that refusal 6 passes is well formed, and so is every file of a set without refusals 6 and 7. Assumes nothing.
+use Rattle.std.specs.Prelude.{Ok}
 use mathlib.Core.Path.{◌≡◌, refl, sym, ap, ◌∙◌}
 use mathlib.Core.Bool.{Bool, true, false, ◌&&◌, ◌||◌, not}
 use mathlib.Core.List.{List, [], ◌∷◌}
@@ -24,8 +25,8 @@ use Rattle.name_rules.specs.Accessors.{or_else}
 use Rattle.name_rules.specs.Rules.{good_name, has_name, segments, package_good, is_known, syntax_good, within, is_given, is_number, type_name_good, oneof_index_good, default_good, field_good, value_good, enum_good, message_good, is_text, key_type, key_good, value_field_good, key_and_value, none_nested, entry_good, messages_good, file_good}
 use Rattle.name_rules.specs.FullNames.{set_fields}
 use Rattle.name_rules.specs.MapEntries.{map_entries_named}
-use Rattle.name_rules.specs.Answer.{file_named, first_six, first_seven, names, refusal_number}
-use Rattle.name_rules.specs.declared.Names.TheVariants.{Good, Six, Seven}
+use Rattle.name_rules.specs.Answer.{file_named, first_six, first_seven, names}
+use Rattle.name_rules.proofs.NamesLaws.{no_refusals}
 use Rattle.name_rules.specs.WellFormed.{Name, Named, Given, Between, GoodField, GoodValue, GoodEnum, GoodMessage, EntryField, GoodEntry, EveryNode, WellFormed}
 
 -- a row of tests, and each of them
@@ -262,20 +263,12 @@ well_formed f h =
 
 -- a set without refusals 6 and 7
 
-module _ (fs : List FileDescriptor) (h : names fs ≡ Good) where
-  no_six : ltb (first_six fs) (length fs) ≡ false
-  unfolding names choose
-  no_six = go (ltb (first_six fs) (length fs)) h
-    where
-      go : (t : Bool) → choose t (Six (first_six fs)) (choose (ltb (first_seven fs) (length fs)) (Seven (first_seven fs)) Good) ≡ Good → t ≡ false
-      go false e = refl
-      go true e = let z : ◌≡◌ {A = ℕ} 6 0 = ap refusal_number e in absurd (omega arith)
-
+module _ (fs : List FileDescriptor) (h : names fs ≡ Ok tt) where
   pub every_file : Every WellFormed fs
   unfolding first_six file_named
   every_file =
       all_every WellFormed (file_named (set_fields fs)) (λ f g. well_formed f (and_left (file_good f) (map_entries_named (set_fields fs) f) g)) fs
-      (none_fails (file_named (set_fields fs)) fs (ltb-false (first_six fs) (length fs) no_six))
+      (none_fails (file_named (set_fields fs)) fs (ltb-false (first_six fs) (length fs) (no_refusals fs h).0))
 
   pub every_message : Every GoodMessage (messages_in fs)
   unfolding messages_in

@@ -1,13 +1,13 @@
 -- Refusals 6 and 7 of a set: 6, first such file of the whole set, before any 7. Assumes nothing.
-use Rattle.std.specs.Prelude.{ℕ, Bool, ◌&&◌, List, [], ltb, length}
+use Rattle.std.specs.Prelude.{ℕ, Bool, ◌&&◌, List, [], ltb, length, Result, Ok, Err}
 use Rattle.base.specs.Choose.{choose}
+use Rattle.base.specs.declared.refusal.Refusal.{Refusal}
+use Rattle.base.specs.declared.refusal.Refusal.TheVariants.{Declaration, TypeName}
 use Rattle.descriptor.specs.Descriptor.{FieldDescriptor, FileDescriptor}
 use Rattle.base.specs.Lists.{first_failing}
 use Rattle.name_rules.specs.Rules.{file_good}
 use Rattle.name_rules.specs.FullNames.{set_declarations, set_fields, first_undeclared}
 use Rattle.name_rules.specs.MapEntries.{map_entries_named}
-use Rattle.name_rules.specs.declared.Names.{Names}
-use Rattle.name_rules.specs.declared.Names.TheVariants.{Good, Six, Seven}
 
 -- a file without refusal 6, given the fields of the set
 unfoldable pub file_named : List FieldDescriptor → FileDescriptor → Bool
@@ -21,18 +21,7 @@ first_six fs = first_failing (file_named (set_fields fs)) fs
 unfoldable pub first_seven : List FileDescriptor → ℕ
 first_seven fs = first_undeclared (set_declarations fs) [] fs
 
-unfoldable pub names : List FileDescriptor → Names
+unfoldable pub names : List FileDescriptor → Result Unit Refusal
 names fs =
-    choose (ltb (first_six fs) (length fs)) (Six (first_six fs))
-    (choose (ltb (first_seven fs) (length fs)) (Seven (first_seven fs)) Good)
-
--- document 01's number and place; without a refusal 0 and 0
-abbrev pub refusal_number : Names → ℕ
-refusal_number Good = 0
-refusal_number (Six file) = 6
-refusal_number (Seven file) = 7
-
-abbrev pub refusal_place : Names → ℕ
-refusal_place Good = 0
-refusal_place (Six file) = file
-refusal_place (Seven file) = file
+    choose (ltb (first_six fs) (length fs)) (Err (Declaration (first_six fs)))
+    (choose (ltb (first_seven fs) (length fs)) (Err (TypeName (first_seven fs))) (Ok tt))

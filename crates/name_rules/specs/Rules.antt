@@ -1,6 +1,6 @@
 -- Refusal 6, as far as a declaration is judged by itself: names, package, syntax, required fields, type, label, number, oneof index, default,
 -- and what a map entry holds.
-use Rattle.std.specs.Prelude.{ℕ, ◌^◌, Bool, true, false, ◌&&◌, ◌||◌, not, List, [], ◌∷◌, eqb, ltb, leb, length}
+use Rattle.std.specs.Prelude.{ℕ, ◌^◌, Bool, true, false, ◌&&◌, ◌||◌, not, List, [], ◌∷◌, Result, Ok, Err, eqb, ltb, leb, length}
 use Rattle.std.proofs.Math.Option.{Option, none, some}
 use Rattle.base.specs.Choose.{choose}
 use Rattle.base.specs.Bytes.{b, same}
@@ -12,9 +12,11 @@ use Rattle.syntax.specs.declared.Syntax.TheVariants.{Proto2, Proto3, Unknown}
 use Rattle.field_types.specs.Types.{sort_of, integer, boolean}
 use Rattle.field_types.specs.Types as types
 use Rattle.descriptor.specs.Descriptor.{Bytes, Forest, done, node, FieldDescriptor, ValueDescriptor, EnumDescriptor, MessageDescriptor, FileDescriptor}
+unfoldable pub use Rattle.descriptor.specs.Limits.{segments}
+pub use Rattle.descriptor.specs.Limits.{on_first as onto}
 use Rattle.base.specs.Lists.{all, is_empty}
-use Rattle.name_rules.specs.declared.Judged.{Judged}
-use Rattle.name_rules.specs.declared.Judged.TheVariants.{Good, Refused}
+use Rattle.name_rules.specs.declared.rules.Refusal.{Refusal}
+use Rattle.name_rules.specs.declared.rules.Refusal.TheVariants.{IllFormed}
 
 -- a name: `[A-Za-z_][A-Za-z0-9_]*`, and not of underscores only
 unfoldable pub good_name : Bytes → Bool
@@ -24,15 +26,6 @@ good_name s = is_name s && has_word s
 abbrev pub has_name : Option Bytes → Bool
 has_name none = false
 has_name (some s) = good_name s
-
--- the parts of a byte string between its dots
-abbrev pub onto : ℕ → List Bytes → List Bytes
-onto c [] = (c ∷ []) ∷ []
-onto c (x ∷ xs) = (c ∷ x) ∷ xs
-
-unfoldable pub segments : Bytes → List Bytes
-segments [] = [] ∷ []
-segments (c ∷ s) = choose (eqb c 46) ([] ∷ segments s) (onto c (segments s))
 
 -- a package: names joined by `.`; the empty one is one empty segment
 abbrev pub package_good : Option Bytes → Bool
@@ -75,10 +68,13 @@ abbrev pub default_good : Option ℕ → Option Bytes → Bool
 default_good type none = true
 default_good type (some d) = is_utf8 d && (not (is_number 14 type) || good_name d)
 
--- what is made of that test
-unfoldable pub judged : Bool → Judged
-judged true = Good
-judged false = Refused 6
+-- what is made of that test, and document 01's number of the refusal
+abbrev pub judged : Bool → Result Unit Refusal
+judged true = Ok tt
+judged false = Err IllFormed
+
+abbrev pub refusal_number : Refusal → ℕ
+refusal_number IllFormed = 6
 
 -- a field of a message with so many oneofs
 unfoldable pub field_good : ℕ → FieldDescriptor → Bool

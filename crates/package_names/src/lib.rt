@@ -1,4 +1,4 @@
-// Packages of a set whose modules have one name.
+//! Packages of a set whose modules have one name.
 #![tactic(auto)]
 
 ghost use Rattle.std.specs.Prelude.{◌≡◌, ◌≤◌, length, take, []};
@@ -12,7 +12,7 @@ ghost use Rattle.name_check.specs.NameCheck.{modules_in};
 ghost use Rattle.name_rows.specs.Rows.{row, rows_in};
 
 use joined::MAX_PATH;
-use wire::Step;
+use parts::Parts;
 
 const ROW: usize = 384;
 
@@ -21,7 +21,7 @@ fn snake_in(t: &mut [u8], name: &[u8]) -> usize
     ensures { (result ≤ length t.new) × (take result t.new ≡ take (length t.old) (to_snake name.now)) }
 {
     let n = ident::put_snake(t, 0, name);
-    writer::within(n.next, t.len())
+    n.next.min(t.len())
 }
 
 // Have two segments one snake name?
@@ -82,47 +82,19 @@ fn parts_meet(p: &[u8], q: &[u8]) -> bool
 }
 
 // Does the package of the file whose part p is meet one of the set's?
+#[tactic(auto, unfolding(base::specs::Lists::any, crate::specs::Packages::package_meets))]
 fn package_meets(set: &[u8], p: &[u8]) -> bool
     ensures { result ≡ package_meets set.now p.now }
 {
-    let mut at: usize = 0;
-    loop {
-        match wire::read_step(set, at) {
-            Step::End => return false,
-            Step::Fault(_) => return false,
-            Step::Found(f) => {
-                at = f.next;
-                if f.number == 1 {
-                    let meets = parts_meet(p, parts::embedded(set, f));
-                    if meets {
-                        return true;
-                    }
-                }
-            }
-        }
-    }
+    Parts::new(set, 1).any(|q| parts_meet(p, q))
 }
 
-// Do two packages of the set meet?
+/// Do two packages of the set meet?
+#[tactic(auto, unfolding(base::specs::Lists::any, crate::specs::Packages::packages_meet))]
 pub fn packages_meet(set: &[u8]) -> bool
     ensures { result ≡ packages_meet set.now }
 {
-    let mut at: usize = 0;
-    loop {
-        match wire::read_step(set, at) {
-            Step::End => return false,
-            Step::Fault(_) => return false,
-            Step::Found(f) => {
-                at = f.next;
-                if f.number == 1 {
-                    let meets = package_meets(set, parts::embedded(set, f));
-                    if meets {
-                        return true;
-                    }
-                }
-            }
-        }
-    }
+    Parts::new(set, 1).any(|p| package_meets(set, p))
 }
 
 // Does the module of a segment in a home stand among the first n rows of t?
@@ -180,24 +152,10 @@ fn part_stands(t: &[u8], n: usize, p: &[u8]) -> bool
     false
 }
 
-// Does a module of the set's packages stand among the first n rows of t?
+/// Does a module of the set's packages stand among the first n rows of t?
+#[tactic(auto, unfolding(base::specs::Lists::any, crate::specs::Packages::packages_stand))]
 pub fn packages_stand(t: &[u8], n: usize, set: &[u8]) -> bool
     ensures { result ≡ packages_stand n t.now set.now }
 {
-    let mut at: usize = 0;
-    loop {
-        match wire::read_step(set, at) {
-            Step::End => return false,
-            Step::Fault(_) => return false,
-            Step::Found(f) => {
-                at = f.next;
-                if f.number == 1 {
-                    let stands = part_stands(t, n, parts::embedded(set, f));
-                    if stands {
-                        return true;
-                    }
-                }
-            }
-        }
-    }
+    Parts::new(set, 1).any(|p| part_stands(t, n, p))
 }

@@ -1,35 +1,20 @@
 use borrow.Author.Rules.{rules}
-use Rattle.boxed_settings.specs.Flags.{set_flags}
-use Rattle.walks.specs.Walked.{going_start, going_kept, going_end, going_fault, going_skip, going_found}
-use Rattle.wire.proofs.RecordsLaws.{places}
-use mathlib.Core.Path.{refl}
+use mathlib.Core.Path.{sym, ap, ◌∙◌}
+use Rattle.writer.specs.Wrote.{none, named, ◌►◌}
+use Rattle.walks.specs.Walked.{walked}
+use Rattle.options.specs.Settings.{settings}
+use Rattle.boxed_settings.specs.Flags.{file_flags, set_flags, stay}
 use Rattle.boxed_settings.proofs.boxed_settings.Goals as goal
 
-pub loop-f-init : goal.loop-f-init
-loop-f-init c = going_start _ _ _ _ _ _ _ (search rules)
-
-pub shape_of-t-in-End : goal.shape_of-t-in-End
-shape_of-t-in-End c = going_kept _ _ _ _ _ _ _ c.loop-f.invariant
-
-pub returns-in-End : goal.returns-in-End
+pub loop-p-init : goal.loop-p-init
 unfolding set_flags
-returns-in-End c = going_end _ _ _ _ _ _ _ c.loop-f.invariant _ c.read_step.ensures c.in-End.is
+loop-p-init c = (search rules, λ t' r w. named (ap (walked (file_flags (settings c.args.o.now)) stay 0) (c.into_iter-p-iterator.ensures.into_iter_gives ∙ c.new-p-items.ensures.parts)) w)
 
-pub shape_of-t-in-Fault : goal.shape_of-t-in-Fault
-shape_of-t-in-Fault c = going_kept _ _ _ _ _ _ _ c.loop-f.invariant
+pub loop-p-preserved : goal.loop-p-preserved
+unfolding walked
+loop-p-preserved c =
+    (search rules, λ t' r w. c.loop-p.invariant.1 t' r (named (ap (walked (file_flags (settings c.args.o.now)) stay 0) (sym c.in-Some.ensures.steps)) (c.put_file-a.ensures ► w)))
 
-pub returns-in-Fault : goal.returns-in-Fault
-unfolding set_flags
-returns-in-Fault c = going_fault _ _ _ _ _ _ _ c.loop-f.invariant _ c.read_step.ensures _ c.in-Fault.is
-
-pub loop-f-smaller-then-f-eq1 : goal.loop-f-smaller-then-f-eq1
-loop-f-smaller-then-f-eq1 c = search places
-
-pub loop-f-preserved-then-f-eq1 : goal.loop-f-preserved-then-f-eq1
-loop-f-preserved-then-f-eq1 c = going_found _ _ _ _ _ _ _ c.loop-f.invariant _ c.read_step.ensures _ c.in-Found.is c.if-f-eq1.true c.embedded.ensures c.put_file-a.ensures 0 refl
-
-pub loop-f-smaller : goal.loop-f-smaller
-loop-f-smaller c = search places
-
-pub loop-f-preserved : goal.loop-f-preserved
-loop-f-preserved c = going_skip _ _ _ _ _ _ _ c.loop-f.invariant _ c.read_step.ensures _ c.in-Found.is c.if-f-eq1.false
+pub returns : goal.returns
+unfolding walked
+returns c = c.loop-p.invariant.1 _ _ (named (ap (walked (file_flags (settings c.args.o.now)) stay 0) (sym c.in-None.ensures.steps.0)) (none c.loop-p.invariant.0))

@@ -1,12 +1,14 @@
-use Rattle.boxed_settings.specs.Flags.{field_flag, stay}
-use Rattle.options.specs.Settings.{settings}
-use Rattle.walks.specs.Walked.{Going}
 use lib.ListN.{length}
-use Prim.Native.Nat.{◌-◌}
+use Prim.Native.Nat.{ℕ, ◌<◌, ◌^◌}
+use mathlib.Core.List.{List}
+use Rattle.writer.specs.Wrote.{Wrote}
+use Rattle.options.specs.Settings.{settings}
+use Rattle.walks.specs.Walked.{walked}
+use Rattle.boxed_settings.specs.Flags.{field_flag, field_flags, stay}
 use Rattle.boxed_settings.proofs.put_fields.Given as goal
 
-abbrev pub invariant-loop-f : goal.invariant-loop-f
-invariant-loop-f l = Going (field_flag (settings l.o) l.full) stay 0 2 l.s l.initial.t l.at l.t l.i l.a 0
-
-abbrev pub decreases-loop-f : goal.decreases-loop-f
-decreases-loop-f l = length l.s - l.i
+-- whoever writes the rest has written the whole
+abbrev pub invariant-loop-p : goal.invariant-loop-p
+invariant-loop-p l =
+    (length l.t < 2 ^ 63)
+    × ((t' : List ℕ) (r : ℕ) → Wrote l.t l.a (walked (field_flag (settings l.o) l.full) stay 0 l.p-iterator) t' r → Wrote l.initial.t l.at (field_flags (settings l.o) l.full l.s) t' r)

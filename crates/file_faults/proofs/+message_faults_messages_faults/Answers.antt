@@ -1,8 +1,11 @@
-use mathlib.Core.Path.{◌∙◌}
+use mathlib.Core.Path.{sym, ap, ◌∙◌}
+use mathlib.Core.List.{List}
 use native.Mathlib.Omega.{arith}
-use Rattle.wire.proofs.RecordsLaws.{places}
 use Rattle.joined.specs.Joined.{path_held}
-use Rattle.file_faults.proofs.WalkLaws.{faults_entry, faults_taken, faults_written, going_start, going_end, going_fault, going_skip, going_found}
+use Rattle.file_faults.proofs.WalkLaws.{faults_entry, faults_taken, faults_written, ahead, ahead_none, ahead_more, ahead_all}
+use Rattle.options.specs.Settings.{settings}
+use Rattle.descriptor.specs.Descriptor.{Bytes}
+use Rattle.file_faults.specs.FileFaults.{◌or◌}
 use Rattle.file_faults.specs.FileFaults as faults
 use Rattle.file_faults.proofs.+message_faults_messages_faults.Goals as goal
 
@@ -34,26 +37,25 @@ pub messages_faults-returns-then-left-eq0 : goal.messages_faults-returns-then-le
 unfolding faults.messages_faults
 messages_faults-returns-then-left-eq0 t c = rw c.if-left-eq0.true c.no_faults-found.ensures
 
-pub messages_faults-loop-found-init : goal.messages_faults-loop-found-init
-messages_faults-loop-found-init t c = (rw c.no_faults-found.ensures (going_start _ _ _ _ _ _ _ _ _), c.requires.0)
-
-pub messages_faults-returns-in-End : goal.messages_faults-returns-in-End
-messages_faults-returns-in-End t c = going_end _ _ _ _ _ _ _ _ _ c.loop-found.invariant.0 _ c.read_step.ensures c.if-left-eq0.false c.in-End.is
-
-pub messages_faults-returns-in-Fault : goal.messages_faults-returns-in-Fault
-messages_faults-returns-in-Fault t c = going_fault _ _ _ _ _ _ _ _ _ c.loop-found.invariant.0 _ c.read_step.ensures c.if-left-eq0.false _ c.in-Fault.is
+pub messages_faults-loop-p-init : goal.messages_faults-loop-p-init
+messages_faults-loop-p-init t c = (rw (c.no_faults-found.ensures, c.into_iter-p-iterator.ensures.into_iter_gives, c.new-p-items.ensures.parts) (ahead_all _ _ _ _ _ _ _ _ c.if-left-eq0.false), c.requires.0)
 
 pub messages_faults-message_faults-own-requires : goal.messages_faults-message_faults-own-requires
-messages_faults-message_faults-own-requires t c = (omega (arith, c.if-left-eq0.false), (omega (arith, c.loop-found.invariant.1, c.if-left-eq0.false), omega (arith, c.requires.1)))
+messages_faults-message_faults-own-requires t c = (omega (arith, c.if-left-eq0.false), (omega (arith, c.loop-p.invariant.1, c.if-left-eq0.false), omega (arith, c.requires.1)))
 
-pub messages_faults-loop-found-smaller-then-f-number : goal.messages_faults-loop-found-smaller-then-f-number
-messages_faults-loop-found-smaller-then-f-number t c = search places
+pub messages_faults-loop-p-preserved : goal.messages_faults-loop-p-preserved
+messages_faults-loop-p-preserved t c =
+    let v = c.args in
+    let there = ahead (settings v.o.now) v.set.now v.messages.now v.t.now v.left v.scope.now c.loop-p.k in (
+      rw (c.or-found.ensures, c.message_row-k.ensures.0)
+          (ahead_more (settings v.o.now) v.set.now v.messages.now v.t.now v.left v.scope.now _ _ _ _ _ c.message_faults-own.ensures
+          ∙ ap (λ (ps : List Bytes). c.loop-p.found or there ps) (sym c.in-Some.ensures.steps) ∙ c.loop-p.invariant.0),
+      omega (arith, c.message_row-k.ensures.2, c.requires.1),
+    )
 
-pub messages_faults-loop-found-preserved-then-f-number : goal.messages_faults-loop-found-preserved-then-f-number
-messages_faults-loop-found-preserved-then-f-number t c = (going_found _ _ _ _ _ _ _ _ _ c.loop-found.invariant.0 _ c.read_step.ensures _ c.in-Found.is c.if-f-number.true _ c.embedded-p.ensures _ c.message_faults-own.ensures _ c.or-found.ensures _ c.message_row-row.ensures.0, omega (arith, c.message_row-row.ensures.2, c.requires.1))
-
-pub messages_faults-loop-found-smaller : goal.messages_faults-loop-found-smaller
-messages_faults-loop-found-smaller t c = search places
-
-pub messages_faults-loop-found-preserved : goal.messages_faults-loop-found-preserved
-messages_faults-loop-found-preserved t c = (going_skip _ _ _ _ _ _ _ _ _ c.loop-found.invariant.0 _ c.read_step.ensures _ c.in-Found.is c.if-f-number.false, c.loop-found.invariant.1)
+pub messages_faults-returns : goal.messages_faults-returns
+messages_faults-returns t c =
+    let v = c.args in
+    let there = ahead (settings v.o.now) v.set.now v.messages.now v.t.now v.left v.scope.now c.loop-p.k in
+    sym (ahead_none (settings v.o.now) v.set.now v.messages.now v.t.now v.left v.scope.now c.loop-p.found c.loop-p.k)
+    ∙ ap (λ (ps : List Bytes). c.loop-p.found or there ps) (sym c.in-None.ensures.steps.0) ∙ c.loop-p.invariant.0

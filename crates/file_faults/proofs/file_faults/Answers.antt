@@ -14,7 +14,7 @@ pub slice_bounds-messages_faults-end : goal.slice_bounds-messages_faults-end
 slice_bounds-messages_faults-end c = omega (arith, c.package_in-n.ensures.0)
 
 pub messages_faults-found-requires : goal.messages_faults-found-requires
-messages_faults-found-requires c = (omega (arith, c.wide-first.ensures.1), omega arith)
+messages_faults-found-requires c = (omega arith, omega arith)
 
 pub slice_bounds-enums_meet-end : goal.slice_bounds-enums_meet-end
 slice_bounds-enums_meet-end c = omega (arith, c.package_in-n.ensures.0)
@@ -25,6 +25,6 @@ returns c =
     let rs = settings c.args.o.now in
     let scope = sliced c.package_in-n.new.t _ c.package_in-n.result c.package_in-n.ensures.1 in
     let found = c.messages_faults-found.ensures
-    ∙ ap₂ (λ (x : List ℕ) (i : ℕ). messages_faults rs c.args.set.now c.args.messages.now c.args.t.now 16 x i (parts 4 (entries c.args.p.now))) scope c.wide-first.ensures.0 in
+    ∙ ap (λ (x : List ℕ). messages_faults rs c.args.set.now c.args.messages.now c.args.t.now 16 x c.args.i (parts 4 (entries c.args.p.now))) scope in
     let meets = c.enums_meet-overlap.ensures ∙ ap (λ (x : List ℕ). enums_meet rs x (parts 5 (entries c.args.p.now))) scope in
     c.or.ensures ∙ ap₂ (λ (x : Faults) (b : Bool). x or record { overlap = b; default = false }) found meets

@@ -1,9 +1,8 @@
 use Rattle.file_rules.proofs.DeclarationLaws.{enum_is}
-use Rattle.name_rules.proofs.Tests.{ands}
 use Rattle.file_rules.proofs.enum_good.Goals as goal
 
-pub returns-then-not-has_name : goal.returns-then-not-has_name
-returns-then-not-has_name c = rw (enum_is c.args.s.now c.name_view-name.result c.name_view-name.ensures) (search (ands, c.has_name.ensures, c.if-not-has_name.true) depth 9)
+pub returns-then-has_name : goal.returns-then-has_name
+returns-then-has_name c = rw (enum_is c.args.s.now c.name_view-name.result c.name_view-name.ensures, ← c.has_name.ensures, c.if-has_name.true) c.values_good.ensures
 
-pub returns : goal.returns
-returns c = rw (enum_is c.args.s.now c.name_view-name.result c.name_view-name.ensures) (search (ands, c.has_name.ensures, c.if-not-has_name.false, c.leaves_good.ensures) depth 9)
+pub returns-else-has_name : goal.returns-else-has_name
+returns-else-has_name c = rw (enum_is c.args.s.now c.name_view-name.result c.name_view-name.ensures, ← c.has_name.ensures, c.if-has_name.false)

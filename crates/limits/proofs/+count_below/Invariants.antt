@@ -1,15 +1,17 @@
-use Rattle.limits.proofs.TallyLaws.{tally_from}
+use Rattle.std.proofs.Common.{◌≡◌, ◌+◌, ◌≤◌, length}
+use Rattle.wire.specs.Message.{fields_in}
+use Rattle.limits.specs.Sums.{sum}
 use Rattle.limits.specs.Weights.{tally}
-use mathlib.Core.Path.{◌≡◌}
-use lib.ListN.{length}
-use Prim.Native.Nat.{◌-◌, ◌≤◌, ◌+◌}
+use Rattle.limits.proofs.Sizes.{room}
+use Rattle.limits.proofs.WalkLaws.{tally_of}
 use Rattle.limits.proofs.+count_below.Given as goal
 
 abbrev pub decreases-count_below : goal.decreases-count_below
 decreases-count_below l = l.left
 
-abbrev pub invariant-loop-f : goal.invariant-loop-f
-invariant-loop-f l = (l.n ≤ l.at) × (l.at ≤ length l.s) × (l.n + tally_from l.limit l.left l.fewer l.sort l.around l.s l.at ≡ tally l.limit l.left l.sort l.around l.s)
-
-abbrev pub decreases-loop-f : goal.decreases-loop-f
-decreases-loop-f l = length l.s - l.at
+abbrev pub invariant-loop-record : goal.invariant-loop-record
+invariant-loop-record l =
+    record {
+      room : l.count + sum room (fields_in l.record-iterator) ≤ length l.part;
+      counted : l.count + tally_of l.limit l.left l.sort l.around (fields_in l.record-iterator) ≡ tally l.limit l.left l.sort l.around l.part;
+    }

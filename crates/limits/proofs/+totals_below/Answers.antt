@@ -1,53 +1,35 @@
-use Rattle.limits.proofs.FitLaws.{counted_start, counted_skip, counted_found, held_end, held_fault, none_within, refused_within, length_all, length_found, counted_member}
-use Rattle.wire.proofs.RecordsLaws.{places}
-use mathlib.Core.Path.{sym, ◌∙◌}
-use borrow.Author.Tests.{not-false}
+use Rattle.std.proofs.Common.{rules, ◌-◌, sym, ◌∙◌, ap, length}
+use Rattle.wire.specs.Message.{record_seen}
+use Rattle.limits.specs.Fits.{Held}
+use Rattle.limits.proofs.FitLaws.{held_none, counted_found, counted_skip, name_found, name_kept}
 use Rattle.limits.proofs.+totals_below.Goals as goal
+use Rattle.limits.proofs.+totals_below.Goals.{then-record-eq-NAME, else-record-eq-NAME, then-holds_none, else-holds_none+in_ok-inner}
 
-pub returns-then-left-eq0 : goal.returns-then-left-eq0
-returns-then-left-eq0 t c = refused_within _ c.no_totals.ensures
+pub loop-record-preserved-in-Some-below : goal.loop-record-preserved-in-Some-below
+loop-record-preserved-in-Some-below t c =
+    let held : Held (c.args.left - 1) c.in-Some-below.below c.value_bytes-bytes.result.now c.if-holds_none.inner =
+    elim c.if-holds_none.branch [
+      | then-holds_none w ↦ rw (w.inner-is, w.none-inner.ensures) (held_none _ _ _ (sym c.holds_none.ensures ∙ w.if-holds_none.true))
+      | else-holds_none+in_ok-inner w ↦ rw w.inner-is w.in_ok-inner.ensures
+    ] in
+    record {
+      counted =
+          counted_found _ _ _ _ _ _ c.loop-record.invariant.counted (record_seen c.in-Ok.record) (search rules) c.in-Some-below.below (search rules) _ c.value_bytes-bytes.ensures _ held _
+          (c.in_ok-added.ensures.adds (λ some. c.name.ensures ∙ held.name some)) _ c.in_ok-totals.ensures;
+      named =
+          elim c.if-record-eq-NAME.branch [
+            | then-record-eq-NAME w ↦ name_found _ _ _ _ c.loop-record.invariant.named (record_seen c.in-Ok.record) (search rules) w.if-record-eq-NAME.true _ (w.name-is ∙ ap length c.value_bytes-bytes.ensures)
+            | else-record-eq-NAME w ↦ rw w.name-is (name_kept _ _ _ _ c.loop-record.invariant.named (record_seen c.in-Ok.record) (search rules) w.if-record-eq-NAME.false)
+          ];
+    }
 
-pub loop-f-init : goal.loop-f-init
-loop-f-init t c = (none_within _ _ c.no_totals-t.ensures, counted_start _ _ _ c.if-left-eq0.false _ c.no_totals-t.ensures, length_all _ _)
-
-pub returns-in-End : goal.returns-in-End
-returns-in-End t c = held_end _ _ _ _ _ _ c.read_step.ensures _ c.loop-f.invariant.1 c.loop-f.invariant.0 _ c.loop-f.invariant.2 _ c.with_name.ensures c.in-End.is
-
-pub returns-in-Fault : goal.returns-in-Fault
-returns-in-Fault t c = held_fault _ _ _ _ _ _ c.read_step.ensures _ c.loop-f.invariant.1 c.loop-f.invariant.0 _ c.loop-f.invariant.2 _ c.with_name-in-Fault.ensures _ c.in-Fault.is
-
-pub with_member-t-requires : goal.with_member-t-requires
-with_member-t-requires t c = (c.loop-f.invariant.0, sym c.holds_none.ensures ∙ c.if-holds_none.true)
-
-pub loop-f-smaller-else-not-t : goal.loop-f-smaller-else-not-t
-loop-f-smaller-else-not-t t c = search (places, c.read_step.ensures, c.in-Found.is)
-
-pub loop-f-preserved-else-not-t : goal.loop-f-preserved-else-not-t
-loop-f-preserved-else-not-t t c = (
-  c.with_member-t.ensures.0,
-  counted_member _ _ _ _ _ _ c.read_step.ensures _ c.loop-f.invariant.1 _ c.in-Found.is _ c.sort_below-below.ensures _ c.embedded-part.ensures _ (sym c.holds_none.ensures ∙ c.if-holds_none.true) (c.with_member-t.ensures.1 (not-false _ c.if-not-t.false)),
-  length_found _ _ _ _ c.read_step.ensures _ _ c.in-Found.is _ c.embedded-part.ensures _ c.name_after-name.ensures ∙ c.loop-f.invariant.2,
-)
-
-pub joined-t-requires : goal.joined-t-requires
-joined-t-requires t c = (c.loop-f.invariant.0, c.totals_below-inner.ensures.0, c.added_length-added.ensures.0)
-
-pub loop-f-smaller-else-not-t-2 : goal.loop-f-smaller-else-not-t-2
-loop-f-smaller-else-not-t-2 t c = search (places, c.read_step.ensures, c.in-Found.is)
-
-pub loop-f-preserved-else-not-t-2 : goal.loop-f-preserved-else-not-t-2
-loop-f-preserved-else-not-t-2 t c = (
-  c.joined-t.ensures.0,
-  counted_found _ _ _ _ _ _ c.read_step.ensures _ c.loop-f.invariant.1 _ c.in-Found.is _ c.sort_below-below.ensures _ c.embedded-part.ensures _ _ _ (c.joined-t.ensures.1 (not-false _ c.if-not-t-2.false)) c.if-below-ne0.true c.totals_below-inner.ensures.1 c.added_length-added.ensures.1 c.joined-t.ensures.0,
-  length_found _ _ _ _ c.read_step.ensures _ _ c.in-Found.is _ c.embedded-part.ensures _ c.name_after-name.ensures ∙ c.loop-f.invariant.2,
-)
-
-pub loop-f-smaller : goal.loop-f-smaller
-loop-f-smaller t c = search (places, c.read_step.ensures, c.in-Found.is)
-
-pub loop-f-preserved : goal.loop-f-preserved
-loop-f-preserved t c = (
-  c.loop-f.invariant.0,
-  counted_skip _ _ _ _ _ _ c.read_step.ensures _ c.loop-f.invariant.1 _ c.in-Found.is _ c.sort_below-below.ensures c.if-below-ne0.false,
-  length_found _ _ _ _ c.read_step.ensures _ _ c.in-Found.is _ c.embedded-part.ensures _ c.name_after-name.ensures ∙ c.loop-f.invariant.2,
-)
+pub loop-record-preserved-in_default-below : goal.loop-record-preserved-in_default-below
+loop-record-preserved-in_default-below t c =
+    record {
+      counted = counted_skip _ _ _ _ _ _ c.loop-record.invariant.counted (record_seen c.in-Ok.record) (search rules) (search rules);
+      named =
+          elim c.if-record-eq-NAME.branch [
+            | then-record-eq-NAME w ↦ name_found _ _ _ _ c.loop-record.invariant.named (record_seen c.in-Ok.record) (search rules) w.if-record-eq-NAME.true _ (w.name-is ∙ ap length c.value_bytes-bytes.ensures)
+            | else-record-eq-NAME w ↦ rw w.name-is (name_kept _ _ _ _ c.loop-record.invariant.named (record_seen c.in-Ok.record) (search rules) w.if-record-eq-NAME.false)
+          ];
+    }

@@ -1,8 +1,7 @@
-use mathlib.Core.Path.{refl, ◌∙◌}
+use mathlib.Core.Path.{refl, sym, ap, ◌∙◌}
 use native.Mathlib.Omega.{arith}
-use Rattle.wire.proofs.RecordsLaws.{places}
 use Rattle.joined.specs.Joined.{path_held}
-use Rattle.member_rows.proofs.WalkLaws.{meets_entry, meets_taken, meets_own, meets_nested, going_start, going_end, going_fault, going_skip, going_hit, going_miss}
+use Rattle.member_rows.proofs.WalkLaws.{meets_entry, meets_taken, meets_own, meets_nested, ahead, ahead_all, ahead_none, ahead_hit, ahead_miss}
 use Rattle.member_rows.specs.MemberRows as rows
 use Rattle.member_rows.proofs.+message_meets_messages_meet.Goals as goal
 
@@ -40,38 +39,23 @@ pub messages_meet-returns-then-left-eq0 : goal.messages_meet-returns-then-left-e
 unfolding rows.messages_meet
 messages_meet-returns-then-left-eq0 t c = rw c.if-left-eq0.true refl
 
-pub messages_meet-loop-f-init : goal.messages_meet-loop-f-init
-messages_meet-loop-f-init t c = (going_start _ _ _ _ _ _ _ _ _ _, c.requires.0, refl)
-
-pub messages_meet-shape_of-t-in-End : goal.messages_meet-shape_of-t-in-End
-messages_meet-shape_of-t-in-End t c = c.loop-f.invariant.2
-
-pub messages_meet-returns-in-End : goal.messages_meet-returns-in-End
-messages_meet-returns-in-End t c = going_end _ _ _ _ _ _ _ _ _ _ c.loop-f.invariant.0 _ c.read_step.ensures c.if-left-eq0.false c.in-End.is
-
-pub messages_meet-shape_of-t-in-Fault : goal.messages_meet-shape_of-t-in-Fault
-messages_meet-shape_of-t-in-Fault t c = c.loop-f.invariant.2
-
-pub messages_meet-returns-in-Fault : goal.messages_meet-returns-in-Fault
-messages_meet-returns-in-Fault t c = going_fault _ _ _ _ _ _ _ _ _ _ c.loop-f.invariant.0 _ c.read_step.ensures c.if-left-eq0.false _ c.in-Fault.is
+pub messages_meet-loop-p-init : goal.messages_meet-loop-p-init
+messages_meet-loop-p-init t c = (ap (ahead _ _ _ _ _ _ _ _) (c.into_iter-p-iterator.ensures.into_iter_gives ∙ c.new-p-items.ensures.parts) ∙ ahead_all _ _ _ _ _ _ _ _ _ c.if-left-eq0.false, c.requires.0, refl)
 
 pub messages_meet-message_meets-own-requires : goal.messages_meet-message_meets-own-requires
-messages_meet-message_meets-own-requires t c = (omega (arith, c.if-left-eq0.false), (omega (arith, c.loop-f.invariant.1, c.if-left-eq0.false), omega (arith, c.requires.1)))
+messages_meet-message_meets-own-requires t c = (omega (arith, c.if-left-eq0.false), (omega (arith, c.loop-p.invariant.1, c.if-left-eq0.false), omega (arith, c.requires.1)))
 
 pub messages_meet-shape_of-t-then-own : goal.messages_meet-shape_of-t-then-own
-messages_meet-shape_of-t-then-own t c = c.message_meets-own.auto.t ∙ c.loop-f.invariant.2
+messages_meet-shape_of-t-then-own t c = c.message_meets-own.auto.t ∙ c.loop-p.invariant.2
 
 pub messages_meet-returns-then-own : goal.messages_meet-returns-then-own
-messages_meet-returns-then-own t c = going_hit _ _ _ _ _ _ _ _ _ _ c.loop-f.invariant.0 _ c.read_step.ensures c.if-left-eq0.false _ c.in-Found.is c.if-f-number.true _ c.embedded-p.ensures _ c.loop-f.invariant.2 _ c.message_meets-own.ensures c.if-own.true
+messages_meet-returns-then-own t c = ahead_hit _ _ _ _ _ _ _ _ _ _ _ c.loop-p.invariant.2 _ c.message_meets-own.ensures c.if-own.true ∙ ap (ahead _ _ _ _ _ _ _ _) (sym c.in-Some.ensures.steps) ∙ c.loop-p.invariant.0
 
-pub messages_meet-loop-f-smaller-then-f-number : goal.messages_meet-loop-f-smaller-then-f-number
-messages_meet-loop-f-smaller-then-f-number t c = search places
+pub messages_meet-loop-p-preserved : goal.messages_meet-loop-p-preserved
+messages_meet-loop-p-preserved t c = (rw c.message_row-k.ensures.0 (ahead_miss _ _ _ _ _ _ _ _ _ _ _ c.loop-p.invariant.2 _ c.message_meets-own.ensures c.if-own.false ∙ ap (ahead _ _ _ _ _ _ _ _) (sym c.in-Some.ensures.steps) ∙ c.loop-p.invariant.0), omega (arith, c.message_row-k.ensures.2, c.requires.1), c.message_meets-own.auto.t ∙ c.loop-p.invariant.2)
 
-pub messages_meet-loop-f-preserved-then-f-number : goal.messages_meet-loop-f-preserved-then-f-number
-messages_meet-loop-f-preserved-then-f-number t c = (going_miss _ _ _ _ _ _ _ _ _ _ c.loop-f.invariant.0 _ c.read_step.ensures c.if-left-eq0.false _ c.in-Found.is c.if-f-number.true _ c.embedded-p.ensures _ c.loop-f.invariant.2 _ c.message_meets-own.ensures c.if-own.false _ c.message_row-row.ensures.0, omega (arith, c.message_row-row.ensures.2, c.requires.1), c.message_meets-own.auto.t ∙ c.loop-f.invariant.2)
+pub messages_meet-shape_of-t : goal.messages_meet-shape_of-t
+messages_meet-shape_of-t t c = c.loop-p.invariant.2
 
-pub messages_meet-loop-f-smaller : goal.messages_meet-loop-f-smaller
-messages_meet-loop-f-smaller t c = search places
-
-pub messages_meet-loop-f-preserved : goal.messages_meet-loop-f-preserved
-messages_meet-loop-f-preserved t c = (going_skip _ _ _ _ _ _ _ _ _ _ c.loop-f.invariant.0 _ c.read_step.ensures c.if-left-eq0.false _ c.in-Found.is c.if-f-number.false, c.loop-f.invariant.1, c.loop-f.invariant.2)
+pub messages_meet-returns : goal.messages_meet-returns
+messages_meet-returns t c = ahead_none _ _ _ _ _ _ _ _ ∙ ap (ahead _ _ _ _ _ _ _ _) (sym c.in-None.ensures.steps.0) ∙ c.loop-p.invariant.0

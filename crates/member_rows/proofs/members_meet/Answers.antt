@@ -1,41 +1,34 @@
 use native.Mathlib.Omega.{arith}
-use mathlib.Core.Path.{refl, ◌∙◌}
-use Rattle.wire.proofs.RecordsLaws.{places}
-use Rattle.member_rows.proofs.WalkLaws.{passing_start, passing_end, passing_fault, passing_skip, passing_hit, passing_miss}
+use mathlib.Core.Path.{refl, sym, ap, ◌∙◌}
+use Rattle.member_rows.specs.MemberRows.{files_meet, set_meets}
+use Rattle.member_rows.proofs.WalkLaws.{files_none, files_hit, files_miss}
 use Rattle.member_rows.proofs.members_meet.Goals as goal
 
-pub loop-f-init : goal.loop-f-init
-loop-f-init c = (passing_start _ _ _ _ _, omega arith, refl)
-
-pub shape_of-t-in-End : goal.shape_of-t-in-End
-shape_of-t-in-End c = c.loop-f.invariant.2
-
-pub returns-in-End : goal.returns-in-End
-returns-in-End c = passing_end _ _ _ _ _ c.loop-f.invariant.0 _ c.read_step.ensures c.in-End.is
-
-pub shape_of-t-in-Fault : goal.shape_of-t-in-Fault
-shape_of-t-in-Fault c = c.loop-f.invariant.2
-
-pub returns-in-Fault : goal.returns-in-Fault
-returns-in-Fault c = passing_fault _ _ _ _ _ c.loop-f.invariant.0 _ c.read_step.ensures _ c.in-Fault.is
+pub loop-p-init : goal.loop-p-init
+unfolding set_meets
+loop-p-init c = (ap (files_meet _ _ _ _ _ _) (c.into_iter-p-iterator.ensures.into_iter_gives ∙ c.new-p-items.ensures.parts), omega arith, refl)
 
 pub file_meets-meets-requires : goal.file_meets-meets-requires
-file_meets-meets-requires c = c.loop-f.invariant.1
+file_meets-meets-requires c = c.loop-p.invariant.1
 
 pub shape_of-t-then-meets : goal.shape_of-t-then-meets
-shape_of-t-then-meets c = c.file_meets-meets.auto.t ∙ c.loop-f.invariant.2
+shape_of-t-then-meets c = c.file_meets-meets.auto.t ∙ c.loop-p.invariant.2
 
 pub returns-then-meets : goal.returns-then-meets
-returns-then-meets c = passing_hit _ _ _ _ _ c.loop-f.invariant.0 _ c.read_step.ensures _ c.in-Found.is c.if-f-eq1.true _ c.embedded-p.ensures _ c.loop-f.invariant.2 _ c.file_meets-meets.ensures c.if-meets.true
+returns-then-meets c = files_hit _ _ _ _ _ _ _ _ _ c.loop-p.invariant.2 _ c.file_meets-meets.ensures c.if-meets.true ∙ ap (files_meet _ _ _ _ _ _) (sym c.in-Some.ensures.steps) ∙ c.loop-p.invariant.0
 
-pub loop-f-smaller-then-f-eq1 : goal.loop-f-smaller-then-f-eq1
-loop-f-smaller-then-f-eq1 c = search places
+pub loop-p-preserved : goal.loop-p-preserved
+loop-p-preserved c = (
+  rw (c.behind-i.ensures.0, c.count_parts.ensures)
+      (files_miss _ _ _ _ _ _ _ _ _ c.loop-p.invariant.2 _ c.file_meets-meets.ensures c.if-meets.false
+      ∙ ap (files_meet _ _ _ _ _ _) (sym c.in-Some.ensures.steps)
+      ∙ c.loop-p.invariant.0),
+  c.behind-i.ensures.1 c.loop-p.invariant.1,
+  c.file_meets-meets.auto.t ∙ c.loop-p.invariant.2,
+)
 
-pub loop-f-preserved-then-f-eq1 : goal.loop-f-preserved-then-f-eq1
-loop-f-preserved-then-f-eq1 c = (passing_miss _ _ _ _ _ c.loop-f.invariant.0 _ c.read_step.ensures _ c.in-Found.is c.if-f-eq1.true _ c.embedded-p.ensures _ c.loop-f.invariant.2 _ c.file_meets-meets.ensures c.if-meets.false _ c.count_parts-n.ensures _ c.behind-i.ensures.0, c.behind-i.ensures.1 c.loop-f.invariant.1, c.file_meets-meets.auto.t ∙ c.loop-f.invariant.2)
+pub shape_of-t : goal.shape_of-t
+shape_of-t c = c.loop-p.invariant.2
 
-pub loop-f-smaller : goal.loop-f-smaller
-loop-f-smaller c = search places
-
-pub loop-f-preserved : goal.loop-f-preserved
-loop-f-preserved c = (passing_skip _ _ _ _ _ c.loop-f.invariant.0 _ c.read_step.ensures _ c.in-Found.is c.if-f-eq1.false, c.loop-f.invariant.1, c.loop-f.invariant.2)
+pub returns : goal.returns
+returns c = files_none _ _ _ _ _ _ ∙ ap (files_meet _ _ _ _ _ _) (sym c.in-None.ensures.steps.0) ∙ c.loop-p.invariant.0

@@ -12,4 +12,4 @@ pub returns : goal.returns
 unfolding struct_meets
 returns c =
     let v = c.args in
-    laid (named (ap (λ (ks : List ℕ). field_rows v.set.now v.fields.now false ks ++ oneof_rows v.messages.now v.fields.now v.i v.p.now) (members_are v.messages.now v.fields.now v.p.now 0 v.i c.fields_of-range.ensures.0 c.fields_of-range.ensures.1)) (c.put_fields-a.ensures ► c.put_oneofs-a.ensures)) c.within-n.ensures _ c.rows_meet.ensures
+    laid (named (ap (λ (ks : List ℕ). field_rows v.set.now v.fields.now false ks ++ oneof_rows v.messages.now v.fields.now v.i v.p.now) (members_are v.messages.now v.fields.now v.p.now 0 v.i c.fields_of-range.ensures.0 c.fields_of-range.ensures.1)) (c.put_fields-a.ensures ► c.put_oneofs-a.ensures)) c.min-n.ensures _ c.rows_meet.ensures
