@@ -4,8 +4,10 @@ use Rattle.std.specs.Prelude.{Bool, true, false, not, ◌&&◌, ◌||◌, List, 
 use Rattle.message_graph.specs.Limit.{messages}
 use Rattle.message_graph.specs.Fields.{Fields, size, owner_of, target_of, kind_of, label_of}
 use Rattle.message_graph.specs.Leads.{leadsb}
+use Rattle.message_graph.specs.declared.Field.{Field}
+use Rattle.message_graph.specs.Rows.{message_of, fields_of, settings_of}
 use Rattle.derives.specs.declared.Derive.{Derive}
-use Rattle.derives.specs.Rules.{rule, turn}
+use Rattle.derives.specs.Rules.{rule}
 
 -- p at each place below n
 unfoldable pub every : ℕ → (ℕ → Bool) → Bool
@@ -32,6 +34,10 @@ can_message_derive d f set x = message_can d f set messages x
 unfoldable pub can_field_derive : Derive → Fields → List Bool → ℕ → Bool
 can_field_derive d f set i = field_can d f set (can_message_derive d f set) i
 
--- what the answer of the field i turns on, where no loop is tested for
-unfoldable pub turn_at : Derive → (kind label : List ℕ) → List Bool → ℕ → ℕ
-turn_at d kind label set i = turn (rule d (get_or kind i 0) (get_or label i 0) false (get_or set i false))
+-- the answer of the message x, over rows
+abbrev pub answer_of : Derive → List Field → ℕ → Bool
+answer_of d rows = can_message_derive d (fields_of rows) (settings_of rows)
+
+-- the answer of a row, as `can_field_derive` gives it at the row's place
+abbrev pub row_can : Derive → List Field → Field → Bool
+row_can d rows r = rule d r.kind r.label (leadsb (fields_of rows) (message_of r.target) (message_of r.owner)) r.boxed (answer_of d rows (message_of r.target))

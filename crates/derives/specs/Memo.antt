@@ -1,34 +1,33 @@
--- The answers that are known: 1 can, 2 cannot; and where the fields of each message are. Assumes nothing.
-use Rattle.std.specs.Prelude.{◌≡◌, ◌⊎◌, Bool, true, false, not, ◌&&◌, List, ℕ, ◌+◌, ◌*◌, ◌≤◌, ◌<◌, eqb, length, get_or}
+-- The answers that are known: whether a message can, or nothing. Assumes nothing.
+use Rattle.std.specs.Prelude.{◌≡◌, ◌⊎◌, Bool, true, false, Option, Some, None, List, ℕ, ◌≤◌, length, get_or}
 use Rattle.message_graph.specs.Limit.{messages}
-use Rattle.message_graph.specs.Fields.{Fields, message_at}
+use Rattle.message_graph.specs.declared.Field.{Field}
+use Rattle.message_graph.specs.Rows.{fields_of}
 use Rattle.message_graph.specs.Leads.{Leads}
 use Rattle.derives.specs.declared.Derive.{Derive}
-use Rattle.derives.specs.Can.{can_message_derive}
+use Rattle.derives.specs.Can.{answer_of}
 use Rattle.derives.specs.Depth.{count}
 
 -- how many answers are unknown
-unfoldable pub is_unknown : ℕ → Bool
-is_unknown v = not (eqb v 1) && not (eqb v 2)
+unfoldable pub is_unknown : Option Bool → Bool
+is_unknown (Some can) = false
+is_unknown None = true
 
-unfoldable pub unknown : List ℕ → ℕ
-unknown ms = count messages (λ y. is_unknown (get_or ms y 0))
+abbrev pub known_at : List (Option Bool) → ℕ → Option Bool
+known_at ms y = get_or ms y None
 
--- the known answers while the fields of x are looked at: the answer of what leads to x may be sought still, and is held to be 2
-pub record Memo (d : Derive) (f : Fields) (set : List Bool) (ms : List ℕ) (x : ℕ) : Type 0 where
+unfoldable pub unknown : List (Option Bool) → ℕ
+unknown ms = count messages (λ y. is_unknown (known_at ms y))
+
+-- the known answers while the fields of x are looked at: the answer of what leads to x may be sought still, and is held to be that it cannot
+pub record Memo (d : Derive) (rows : List Field) (ms : List (Option Bool)) (x : ℕ) : Type 0 where
   pub size : length ms ≡ messages
-  pub can : (y : ℕ) → get_or ms y 0 ≡ 1 → can_message_derive d f set y ≡ true
-  pub cannot : (y : ℕ) → get_or ms y 0 ≡ 2 → (can_message_derive d f set y ≡ false) ⊎ Leads f y x
+  pub can : (y : ℕ) → known_at ms y ≡ Some true → answer_of d rows y ≡ true
+  pub cannot : (y : ℕ) → known_at ms y ≡ Some false → (answer_of d rows y ≡ false) ⊎ Leads (fields_of rows) y x
 
--- from some known answers to more: a 2 that is new is an answer
-pub record Kept (d : Derive) (f : Fields) (set : List Bool) (old new : List ℕ) : Type 0 where
+-- from some known answers to more: that a message cannot, where it is new, is its answer
+pub record Kept (d : Derive) (rows : List Field) (old new : List (Option Bool)) : Type 0 where
   pub size : length new ≡ length old
-  pub can : (y : ℕ) → get_or new y 0 ≡ 1 → can_message_derive d f set y ≡ true
-  pub cannot : (y : ℕ) → get_or new y 0 ≡ 2 → (can_message_derive d f set y ≡ false) ⊎ (get_or old y 0 ≡ 2)
+  pub can : (y : ℕ) → known_at new y ≡ Some true → answer_of d rows y ≡ true
+  pub cannot : (y : ℕ) → known_at new y ≡ Some false → (answer_of d rows y ≡ false) ⊎ (known_at old y ≡ Some false)
   pub fewer : unknown new ≤ unknown old
-
--- a field of the message x stands from the place at 2x on, and before the place at 2x + 1
-pub record Ranged (owner ranges : List ℕ) : Type 0 where
-  pub within : (y : ℕ) → get_or ranges y 0 ≤ length owner
-  pub low : (i : ℕ) → i < length owner → get_or ranges (2 * message_at owner i) 0 ≤ i
-  pub high : (i : ℕ) → i < length owner → i < get_or ranges (2 * message_at owner i + 1) 0

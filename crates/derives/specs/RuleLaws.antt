@@ -1,7 +1,7 @@
 -- The rule of a field either doesn't look at the answer of its type's message, or gives it; this only at a link that isn't in a loop.
 -- Assumes nothing.
-use Rattle.std.specs.Prelude.{◌≡◌, refl, Bool, not, ◌&&◌, ℕ, eqb}
-use Rattle.std.proofs.Common.{sym, ◌∙◌, ap, ⊎_elim, arith}
+use Rattle.std.specs.Prelude.{◌≡◌, refl, Bool, Some, None, not, ◌&&◌, ℕ, eqb}
+use Rattle.std.proofs.Common.{sym, ◌∙◌, ap, ⊎_elim}
 use Rattle.std.proofs.Math.Bool.{true, false}
 use Rattle.base.specs.Choose.{choose}
 use Rattle.base.specs.Tests.{bool_cases, both_ways}
@@ -82,12 +82,12 @@ link_none Eq kind label looped set e = eq_none (eqb label label_repeated) (eqb k
 
 -- ---- what a field turns on
 
-turn_fixed : (answer : Bool → Bool) (r : Bool) → ((c : Bool) → answer c ≡ r) → turn answer ≡ choose r 1 0
+turn_fixed : (answer : Bool → Bool) (r : Bool) → ((c : Bool) → answer c ≡ r) → turn answer ≡ Some r
 unfolding turn choose
 turn_fixed answer true h = rw (h true, h false)
 turn_fixed answer false h = rw (h true)
 
-turn_same : (answer : Bool → Bool) → ((c : Bool) → answer c ≡ c) → turn answer ≡ 2
+turn_same : (answer : Bool → Bool) → ((c : Bool) → answer c ≡ c) → turn answer ≡ None
 unfolding turn choose
 turn_same answer h = rw (h true, h false)
 
@@ -98,23 +98,13 @@ pub record ByType (answer : Bool → Bool) (is_link looped : Bool) : Type 0 wher
   pub free : looped ≡ false
 
 module _ {answer : Bool → Bool} {is_link looped : Bool} where
-  pub turn_cannot : Shape answer is_link looped → turn answer ≡ 0 → (c : Bool) → answer c ≡ false
-  unfolding choose
-  turn_cannot (fixed true h) e c = let t = turn_fixed answer true h in absurd (omega arith)
-  turn_cannot (fixed false h) e c = h c
-  turn_cannot (by_type h l o) e c = let t = turn_same answer h in absurd (omega arith)
+  pub turn_told : Shape answer is_link looped → (r : Bool) → turn answer ≡ Some r → (c : Bool) → answer c ≡ r
+  turn_told (fixed s h) r e c = let t = turn_fixed answer s h in h c ∙ cc
+  turn_told (by_type h l o) r e c = let t = turn_same answer h in cc
 
-  pub turn_can : Shape answer is_link looped → turn answer ≡ 1 → (c : Bool) → answer c ≡ true
-  unfolding choose
-  turn_can (fixed true h) e c = h c
-  turn_can (fixed false h) e c = let t = turn_fixed answer false h in absurd (omega arith)
-  turn_can (by_type h l o) e c = let t = turn_same answer h in absurd (omega arith)
-
-  pub turn_type : Shape answer is_link looped → (turn answer ≡ 0 → ⊥) → (turn answer ≡ 1 → ⊥) → ByType answer is_link looped
-  unfolding choose
-  turn_type (fixed true h) no' yes' = absurd (yes' (turn_fixed answer true h))
-  turn_type (fixed false h) no' yes' = absurd (no' (turn_fixed answer false h))
-  turn_type (by_type h l o) no' yes' = record { same = h; link = l; free = o }
+  pub turn_type : Shape answer is_link looped → turn answer ≡ None → ByType answer is_link looped
+  turn_type (fixed s h) e = let t = turn_fixed answer s h in absurd cc
+  turn_type (by_type h l o) e = record { same = h; link = l; free = o }
 
   -- an answer goes by the message's answer at most
   pub shape_same : Shape answer is_link looped → (x y : Bool) → (is_link ≡ true → looped ≡ false → x ≡ y) → answer x ≡ answer y

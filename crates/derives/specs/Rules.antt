@@ -1,5 +1,5 @@
 -- What the answer of one field turns on: `can_field_derive_copy` and `can_field_derive_eq` of context.rs. Assumes nothing.
-use Rattle.std.specs.Prelude.{Bool, true, false, ℕ, eqb}
+use Rattle.std.specs.Prelude.{Bool, true, false, Option, Some, None, ℕ, eqb}
 use Rattle.base.specs.Choose.{choose}
 use Rattle.field_types.specs.Types.{can_pack, type_eq}
 use Rattle.message_graph.specs.Fields.{type_message, label_repeated}
@@ -25,6 +25,6 @@ unfoldable pub rule : Derive → (kind label : ℕ) (looped set can : Bool) → 
 rule Copy kind label looped set can = can_field_derive_copy kind label looped set can
 rule Eq kind label looped set can = can_field_derive_eq kind label looped can
 
--- what an answer turns on, as a function of the answer of the field's type: 0 it cannot, 1 it can, 2 as the type
-unfoldable pub turn : (Bool → Bool) → ℕ
-turn answer = choose (answer true) (choose (answer false) 1 2) 0
+-- the answer of a field, as a function of the answer of its type's message, where it doesn't turn on that
+unfoldable pub turn : (Bool → Bool) → Option Bool
+turn answer = choose (answer true) (choose (answer false) (Some true) None) (Some false)

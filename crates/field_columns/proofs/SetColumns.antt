@@ -26,7 +26,7 @@ use Rattle.field_columns.specs.Columns.{owner_of, owner_at, column_of, byte_of, 
 -- ---- tables as lists
 
 module _ {ℓ κ} {A : Type ℓ} {B : Type κ} (g : A → B) where
-  map_tab : (n : ℕ) (f : ℕ → A) → map g (tab n f) ≡ tab n (λ i. g (f i))
+  pub map_tab : (n : ℕ) (f : ℕ → A) → map g (tab n f) ≡ tab n (λ i. g (f i))
   unfolding tab
   map_tab zero f = refl
   map_tab (suc n) f = map-append g (tab n f) (f n ∷ []) ∙ ap (λ (l : List B). l ++ (g (f n) ∷ [])) (map_tab n f)

@@ -61,9 +61,6 @@ module _ (fields : List ℕ) (count : ℕ) where
       omega arith
 
   module _ (i k : ℕ) (passed : k ≤ first_failing (before i) rows) where
-    pub start_end : count ≤ k → k ≡ first_failing (before i) rows
-    start_end h = let w = start_within i in omega arith
-
     module _ (h : k < count) (row : Row) (is : row ≡ row_at fields k) (up : ℕ) (up_is : up ≡ row.up) where
       row_here : get_or rows k row ≡ row
       row_here = tab_at count (row_at fields) row k h ∙ sym is

@@ -1,5 +1,4 @@
-// Columns over the fields of a set in declaration order: whose field each is, and where each message's fields begin; and what
-// the columns of types and labels are read from.
+//! What a row of a table of fields says: whose field it is, its type and label; and where each message's fields begin.
 #![tactic(auto)]
 
 ghost use Rattle.std.specs.Prelude.{◌≡◌, ◌<◌, ◌≤◌, length};
@@ -12,39 +11,28 @@ ghost use Rattle.field_columns.specs.Columns.{owner_of, owner_at, view_at, byte_
 use descriptor::{FieldView, Number};
 use message_graph::{Index, MESSAGES};
 
-// The number of the message that a row with this `up` stands in.
+// The most rows that a table has.
+const MOST_ROWS: usize = 65535;
+
+// The number of the message that a row with this `up` stands in; 0 for a number that no message can have.
 fn owner_of(up: u16) -> Index
     ensures { result ≡ owner_of up }
 {
-    if up == 0 {
-        return 0;
-    }
-    let i = wide(up - 1);
+    let i = usize::from(up).saturating_sub(1);
     if i < MESSAGES {
         return i as Index;
     }
     0
 }
 
-fn wide(x: u16) -> usize
-    ensures { result ≡ x }
+/// The number of the message that has field `i`.
+pub fn owner_at(fields: &[u16], i: usize) -> Index
+    ensures { result ≡ owner_at fields.now i }
 {
-    x as usize
+    owner_of(index::row_of(fields, i).up)
 }
 
-// For each place of `owner`, the number of the message that has the field there.
-pub fn fill_owners(fields: &[u16], owner: &mut [Index])
-    ensures { owner.new ≡ tab (length owner.old) (owner_at fields.now) }
-{
-    let mut i = 0;
-    while i < owner.len() {
-        let row = index::row_of(fields, i);
-        owner[i] = owner_of(row.up);
-        i += 1;
-    }
-}
-
-// A number in one byte; 1 where it is not given, 0 where it is over 255.
+/// A number in one byte; 1 where it is not given, 0 where it is over 255.
 pub fn byte_of(n: Number) -> u8
     ensures { result ≡ byte_of (or_else 1 (number_of n)) }
 {
@@ -57,23 +45,20 @@ pub fn byte_of(n: Number) -> u8
     1
 }
 
-// The view of field `i`.
+/// The view of field `i`.
 pub fn view_at(set: &[u8], fields: &[u16], i: usize) -> FieldView
     ensures { result ≡ view_at set.now fields.now i }
 {
     let row = index::row_of(fields, i);
-    let start = wide(row.start);
-    let end = wide(row.end);
+    let start = usize::from(row.start);
+    let end = usize::from(row.end);
     descriptor::field_view(set, start, end)
 }
 
 fn rows_counted(count: usize) -> usize
     ensures { (result ≡ rows_counted count) × (result < 65536) }
 {
-    if 65535 < count {
-        return 65535;
-    }
-    count
+    count.min(MOST_ROWS)
 }
 
 // The first row from row `k` on that belongs to message `i` or a later one.
@@ -81,35 +66,23 @@ fn start_from(fields: &[u16], count: usize, i: usize, k: usize) -> usize
     requires { k ≤ first_failing (before i) (first_rows fields.now count) }
     ensures { result ≡ first_failing (before i) (first_rows fields.now count) }
 {
-    let mut n = k;
-    while n < count {
-        let row = index::row_of(fields, n);
-        let up = wide(row.up);
+    for n in k..count {
+        let up = usize::from(index::row_of(fields, n).up);
         if i < up {
             return n;
         }
-        n += 1;
     }
-    n
+    count
 }
 
-fn short(n: usize) -> u16
-    requires { n < 65536 }
-    ensures { result ≡ n }
-{
-    n as u16
-}
-
-// For each place of `first`, the row where the fields of the message with that number begin, of `count` rows.
+/// For each place of `first`, the row where the fields of the message with that number begin, of `count` rows.
 pub fn fill_starts(fields: &[u16], count: usize, first: &mut [u16])
     ensures { first.new ≡ tab (length first.old) (start_at fields.now count) }
 {
     let rows = rows_counted(count);
-    let mut k: usize = 0;
-    let mut i = 0;
-    while i < first.len() {
+    let mut k = 0;
+    for (i, start) in first.iter_mut().enumerate() {
         k = start_from(fields, rows, i, k);
-        first[i] = short(k);
-        i += 1;
+        *start = k as u16;
     }
 }

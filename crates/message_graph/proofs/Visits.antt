@@ -1,11 +1,10 @@
 -- What a visit does to the marks. Assumes nothing.
-use mathlib.Core.Path.{◌≡◌, refl, sym, ◌∙◌, subst}
-use mathlib.Core.Bool.{Bool, true, false, true≢false, ◌&&◌}
+use mathlib.Core.Path.{◌≡◌, refl, sym, ◌∙◌, ap, subst}
+use mathlib.Core.Bool.{Bool, true, false, true≢false}
 use mathlib.Core.Logic.{◌⊎◌, inl, inr, ⊎_elim}
 use mathlib.Core.List.{List, [], ◌∷◌}
 use Prim.Native.Nat.{ℕ, zero, suc, ◌+◌, ◌≤◌, ◌<◌, suc-le-suc}
-use native.Mathlib.Nat.{le_of_suc-le-suc, not-suc-le-zero, le_refl, eq-or-lt_of_le}
-use native.Mathlib.Numerals.{add-one}
+use native.Mathlib.Nat.{le_of_suc-le-suc, not-suc-le-zero, le_refl, le_trans}
 use native.Mathlib.Decide.{ℕ_discrete}
 use native.Mathlib.Omega.{arith}
 use lib.Dec.{eqb}
@@ -13,11 +12,15 @@ use lib.ListN.{length, get_or, set, length-set, replicate}
 use lib.Seq.{get_or-set_same, get_or-set_other}
 use borrow.Author.Tests.{eqb-true, eq-eqb}
 use Rattle.base.specs.Tests.{and_left, and_right, and_both, both_ways}
-use Rattle.message_graph.specs.Fields.{Fields, owner_of, target_of, link}
+use borrow.Author.Count.{below_more}
+use Rattle.message_graph.specs.Fields.{Fields, is_link}
+use Rattle.message_graph.specs.declared.Field.{Field}
+use Rattle.message_graph.specs.Rows.{row_at, fields_of, message_of, is_link_of, Part}
+use Rattle.message_graph.proofs.RowLaws.{owner_row, target_row, link_row, length-fields_of}
 use Rattle.message_graph.specs.Leads.{Link, Leads, leadsb}
 use Rattle.message_graph.specs.Leads.Leads.{here, step}
 use Rattle.message_graph.specs.Decided.{join, same_test, leads_sound, leads_complete}
-use Rattle.message_graph.specs.Marks.{Firsts, Ends, Marked, Done, clear, Visited}
+use Rattle.message_graph.specs.Marks.{Marked, Done, clear, Visited}
 
 -- marks
 
@@ -40,68 +43,67 @@ off zero x = refl
 off (suc n) zero = refl
 off (suc n) (suc x) = off n x
 
--- a visit to x that has come to the field i, from the first one, j; the marks were `base`, x's among them
-pub record Visiting (f : Fields) (base ms : List Bool) (x j i : ℕ) : Type 0 where
+-- a visit to x that has come to the place j of a part of the fields; the marks were `base`, x's among them
+pub record Visiting (f : Fields) (part : List Field) (base ms : List Bool) (x j : ℕ) : Type 0 where
   pub size : length ms ≡ length base
   pub keeps : (y : ℕ) → Marked base y → Marked ms y
   pub led : (a : ℕ) → Leads f a x → ((y : ℕ) → Marked base y → Leads f a y) → (y : ℕ) → Marked ms y → Leads f a y
   pub done : (y : ℕ) → Marked ms y → Marked base y ⊎ Done f ms y
-  pub so_far : (k : ℕ) → j ≤ k → k < i → link f k ≡ true → owner_of f k ≡ x → Marked ms (target_of f k)
+  pub so_far : (k : ℕ) → k < j → is_link_of (row_at part k) x ≡ true → Marked ms (message_of (row_at part k).target)
   pub most : clear ms ≤ clear base
 
-pub visiting_start : (f : Fields) (base : List Bool) (x j : ℕ) → Visiting f base base x j j
-visiting_start f base x j = record { size = refl; keeps = λ y e. e; led = λ a p h. h; done = λ y e. inl e; so_far = λ k h g. absurd (omega arith); most = le_refl _ }
+pub visiting_start : (f : Fields) (part : List Field) (base : List Bool) (x : ℕ) → Visiting f part base base x 0
+visiting_start f part base x = record { size = refl; keeps = λ y e. e; led = λ a p h. h; done = λ y e. inl e; so_far = λ k h. absurd (omega arith); most = le_refl _ }
 
-module _ {f : Fields} {base ms : List Bool} {x j i : ℕ} (v : Visiting f base ms x j i) where
-  next_so_far : (new : List Bool) → ((y : ℕ) → Marked ms y → Marked new y) → (link f i ≡ true → owner_of f i ≡ x → Marked new (target_of f i)) → (k : ℕ) → j ≤ k → k < i + 1 → link f k ≡ true → owner_of f k ≡ x → Marked new (target_of f k)
-  next_so_far new keeps m k h g =
-      ⊎_elim (λ e. subst (λ (z : ℕ). link f z ≡ true → owner_of f z ≡ x → Marked new (target_of f z)) (sym e) m) (λ l is own. keeps _ (v.so_far k h l is own)) (eq-or-lt_of_le (le_of_suc-le-suc (rw add-one at g)))
-
-  there : (link f i ≡ true → owner_of f i ≡ x → Marked ms (target_of f i)) → Visiting f base ms x j (i + 1)
-  there m = record { size = v.size; keeps = v.keeps; led = v.led; done = v.done; so_far = next_so_far ms (λ y e. e) m; most = v.most }
-
-  -- the field is no link of x
-  pub visiting_past : (r : Bool) → r ≡ (eqb (owner_of f i) x && link f i) → r ≡ false → Visiting f base ms x j (i + 1)
-  visiting_past r e no' = there (λ is own. both_ways (and_both (eq-eqb (owner_of f i) x own) is) (sym e ∙ no'))
-
-  -- what the link goes to has its mark
-  pub visiting_there : (t : ℕ) → t ≡ target_of f i → Marked ms t → Visiting f base ms x j (i + 1)
-  visiting_there t is m = there (λ l own. rw is at m)
+module _ {f : Fields} {part : List Field} {base ms : List Bool} {x j : ℕ} (v : Visiting f part base ms x j) where
+  -- the field is no link of x, or its type has its mark
+  pub visiting_past : (is_link_of (row_at part j) x ≡ true → Marked ms (message_of (row_at part j).target)) → Visiting f part base ms x (j + 1)
+  visiting_past m = record { size = v.size; keeps = v.keeps; led = v.led; done = v.done; so_far = below_more _ j v.so_far m; most = v.most }
 
   -- it is visited
-  pub visiting_on : {new : List Bool} (t : ℕ) → t ≡ target_of f i → Link f x t → Visited f ms new t → Visiting f base new x j (i + 1)
-  visiting_on {new} t is l w =
+  pub visiting_on : {new : List Bool} → Link f x (message_of (row_at part j).target) → Visited f ms new (message_of (row_at part j).target) → Visiting f part base new x (j + 1)
+  visiting_on {new} l w =
       let most = v.most in
       let fewer = w.fewer in
       record {
         size = w.size ∙ v.size;
         keeps = λ y e. w.keeps y (v.keeps y e);
         led = λ a p h y e. w.led a (join p (step l here)) (v.led a p h) y e;
-        done = λ y e. ⊎_elim (λ m. ⊎_elim inl (λ d. inr (λ k lt is' own. w.keeps _ (d k lt is' own))) (v.done y m)) inr (w.done y e);
-        so_far = next_so_far new w.keeps (λ is' own. rw is at w.here);
+        done = λ y e. ⊎_elim (λ m. ⊎_elim inl (λ d. inr (λ k lt is own. w.keeps _ (d k lt is own))) (v.done y m)) inr (w.done y e);
+        so_far = below_more _ j (λ k h is. w.keeps _ (v.so_far k h is)) (λ is. w.here);
         most = omega arith;
       }
 
--- the field i, below the end of x's fields, is a link of x
-pub link_here : (f : Fields) {end : List ℕ} → Ends f.owner end → {x i last t : ℕ} → last ≡ get_or end x 0 → i < last → (r : Bool) → r ≡ (eqb (owner_of f i) x && link f i) → r ≡ true → t ≡ target_of f i → Link f x t
-link_here f {end} ends {x} {i} {last} is lt r e yes' to =
-    let within = ends.within x in
-    record { field = i; within = omega arith; is = and_right (eqb (owner_of f i) x) (link f i) (sym e ∙ yes'); from = eqb-true (owner_of f i) x (and_left (eqb (owner_of f i) x) (link f i) (sym e ∙ yes')); to = sym to }
+-- a link of x in a part of the fields is one of the graph
+pub link_here : {rows part : List Field} {x : ℕ} → Part rows part x → (k : ℕ) → k < length part → is_link_of (row_at part k) x ≡ true → Link (fields_of rows) x (message_of (row_at part k).target)
+link_here {rows} {part} {x} p k h is =
+    let place = p.within k h in
+    let row = row_at rows place.at in
+    let here : is_link_of row x ≡ true = subst (λ (r : Field). is_link_of r x ≡ true) (sym place.is) is in
+    record {
+      field = place.at;
+      within = rw length-fields_of place.below;
+      is = link_row rows place.at ∙ and_right (eqb (message_of row.owner) x) (is_link row.kind row.label) here;
+      from = owner_row rows place.at ∙ eqb-true (message_of row.owner) x (and_left (eqb (message_of row.owner) x) (is_link row.kind row.label) here);
+      to = target_row rows place.at ∙ ap (λ (r : Field). message_of r.target) place.is;
+    }
 
-pub visiting_end : {f : Fields} {first end : List ℕ} {old ms : List Bool} {x j i last : ℕ} → Firsts f.owner first → Ends f.owner end → Visiting f (set old x true) ms x j i → x < length old → get_or old x false ≡ false → j ≡ get_or first x 0 → last ≡ get_or end x 0 → last ≤ i → Visited f old ms x
-visiting_end {f} {first} {end} {old} {ms} {x} {j} {i} {last} lows highs v below off from to past =
+-- at the end of a part that has all of x's fields, all that x has a link to has its mark
+pub visiting_end : {rows part : List Field} {old ms : List Bool} {x j : ℕ} → Part rows part x → Visiting (fields_of rows) part (set old x true) ms x j → length part ≤ j → x < length old → get_or old x false ≡ false → Visited (fields_of rows) old ms x
+visiting_end {rows} {part} {old} {ms} {x} p v last below off =
     let less = clear_set old x below off in
     let most = v.most in
-    let x_done : Done f ms x = λ k lt is own.
-    let low : get_or first x 0 ≤ k = subst (λ (y : ℕ). get_or first y 0 ≤ k) own (lows.low k lt) in
-    let high : k < get_or end x 0 = subst (λ (y : ℕ). k < get_or end y 0) own (highs.high k lt) in
-    v.so_far k (omega arith) (omega arith) is own in
+    let x_done : Done (fields_of rows) ms x = λ i lt is own.
+    let place = p.all i (rw length-fields_of at lt) (sym (owner_row rows i) ∙ own) in
+    let link_of_x : is_link_of (row_at rows i) x ≡ true = and_both (eq-eqb (message_of (row_at rows i).owner) x (sym (owner_row rows i) ∙ own)) (sym (link_row rows i) ∙ is) in
+    let marked : Marked ms (message_of (row_at part place.at).target) = v.so_far place.at (le_trans place.below last) (subst (λ (r : Field). is_link_of r x ≡ true) (sym place.is) link_of_x) in
+    subst (λ (y : ℕ). Marked ms y) (ap (λ (r : Field). message_of r.target) place.is ∙ sym (target_row rows i)) marked in
     record {
       size = v.size ∙ length-set old x true;
       keeps = λ y e. v.keeps y (marked_set old x y below e);
       here = v.keeps x (get_or-set_same old x true false below);
-      led = λ a p h y e. v.led a p (λ z m. ⊎_elim (λ q. subst (λ (u : ℕ). Leads f a u) (sym q) p) (h z) (unmark old x z m)) y e;
-      done = λ y e. ⊎_elim (λ m. ⊎_elim (λ q. inr (subst (λ (u : ℕ). Done f ms u) (sym q) x_done)) inl (unmark old x y m)) inr (v.done y e);
+      led = λ a p h y e. v.led a p (λ z m. ⊎_elim (λ q. subst (λ (u : ℕ). Leads (fields_of rows) a u) (sym q) p) (h z) (unmark old x z m)) y e;
+      done = λ y e. ⊎_elim (λ m. ⊎_elim (λ q. inr (subst (λ (u : ℕ). Done (fields_of rows) ms u) (sym q) x_done)) inl (unmark old x y m)) inr (v.done y e);
       fewer = omega arith;
     }
 

@@ -1,5 +1,6 @@
 pub mod Limit
 pub mod Fields
+pub mod Rows
 pub mod Walks
 pub mod Leads
 pub mod Decided

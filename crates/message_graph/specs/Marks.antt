@@ -1,16 +1,7 @@
--- What the search keeps: a mark for each message, and where the fields of each message begin and end. Assumes nothing.
-use Rattle.std.specs.Prelude.{◌≡◌, ◌⊎◌, Bool, true, false, List, [], ◌∷◌, ℕ, suc, ◌≤◌, ◌<◌, length, get_or}
-use Rattle.message_graph.specs.Fields.{Fields, size, owner_of, target_of, link, message_at}
+-- What the search keeps: a mark for each message. Assumes nothing.
+use Rattle.std.specs.Prelude.{◌≡◌, ◌⊎◌, Bool, true, false, List, [], ◌∷◌, ℕ, suc, ◌<◌, length, get_or}
+use Rattle.message_graph.specs.Fields.{Fields, size, owner_of, target_of, link}
 use Rattle.message_graph.specs.Leads.{Leads}
-
--- no field of a message stands before the message's entry in `first`
-pub record Firsts (owner first : List ℕ) : Type 0 where
-  pub low : (i : ℕ) → i < length owner → get_or first (message_at owner i) 0 ≤ i
-
--- each stands before its entry in `end`
-pub record Ends (owner end : List ℕ) : Type 0 where
-  pub within : (x : ℕ) → get_or end x 0 ≤ length owner
-  pub high : (i : ℕ) → i < length owner → i < get_or end (message_at owner i) 0
 
 -- x has its mark
 abbrev pub Marked : List Bool → ℕ → Type 0

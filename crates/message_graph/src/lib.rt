@@ -1,19 +1,31 @@
-// message_graph.rs: which message leads to which through links, over tables with a row for each field of a set.
+//! Which message leads to which through links, over the fields of a set.
 #![tactic(auto)]
 
-ghost use Rattle.std.specs.Prelude.{◌≡◌, false, ◌&&◌, ◌<◌, ◌≤◌, eqb, length, get_or};
+ghost use Rattle.std.specs.Prelude.{◌≡◌, false, ◌+◌, ◌&&◌, ◌<◌, ◌^◌, length, get_or};
 ghost use Rattle.message_graph.specs.Limit.{messages};
-ghost use Rattle.message_graph.specs.Fields.{fields, message_at, is_link, link};
+ghost use Rattle.message_graph.specs.Fields.{is_link};
 ghost use Rattle.message_graph.specs.Leads.{leadsb};
 ghost use Rattle.message_graph.specs.Boxes.{may_loop, boxed_by_loop};
-ghost use Rattle.message_graph.specs.Marks.{Firsts, Ends, Visited};
+ghost use Rattle.message_graph.specs.Marks.{Visited};
+ghost use Rattle.message_graph.specs.Rows.{message_of, row_at, fields_of, is_link_of, Part, with_field};
 ghost use Rattle.message_graph.specs.Tab.{tab};
 
-// A message's number in a table.
+use std::marker::Model;
+
+/// A message's number, in declaration order.
 pub type Index = u8;
 
-// How many messages a set may have: limit 3.
+/// How many messages a set may have: limit 3.
 pub const MESSAGES: usize = 256;
+
+/// A message's number as a place in a table with a row for each message.
+#[tactic(auto, using(crate::proofs::RowLaws::message_of_is))]
+pub fn place_of(message: Index) -> usize
+    ensures message { result ≡ message_of message }
+    ensures bound { result < messages }
+{
+    usize::from(message)
+}
 
 // descriptor.proto's numbers.
 pub const TYPE_GROUP: u8 = 10;
@@ -22,214 +34,180 @@ pub const TYPE_MESSAGE: u8 = 11;
 
 pub const LABEL_REPEATED: u8 = 3;
 
-fn wide(x: Index) -> usize
-    ensures { result ≡ x }
-{
-    x as usize
+/// A field of a set: its message, the message that is its type (0 where its type is none), its type and label by
+/// descriptor.proto's numbers, and whether it has a boxed setting at `.M.f`. Type and label are as a set gives them, which
+/// may be numbers that descriptor.proto doesn't have.
+#[derive(Clone, Copy)]
+pub struct Field {
+    pub owner: Index,
+    pub target: Index,
+    pub kind: u8,
+    pub label: u8,
+    pub boxed: bool,
 }
 
-// The message that a table has at i; 0 past the table's end, and for a number that no message can have.
-pub fn message_at(s: &[Index], i: usize) -> usize
-    ensures { result ≡ message_at s.now i }
-{
-    if s.len() <= i {
-        return 0;
+/// What a table of fields has past its end.
+pub const NO_FIELD: Field = Field {
+    owner: 0,
+    target: 0,
+    kind: 0,
+    label: 0,
+    boxed: false,
+};
+
+impl Field {
+    /// Is it a link: of type message, and not repeated?
+    #[tactic(auto, unfolding(crate::specs::Fields::is_link))]
+    pub fn is_link(self) -> bool
+        ensures { result ≡ is_link self.kind self.label }
+    {
+        self.kind == TYPE_MESSAGE && self.label != LABEL_REPEATED
     }
-    let x = wide(s[i]);
-    if x < MESSAGES {
-        return x;
+
+    // Is it a link of the message?
+    fn is_link_of(self, message: usize) -> bool
+        ensures { result ≡ is_link_of self message }
+    {
+        place_of(self.owner) == message && self.is_link()
     }
-    0
+
+    // Can it need a Box since its type leads back: singular, of type message or group?
+    #[tactic(auto, unfolding(crate::specs::Boxes::may_loop))]
+    fn may_loop(self) -> bool
+        ensures { result ≡ may_loop self.kind self.label }
+    {
+        (self.kind == TYPE_MESSAGE || self.kind == TYPE_GROUP) && self.label != LABEL_REPEATED
+    }
 }
 
-// The place that a table has at i, and 0 past its end.
-fn place_at(s: &[usize], i: usize) -> usize
-    ensures { result ≡ get_or s.now i 0 }
+/// The field with number `i`.
+pub fn field_at(fields: &[Field], i: usize) -> Field
+    ensures { result ≡ row_at fields.now i }
 {
-    if i < s.len() {
-        return s[i];
+    match fields.get(i) {
+        Some(field) => *field,
+        None => NO_FIELD,
     }
-    0
 }
 
-// Is a field of this type and label a link?
-fn is_link(kind: u8, label: u8) -> bool
-    ensures { result ≡ is_link kind label }
-{
-    if kind == TYPE_MESSAGE {
-        return label != LABEL_REPEATED;
-    }
-    false
+// A range of a table of fields: from its first field to the one behind its last.
+#[derive(Clone, Copy)]
+struct Range {
+    first: usize,
+    end: usize,
 }
 
-// Can a field of this type and label need a Box since its type leads back?
-fn may_loop(kind: u8, label: u8) -> bool
-    ensures { result ≡ may_loop kind label }
-{
-    if kind == TYPE_MESSAGE {
-        return label != LABEL_REPEATED;
+impl Range {
+    // The range and the field i, which stands behind it.
+    fn with_field(self, i: usize) -> Range
+        requires { i + 1 < 2 ^ 64 }
+        ensures { result ≡ with_field self i }
+    {
+        Range {
+            first: if self.end == 0 { i } else { self.first },
+            end: i + 1,
+        }
     }
-    if kind == TYPE_GROUP {
-        return label != LABEL_REPEATED;
-    }
-    false
 }
 
-// Is the field i a link of the message x?
-fn is_link_of(owner: &[Index], kind: &[u8], label: &[u8], x: usize, i: usize) -> bool
-    ensures { result ≡ (eqb (message_at owner.now i) x && is_link (get_or kind.now i 0) (get_or label.now i 0)) }
-{
-    if message_at(owner, i) != x {
-        return false;
-    }
-    let k = base::byte_at(kind, i);
-    let l = base::byte_at(label, i);
-    is_link(k, l)
+/// The fields of a set, and where those of each message lie.
+#[derive(Drop)]
+pub struct Graph<'a> {
+    fields: &'a [Field],
+    ranges: [Range; MESSAGES],
 }
 
-// For each message, where its fields begin.
-fn firsts(owner: &[Index]) -> [usize; MESSAGES]
-    ensures { Firsts owner.now result }
-{
-    let mut first = [0usize; MESSAGES];
-    let mut i = owner.len();
-    while 0 < i {
-        i -= 1;
-        let x = message_at(owner, i);
-        first[x] = i;
-    }
-    first
+impl<'a> Model for Graph<'a> {
+    ghost use Rattle.std.specs.Prelude.{List, length};
+    ghost use Rattle.message_graph.specs.declared.Field.{Field};
+    ghost use Rattle.message_graph.specs.Rows.{RangedTo};
+
+    ghost Value = { List Field };
+
+    ghost view = { λ g. g.fields.now };
+
+    ghost invariant = { λ g. RangedTo g.fields.now g.ranges (length g.fields.now) };
 }
 
-// For each message, where its fields end.
-fn ends(owner: &[Index]) -> [usize; MESSAGES]
-    ensures { Ends owner.now result }
-{
-    let mut end = [0usize; MESSAGES];
-    let mut i = 0;
-    while i < owner.len() {
-        let x = message_at(owner, i);
-        i += 1;
-        end[x] = i;
+impl<'a> Graph<'a> {
+    /// The graph of these fields.
+    pub fn new(fields: &'a [Field]) -> Self
+        ensures { result ≡ fields.now }
+    {
+        let mut ranges = [Range { first: 0, end: 0 }; MESSAGES];
+        for (i, field) in fields.iter().enumerate() {
+            let owner = place_of(field.owner);
+            ranges[owner] = ranges[owner].with_field(i);
+        }
+        Graph { fields, ranges }
     }
-    end
-}
 
-// Marks x, and all that x leads to through messages that have no mark.
-fn visit(
-    owner: &[Index],
-    target: &[Index],
-    kind: &[u8],
-    label: &[u8],
-    first: &[usize],
-    end: &[usize],
-    marks: &mut [bool],
-    x: usize,
-)
-    requires firsts { Firsts owner.now first.now }
-    requires ends { Ends owner.now end.now }
-    requires x_lt_messages { (x < messages) × (length marks.old ≡ messages) × (get_or marks.old x false ≡ false) }
-    ensures { Visited (fields owner.now target.now kind.now label.now) marks.old marks.new x }
-{
-    marks[x] = true;
-    let last = place_at(end, x);
-    let mut i = place_at(first, x);
-    while i < last {
-        let next = i + 1;
-        if is_link_of(owner, kind, label, x, i) {
-            let t = message_at(target, i);
-            if !marks[t] {
-                visit(owner, target, kind, label, first, end, marks, t);
+    /// Its fields.
+    pub fn fields(&self) -> &'a [Field]
+        ensures { result.now ≡ self.now }
+    {
+        self.fields
+    }
+
+    /// A part of the fields that has all of the message's, and maybe others.
+    pub fn fields_of(&self, message: usize) -> &'a [Field]
+        requires { message < messages }
+        ensures { Part self.now result.now message }
+    {
+        let range = self.ranges[message];
+        &self.fields[range.first..range.end]
+    }
+
+    // Marks a message without a mark, and all that it leads to through messages that have none.
+    fn visit(&self, marks: &mut [bool; MESSAGES], message: usize)
+        requires message_bound { message < messages }
+        requires clear { get_or marks.old message false ≡ false }
+        ensures { Visited (fields_of self.now) marks.old marks.new message }
+    {
+        marks[message] = true;
+        let fields = self.fields_of(message);
+        for field in fields {
+            let target = place_of(field.target);
+            if field.is_link_of(message) && !marks[target] {
+                self.visit(marks, target);
             }
         }
-        i = next;
     }
-}
 
-// Does outer lead to inner? One mark for each message, all clear at the start.
-fn reaches(
-    owner: &[Index],
-    target: &[Index],
-    kind: &[u8],
-    label: &[u8],
-    first: &[usize],
-    end: &[usize],
-    outer: usize,
-    inner: usize,
-) -> bool
-    requires firsts { Firsts owner.now first.now }
-    requires ends { Ends owner.now end.now }
-    ensures { result ≡ leadsb (fields owner.now target.now kind.now label.now) outer inner }
-{
-    if MESSAGES <= outer {
-        return outer == inner;
+    /// Does the message outer lead to the message inner? A number that no message can have leads to itself alone. One mark for
+    /// each message, all clear at the start.
+    pub fn is_nested(&self, outer: usize, inner: usize) -> bool
+        ensures { result ≡ leadsb (fields_of self.now) outer inner }
+    {
+        if outer >= MESSAGES || inner >= MESSAGES {
+            return outer == inner;
+        }
+        let mut marks = [false; MESSAGES];
+        self.visit(&mut marks, outer);
+        marks[inner]
     }
-    if MESSAGES <= inner {
-        return outer == inner;
+
+    // Does the field's type lead back to its message?
+    fn loops(&self, field: Field) -> bool
+        ensures { result ≡ (may_loop field.kind field.label && leadsb (fields_of self.now) (message_of field.target) (message_of field.owner)) }
+    {
+        field.may_loop() && self.is_nested(place_of(field.target), place_of(field.owner))
     }
-    let mut marks = [false; MESSAGES];
-    visit(owner, target, kind, label, first, end, &mut marks, outer);
-    marks[inner]
-}
 
-// Does the message outer lead to the message inner?
-pub fn is_nested(
-    owner: &[Index],
-    target: &[Index],
-    kind: &[u8],
-    label: &[u8],
-    outer: usize,
-    inner: usize,
-) -> bool
-    ensures { result ≡ leadsb (fields owner.now target.now kind.now label.now) outer inner }
-{
-    let first = firsts(owner);
-    let end = ends(owner);
-    reaches(owner, target, kind, label, &first, &end, outer, inner)
-}
-
-// Does the type of the field i lead back to the field's message?
-fn loop_at(
-    owner: &[Index],
-    target: &[Index],
-    kind: &[u8],
-    label: &[u8],
-    first: &[usize],
-    end: &[usize],
-    i: usize,
-) -> bool
-    requires firsts { Firsts owner.now first.now }
-    requires ends { Ends owner.now end.now }
-    ensures { result ≡ boxed_by_loop (fields owner.now target.now kind.now label.now) i }
-{
-    let k = base::byte_at(kind, i);
-    let l = base::byte_at(label, i);
-    if !may_loop(k, l) {
-        return false;
+    /// Is the field with number `i` boxed by a loop?
+    pub fn boxed_by_loop(&self, i: usize) -> bool
+        ensures { result ≡ boxed_by_loop (fields_of self.now) i }
+    {
+        self.loops(field_at(self.fields, i))
     }
-    let outer = message_at(target, i);
-    let inner = message_at(owner, i);
-    reaches(owner, target, kind, label, first, end, outer, inner)
-}
 
-// Is the field i boxed by a loop?
-pub fn boxed_by_loop(owner: &[Index], target: &[Index], kind: &[u8], label: &[u8], i: usize) -> bool
-    ensures { result ≡ boxed_by_loop (fields owner.now target.now kind.now label.now) i }
-{
-    let first = firsts(owner);
-    let end = ends(owner);
-    loop_at(owner, target, kind, label, &first, &end, i)
-}
-
-// For each place of `out`, whether the field there is boxed by a loop.
-pub fn boxes(owner: &[Index], target: &[Index], kind: &[u8], label: &[u8], out: &mut [bool])
-    ensures { out.new ≡ tab (length out.old) (boxed_by_loop (fields owner.now target.now kind.now label.now)) }
-{
-    let first = firsts(owner);
-    let end = ends(owner);
-    let mut i = 0;
-    while i < out.len() {
-        out[i] = loop_at(owner, target, kind, label, &first, &end, i);
-        i += 1;
+    /// For each place of `out`, whether the field there is boxed by a loop.
+    #[tactic(auto, using(crate::specs::Tab::filled_none, crate::specs::Tab::filled_all))]
+    pub fn boxes(&self, out: &mut [bool])
+        ensures { out.new ≡ tab (length out.old) (boxed_by_loop (fields_of self.now)) }
+    {
+        for (i, boxed) in out.iter_mut().enumerate() {
+            *boxed = self.boxed_by_loop(i);
+        }
     }
 }

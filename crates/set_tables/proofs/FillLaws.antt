@@ -13,16 +13,17 @@ use Rattle.writer.specs.Wrote.{Wrote}
 use Rattle.options.specs.Settings.{settings, first_of_kind}
 use Rattle.options.specs.declared.Found.{Found}
 use Rattle.index.specs.Tree.{file_forests, IndexedFiles, fill, Holds, all_members}
-use Rattle.message_graph.specs.Fields.{Fields}
+use Rattle.message_graph.specs.declared.Field.{Field}
+use Rattle.message_graph.specs.Rows.{no_field, fields_of, settings_of}
+use Rattle.field_columns.proofs.SetColumns.{map_tab}
 use Rattle.message_graph.specs.Tab.{tab}
-use Rattle.field_columns.specs.Columns.{owner_at, column_at, Kind, Label}
 use Rattle.declarations.specs.Rows.{State, declared, Became}
 use Rattle.declarations.specs.declared.Count.{Count}
 use Rattle.boxed_settings.specs.Flags.{set_flags}
-use Rattle.targets.specs.Targets.{target_at}
-use Rattle.context_tables.specs.Cells.{is_set_at, columns, message_table, field_table}
+use Rattle.targets.specs.Targets.{field_in}
+use Rattle.context_tables.specs.Cells.{message_table, field_table}
 use Rattle.limits.specs.Short.{short}
-use Rattle.set_tables.specs.Filled.{most_fields, declaration_cells, zeros, message_places, message_count, field_places, field_count, target_by, target_in, setting_bytes, columns_at, Long, Ready, settings_to, entries_by, columned, message_numbers, field_numbers_in}
+use Rattle.set_tables.specs.Filled.{most_fields, declaration_cells, zeros, message_places, message_count, field_places, field_count, target_by, field_by, field_of, setting_bytes, columns_at, Ready, settings_to, entries_by, columned, message_numbers, field_numbers_in}
 use Rattle.set_tables.proofs.ZeroLaws.{unset_bytes}
 
 -- a part from the start on
@@ -60,23 +61,21 @@ module _ (set : List ℕ) where
   unfolding zeros
   fresh_bytes most is = rw is
 
-  pub fresh_targets : (cells : ℕ) → declaration_cells set ≡ cells → (fields : List ℕ) (size : ℕ) (r : List ℕ) → r ≡ tab size (target_by set fields (replicate cells 0)) → r ≡ tab size (target_in set fields)
+  pub fresh_fields : (o : List ℕ) (cells : ℕ) → declaration_cells set ≡ cells → (settings : List ℕ) → settings ≡ setting_bytes set o → (places : List ℕ) (size : ℕ) (r : List Field)
+      → r ≡ tab size (field_by set places (replicate cells 0) settings) → r ≡ tab size (field_of set o places)
   unfolding zeros
-  fresh_targets cells is fields size r filled = rw is filled
+  fresh_fields o cells is settings put places size r filled = rw (is, ← put) filled
 
   pub arrays_ready : (rows : List ℕ) (count : ℕ) → rows ≡ message_places set → count ≡ message_count set → (most cells : ℕ) → most_fields set ≡ most → cells ≡ most * 5
-      → Ready set rows count (replicate cells 0) (replicate most 0) (replicate most 0) (replicate most 0) (replicate most 0) (replicate most false) (replicate most false)
+      → Ready set rows count (replicate cells 0) (replicate most no_field) (replicate most false)
   unfolding zeros
-  arrays_ready rows count rows_are counted most cells is cells_are =
-      let numbers : length {A = ℕ} (replicate most 0) ≡ most_fields set = length-replicate {A = ℕ} most 0 ∙ sym is in
-      let flags : length {A = Bool} (replicate most false) ≡ most_fields set = length-replicate {A = Bool} most false ∙ sym is in
-      record {
-        places = rows_are;
-        counted = counted;
-        cleared = rw (is, cells_are);
-        owners = numbers;
-        columns = record { targets = numbers; kinds = numbers; labels = numbers; flags = flags; boxes = flags };
-      }
+  arrays_ready rows count rows_are counted most cells is cells_are = record {
+    placed = rows_are;
+    counted = counted;
+    cleared = rw (is, cells_are);
+    sized = length-replicate {A = Field} most no_field ∙ sym is;
+    boxes = length-replicate {A = Bool} most false ∙ sym is;
+  }
 
 -- ---- the boxed settings, and the types
 
@@ -87,50 +86,31 @@ settings_put set o bytes end old is wrote = wrote.text ∙ rw is
 pub settings_unset : (set o old : List ℕ) → old ≡ zeros (most_fields set) → (f : Found) → f ≡ first_of_kind 4 0 (settings o) → f.found ≡ false → old ≡ setting_bytes set o
 settings_unset set o old is f found unset = is ∙ unset_bytes set o (rw found at unset)
 
-pub settings_filled : (set o bytes : List ℕ) (size : ℕ) → bytes ≡ setting_bytes set o → (r : List Bool) → r ≡ tab size (is_set_at bytes) → r ≡ tab size (is_set_at (setting_bytes set o))
-settings_filled set o bytes size put r is = is ∙ ap (λ (l : List ℕ). tab size (is_set_at l)) put
+pub fields_declared : (set places old t settings : List ℕ) (c : Count) (size : ℕ) → Became (declared set old) t c
+    → (r : List Field) → r ≡ tab size (field_in set places t c.rows settings) → r ≡ tab size (field_by set places old settings)
+fields_declared set places old t settings c size became r is = is ∙ ap (λ (x : State). tab size (field_in set places x.table x.rows settings)) became.is
 
-pub targets_filled : (set fields old t : List ℕ) (c : Count) (size : ℕ) → Became (declared set old) t c
-    → (r : List ℕ) → r ≡ tab size (target_at set fields t c.rows) → r ≡ tab size (target_by set fields old)
-unfolding target_by
-targets_filled set fields old t c size became r is = is ∙ ap (λ (x : State). tab size (λ (k : ℕ). target_at set fields x.table x.rows k)) became.is
+-- ---- both tables, by the fields
 
--- ---- both tables, by columns of one length
+pub parts_long : (n k m : ℕ) (fields : List Field) (boxed : List Bool) → k ≡ min n (length fields) → length fields ≡ m → length boxed ≡ m
+    → length (take (k - 0) (drop 0 boxed)) ≡ length (take (k - 0) (drop 0 fields))
+parts_long n k m fields boxed k_is whole long = front_length k boxed (omega arith) ∙ sym (front_length k fields (omega arith))
 
-pub parts_long : (n k m : ℕ) (owner target kind label : List ℕ) (settings boxed : List Bool) → k ≡ min n (length owner)
-    → length owner ≡ m → Long m target kind label settings boxed
-    → Long (length (take (k - 0) (drop 0 owner))) (take (k - 0) (drop 0 target)) (take (k - 0) (drop 0 kind)) (take (k - 0) (drop 0 label)) (take (k - 0) (drop 0 settings)) (take (k - 0) (drop 0 boxed))
-parts_long n k m owner target kind label settings boxed k_is whole long =
-    let all = front_length k owner (omega arith) in
-    record {
-      targets = front_length k target (omega (arith, long.targets)) ∙ sym all;
-      kinds = front_length k kind (omega (arith, long.kinds)) ∙ sym all;
-      labels = front_length k label (omega (arith, long.labels)) ∙ sym all;
-      flags = front_length k settings (omega (arith, long.flags)) ∙ sym all;
-      boxes = front_length k boxed (omega (arith, long.boxes)) ∙ sym all;
-    }
+module _ (set o rows places : List ℕ) (k : ℕ) (fields : List Field) (fields_are : fields ≡ tab k (field_of set o places)) where
+  columns_are : fields_of fields ≡ columns_at k set places
+  unfolding columns_at fields_of target_by
+  columns_are = rw (fields_are, map_tab, map_tab, map_tab, map_tab)
 
-module _ (set o rows fields : List ℕ) (k : ℕ) (target kind label : List ℕ) (settings boxed : List Bool) (long : Long k target kind label settings boxed)
-    (owner' target' kind' label' : List ℕ) (settings' : List Bool)
-    (owner_is : owner' ≡ tab k (owner_at fields)) (target_is : target' ≡ tab (length target) (target_in set fields)) (kind_is : kind' ≡ tab (length kind) (column_at set fields Kind))
-    (label_is : label' ≡ tab (length label) (column_at set fields Label)) (settings_are : settings' ≡ tab (length settings) (is_set_at (setting_bytes set o))) where
-  abbrev given : Fields
-  given = columns owner' target' kind' label'
-
-  columns_are : given ≡ columns_at k set fields
-  unfolding columns_at
-  columns_are = rw (owner_is, target_is, kind_is, label_is, long.targets, long.kinds, long.labels)
-
-  flags_are : settings' ≡ settings_to k set o
+  flags_are : settings_of fields ≡ settings_to k set o
   unfolding settings_to
-  flags_are = settings_are ∙ rw long.flags
+  flags_are = rw (fields_are, map_tab)
 
-  pub messages_filled : (n size : ℕ) (r : List ℕ) → r ≡ message_table size rows fields n given settings' → r ≡ message_table size rows fields n (columns_at k set fields) (settings_to k set o)
+  pub messages_filled : (n size : ℕ) (r : List ℕ) → r ≡ message_table size rows places n (fields_of fields) (settings_of fields) → r ≡ message_table size rows places n (columns_at k set places) (settings_to k set o)
   messages_filled n size r is = is ∙ rw (columns_are, flags_are)
 
-  pub fields_filled : (entries : List Bool) → entries ≡ entries_by set rows → (size : ℕ) (r : List ℕ)
-      → r ≡ field_table size (length boxed) set rows fields given settings' entries → r ≡ field_table size k set rows fields (columns_at k set fields) (settings_to k set o) (entries_by set rows)
-  fields_filled entries entries_are size r is = is ∙ rw (long.boxes, columns_are, flags_are, entries_are)
+  pub fields_filled : (entries : List Bool) → entries ≡ entries_by set rows → (size m : ℕ) → m ≡ k → (r : List ℕ)
+      → r ≡ field_table size m set rows places (fields_of fields) (settings_of fields) entries → r ≡ field_table size k set rows places (columns_at k set places) (settings_to k set o) (entries_by set rows)
+  fields_filled entries entries_are size m boxes r is = is ∙ rw (boxes, columns_are, flags_are, entries_are)
 
 -- ---- both tables
 
@@ -144,34 +124,34 @@ module _ (set rows : List ℕ) (count : ℕ) (rows_are : IndexedFiles (file_fore
   unfolding message_count
   count_is = rows_are.counted
 
-module _ (set o rows fields : List ℕ) (count n : ℕ) (old owner target kind label : List ℕ) (settings boxed : List Bool) (ready : Ready set rows count old owner target kind label settings boxed)
-    (fields_are : Holds (all_members set 2 rows count 0) old 0 fields n) where
+module _ (set o rows places : List ℕ) (count n : ℕ) (old : List ℕ) (fields : List Field) (boxed : List Bool) (ready : Ready set rows count old fields boxed)
+    (places_hold : Holds (all_members set 2 rows count 0) old 0 places n) where
   members_as : all_members set 2 rows count 0 ≡ all_members set 2 (message_places set) (message_count set) 0
-  members_as = ap (λ (l : List ℕ). all_members set 2 l count 0) ready.places ∙ ap (λ (x : ℕ). all_members set 2 (message_places set) x 0) ready.counted
+  members_as = ap (λ (l : List ℕ). all_members set 2 l count 0) ready.placed ∙ ap (λ (x : ℕ). all_members set 2 (message_places set) x 0) ready.counted
 
-  fields_as : fields ≡ field_places set
+  places_as : places ≡ field_places set
   unfolding field_places
-  fields_as = fields_are.table ∙ ap (fill old 0) members_as ∙ ap (λ (l : List ℕ). fill l 0 (all_members set 2 (message_places set) (message_count set) 0)) ready.cleared
+  places_as = places_hold.table ∙ ap (fill old 0) members_as ∙ ap (λ (l : List ℕ). fill l 0 (all_members set 2 (message_places set) (message_count set) 0)) ready.cleared
 
   n_as : n ≡ field_count set
   unfolding field_count
-  n_as = let c = fields_are.counted in let l = ap length members_as in omega arith
+  n_as = let c = places_hold.counted in let l = ap length members_as in omega arith
 
-  module _ (k : ℕ) (k_is : k ≡ min n (length owner)) where
+  module _ (k : ℕ) (k_is : k ≡ min n (length fields)) where
     abbrev longest : ℕ
-    longest = length (take (k - 0) (drop 0 owner))
+    longest = length (take (k - 0) (drop 0 fields))
 
     longest_as : longest ≡ columned set
-    longest_as = front_length k owner (omega arith) ∙ k_is ∙ ap (min n) ready.owners ∙ ap (λ (x : ℕ). min x (most_fields set)) n_as
+    longest_as = front_length k fields (omega arith) ∙ k_is ∙ ap (min n) ready.sized ∙ ap (λ (x : ℕ). min x (most_fields set)) n_as
 
-    pub message_numbers_are : (size : ℕ) (r : List ℕ) → r ≡ message_table size rows fields n (columns_at longest set fields) (settings_to longest set o) → r ≡ message_numbers size set o
+    pub message_numbers_are : (size : ℕ) (r : List ℕ) → r ≡ message_table size rows places n (columns_at longest set places) (settings_to longest set o) → r ≡ message_numbers size set o
     unfolding message_numbers
-    message_numbers_are size r is = is ∙ rw (longest_as, ready.places, fields_as, n_as)
+    message_numbers_are size r is = is ∙ rw (longest_as, ready.placed, places_as, n_as)
 
     -- the rows in front, and what the table held behind them
     module _ (t : List ℕ) (cells used : ℕ) (cells_are : cells ≡ k * 8) (used_is : used ≡ min cells (length t)) where
       used_as : used ≡ min (columned set * 8) (length t)
-      used_as = used_is ∙ rw (cells_are, k_is, ready.owners, n_as)
+      used_as = used_is ∙ rw (cells_are, k_is, ready.sized, n_as)
 
       front_as : length (take (used - 0) (drop 0 t)) ≡ min (columned set * 8) (length t)
       front_as = front_length used t (omega arith) ∙ used_as
@@ -179,7 +159,7 @@ module _ (set o rows fields : List ℕ) (count n : ℕ) (old owner target kind l
       behind_as : drop (used - 0) t ≡ drop (min (columned set * 8) (length t)) t
       behind_as = rw sub-zero (ap (λ (x : ℕ). drop x t) used_as)
 
-      pub field_numbers_are : (r : List ℕ) → r ≡ field_table (length (take (used - 0) (drop 0 t))) longest set rows fields (columns_at longest set fields) (settings_to longest set o) (entries_by set rows)
+      pub field_numbers_are : (r : List ℕ) → r ≡ field_table (length (take (used - 0) (drop 0 t))) longest set rows places (columns_at longest set places) (settings_to longest set o) (entries_by set rows)
           → r ++ drop (used - 0) t ≡ field_numbers_in t set o
       unfolding field_numbers_in
-      field_numbers_are r is = rw (is, behind_as, front_as, longest_as, ready.places, fields_as)
+      field_numbers_are r is = rw (is, behind_as, front_as, longest_as, ready.placed, places_as)

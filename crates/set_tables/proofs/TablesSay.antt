@@ -1,4 +1,5 @@
 -- The two tables of a set within the limits, without refusals 6 and 7, say what the definitions by full names say. Assumes nothing.
+use Rattle.std.specs.Prelude.{Ok}
 use mathlib.Core.Path.{◌≡◌, refl, sym, ap, ◌∙◌, subst}
 use mathlib.Core.Bool.{true, false, ◌||◌}
 use mathlib.Core.List.{List, [], ◌++◌}
@@ -17,7 +18,6 @@ use Rattle.options.specs.Settings.{Setting, settings}
 use Rattle.name_rules.specs.Accessors.{is_repeated, is_message, is_group}
 use Rattle.name_rules.specs.FullNames.{Entry, set_entries}
 use Rattle.name_rules.specs.Answer.{names}
-use Rattle.name_rules.specs.declared.Names.TheVariants.{Good}
 use Rattle.index.specs.Tree.{Holds, all_members, row_at, row_bytes}
 use Rattle.index.specs.declared.Row as index_row
 use Rattle.index.proofs.SetLaws.{MessageTable, messages_counted, messages_there, fields_hold}
@@ -70,7 +70,7 @@ rows_fit set passed =
     (λ h. let few = few_rows set passed in omega arith)
     (λ h. let few = short_rows set in let size = ltb-false short (length set) h in omega arith)
 
-module _ (set o : List ℕ) (passed : limit_passed set ≡ 0) (good : names (decode_set set) ≡ Good) where
+module _ (set o : List ℕ) (passed : limit_passed set ≡ 0) (good : names (decode_set set) ≡ Ok tt) where
   abbrev ds : List FileDescriptor
   ds = decode_set set
 
@@ -216,7 +216,7 @@ module _ (set o : List ℕ) (passed : limit_passed set ≡ 0) (good : names (dec
     tables_say = rw (zeros_length field_size, drop_zeros) (subst (λ (k : ℕ). Says rs set (messages_to k) (fields_to k)) (sym whole) all_say)
 
 -- no field names a map entry but the repeated message fields of the message around it
-pub only_map_fields : (set : List ℕ) → limit_passed set ≡ 0 → names (decode_set set) ≡ Good → (r : Row) (k : ℕ) → At r (rows_of (set_entries (decode_set set))) k
+pub only_map_fields : (set : List ℕ) → limit_passed set ≡ 0 → names (decode_set set) ≡ Ok tt → (r : Row) (k : ℕ) → At r (rows_of (set_entries (decode_set set))) k
     → (d : Entry) (p : ℕ) → At d (set_entries (decode_set set)) p → d.message.map_entry ≡ true → d.full ≡ type_name_of r → MapField r d
 only_map_fields set passed good =
     entry_typed (decode_set set) (sound set [] passed good) good (λ j. (row_at (message_places set) j).after)
@@ -227,8 +227,8 @@ pub all_messages : (set : List ℕ) → limit_passed set ≡ 0 → length (messa
 all_messages set passed = let few = (within_limits set passed).messages in let short = declarations_short set in omega arith
 
 -- and those of the fields
-pub all_fields : (set : List ℕ) → limit_passed set ≡ 0 → names (decode_set set) ≡ Good → field_count set * 8 ≤ 16384
+pub all_fields : (set : List ℕ) → limit_passed set ≡ 0 → names (decode_set set) ≡ Ok tt → field_count set * 8 ≤ 16384
 all_fields set passed good = let counted = fields_counted set [] passed good in let few = (within_limits set passed).fields in omega arith
 
-pub short_fields : (set : List ℕ) → limit_passed set ≡ 0 → names (decode_set set) ≡ Good → length set ≤ short → field_count set * 8 ≤ 1200
+pub short_fields : (set : List ℕ) → limit_passed set ≡ 0 → names (decode_set set) ≡ Ok tt → length set ≤ short → field_count set * 8 ≤ 1200
 short_fields set passed good h = let few = few_fields set [] passed good in let most = few_there set h in omega arith

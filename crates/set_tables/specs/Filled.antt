@@ -11,7 +11,8 @@ use Rattle.message_graph.specs.Tab.{tab}
 use Rattle.field_columns.specs.Columns.{owner_at, column_at, Kind, Label}
 use Rattle.declarations.specs.Rows.{declared}
 use Rattle.boxed_settings.specs.Flags.{set_flags}
-use Rattle.targets.specs.Targets.{target_at}
+use Rattle.message_graph.specs.declared.Field.{Field}
+use Rattle.targets.specs.Targets.{target_at, field_in}
 use Rattle.context_tables.specs.Cells.{is_set_at, entry_at, columns, message_table, field_table}
 
 -- limit 4, and what a short set has at most
@@ -50,6 +51,13 @@ target_in set fields = target_by set fields (zeros (declaration_cells set))
 unfoldable pub setting_bytes : List ℕ → List ℕ → List ℕ
 setting_bytes set o = over (zeros (most_fields set)) 0 (set_flags (settings o) set)
 
+-- field k, given the places of the fields, a table for the declarations, and the bytes that have the boxed settings
+abbrev pub field_by : List ℕ → List ℕ → List ℕ → List ℕ → ℕ → Field
+field_by set places t settings = field_in set places (declared set t).table (declared set t).rows settings
+
+abbrev pub field_of : List ℕ → List ℕ → List ℕ → ℕ → Field
+field_of set o places = field_by set places (zeros (declaration_cells set)) (setting_bytes set o)
+
 -- the columns over the first k fields, given their places
 unfoldable pub columns_at : ℕ → List ℕ → List ℕ → Fields
 columns_at k set fields =
@@ -58,21 +66,13 @@ columns_at k set fields =
 abbrev pub columns_to : ℕ → List ℕ → Fields
 columns_to k set = columns_at k set (field_places set)
 
--- columns of one length
-pub record Long (k : ℕ) (target kind label : List ℕ) (settings boxed : List Bool) : Type 0 where
-  pub targets : length target ≡ k
-  pub kinds : length kind ≡ k
-  pub labels : length label ≡ k
-  pub flags : length settings ≡ k
-  pub boxes : length boxed ≡ k
-
 -- the places of the messages, and what the fields are laid in
-pub record Ready (set rows : List ℕ) (count : ℕ) (fields owner target kind label : List ℕ) (settings boxed : List Bool) : Type 0 where
-  pub places : rows ≡ message_places set
+pub record Ready (set rows : List ℕ) (count : ℕ) (places : List ℕ) (fields : List Field) (boxed : List Bool) : Type 0 where
+  pub placed : rows ≡ message_places set
   pub counted : count ≡ message_count set
-  pub cleared : fields ≡ zeros (most_fields set * 5)
-  pub owners : length owner ≡ most_fields set
-  pub columns : Long (most_fields set) target kind label settings boxed
+  pub cleared : places ≡ zeros (most_fields set * 5)
+  pub sized : length fields ≡ most_fields set
+  pub boxes : length boxed ≡ most_fields set
 
 -- flags for the messages, none of them set
 abbrev pub no_flags : List Bool

@@ -1,15 +1,14 @@
-// The two tables that the text's writers read, from the bytes of a set and of the options.
+//! The two tables that the text's writers read, from the bytes of a set and of the options.
 #![tactic(auto)]
 
 ghost use Rattle.std.specs.Prelude.{◌≡◌, ◌≤◌, ◌<◌, length};
 ghost use Rattle.limits.specs.Short.{short};
 ghost use Rattle.message_graph.specs.Tab.{tab};
-ghost use Rattle.context_tables.specs.Cells.{is_set_at, message_table, field_table};
-ghost use Rattle.field_columns.specs.Columns.{owner_at, column_at, Kind, Label};
-ghost use Rattle.set_tables.specs.Filled.{most_fields, zeros, message_places, message_count, target_by, target_in, Ready, setting_bytes, columns_at, settings_to, Long, no_flags, EntriesBelow, entries_by, message_numbers, field_numbers_in};
+ghost use Rattle.context_tables.specs.Cells.{message_table, field_table};
+ghost use Rattle.set_tables.specs.Filled.{most_fields, zeros, message_places, message_count, field_by, field_of, Ready, setting_bytes, columns_at, settings_to, no_flags, EntriesBelow, entries_by, message_numbers, field_numbers_in};
 
 use limits::SHORT;
-use message_graph::{Index, MESSAGES};
+use message_graph::{Field, MESSAGES, NO_FIELD};
 use set_rules::{CELLS, ROWS, SHORT_CELLS, SHORT_ROWS};
 
 // Limit 4, and what a short set has at most.
@@ -24,42 +23,22 @@ const FIELD_CELLS: usize = 10240;
 
 const SHORT_FIELD_CELLS: usize = 750;
 
-// The messages that the fields' types are, the types and the labels, with a table for the declarations, and for the checksums of
-// their names.
-fn columns_by(
+// The fields, given the bytes that have the boxed settings, with a table for the declarations, and one for the checksums of their
+// names.
+fn fields_by(
     set: &[u8],
-    fields: &[u16],
+    places: &[u16],
     t: &mut [usize],
     sums: &mut [u64],
-    target: &mut [Index],
-    kind: &mut [u8],
-    label: &mut [u8],
+    settings: &[u8],
+    fields: &mut [Field],
 )
-    ensures target_after { target.new ≡ tab (length target.old) (target_by set.now fields.now t.old) }
-    ensures kind_after { kind.new ≡ tab (length kind.old) (column_at set.now fields.now Kind) }
-    ensures label_after { label.new ≡ tab (length label.old) (column_at set.now fields.now Label) }
+    ensures { fields.new ≡ tab (length fields.old) (field_by set.now places.now t.old settings.now) }
 {
     let count = declarations::declare_set(set, t);
     let rows = count.rows;
-    let n = writer::within(rows, sums.len());
-    targets::fill_columns(set, fields, t, rows, &mut sums[0..n], target, kind, label);
-}
-
-// The messages that the fields' types are, the types and the labels.
-fn fill_columns(set: &[u8], fields: &[u16], target: &mut [Index], kind: &mut [u8], label: &mut [u8])
-    ensures target_after { target.new ≡ tab (length target.old) (target_in set.now fields.now) }
-    ensures kind_after { kind.new ≡ tab (length kind.old) (column_at set.now fields.now Kind) }
-    ensures label_after { label.new ≡ tab (length label.old) (column_at set.now fields.now Label) }
-{
-    if set.len() <= SHORT {
-        let mut t = [0usize; SHORT_CELLS];
-        let mut sums = [0u64; SHORT_ROWS];
-        columns_by(set, fields, &mut t, &mut sums, target, kind, label);
-        return;
-    }
-    let mut t = [0usize; CELLS];
-    let mut sums = [0u64; ROWS];
-    columns_by(set, fields, &mut t, &mut sums, target, kind, label);
+    let n = rows.min(sums.len());
+    targets::fill_fields(set, places, t, rows, &mut sums[0..n], settings, fields);
 }
 
 // Its bytes, which are 0 so far, become those that have the boxed settings: without a row of kind 4 they stay as they are.
@@ -73,48 +52,23 @@ fn put_settings(bytes: &mut [u8], set: &[u8], o: &[u8])
     }
 }
 
-// The fields with a boxed setting, by bytes that are 0 so far.
-fn settings_by(bytes: &mut [u8], set: &[u8], o: &[u8], settings: &mut [bool])
-    requires { bytes.old ≡ zeros (most_fields set.now) }
-    ensures { settings.new ≡ tab (length settings.old) (is_set_at (setting_bytes set.now o.now)) }
-{
-    put_settings(bytes, set, o);
-    context_tables::fill_settings(bytes, settings);
-}
-
-// The fields with a boxed setting.
-fn fill_settings(set: &[u8], o: &[u8], settings: &mut [bool])
-    ensures { settings.new ≡ tab (length settings.old) (is_set_at (setting_bytes set.now o.now)) }
+// The fields that have their places in `places`.
+fn fill_fields(set: &[u8], o: &[u8], places: &[u16], fields: &mut [Field])
+    ensures { fields.new ≡ tab (length fields.old) (field_of set.now o.now places.now) }
 {
     if set.len() <= SHORT {
-        let mut bytes = [0u8; SHORT_FIELDS];
-        settings_by(&mut bytes, set, o, settings);
+        let mut settings = [0u8; SHORT_FIELDS];
+        put_settings(&mut settings, set, o);
+        let mut t = [0usize; SHORT_CELLS];
+        let mut sums = [0u64; SHORT_ROWS];
+        fields_by(set, places, &mut t, &mut sums, &settings, fields);
         return;
     }
-    let mut bytes = [0u8; FIELDS];
-    settings_by(&mut bytes, set, o, settings);
-}
-
-// The columns over the fields: the message of each, the message that its type is, its type, its label, and whether it has a boxed setting.
-fn fill_fields(
-    set: &[u8],
-    o: &[u8],
-    fields: &[u16],
-    owner: &mut [Index],
-    target: &mut [Index],
-    kind: &mut [u8],
-    label: &mut [u8],
-    settings: &mut [bool],
-)
-    ensures owner_after { owner.new ≡ tab (length owner.old) (owner_at fields.now) }
-    ensures target_after { target.new ≡ tab (length target.old) (target_in set.now fields.now) }
-    ensures kind_after { kind.new ≡ tab (length kind.old) (column_at set.now fields.now Kind) }
-    ensures label_after { label.new ≡ tab (length label.old) (column_at set.now fields.now Label) }
-    ensures settings_after { settings.new ≡ tab (length settings.old) (is_set_at (setting_bytes set.now o.now)) }
-{
-    field_columns::fill_owners(fields, owner);
-    fill_columns(set, fields, target, kind, label);
-    fill_settings(set, o, settings);
+    let mut settings = [0u8; FIELDS];
+    put_settings(&mut settings, set, o);
+    let mut t = [0usize; CELLS];
+    let mut sums = [0u64; ROWS];
+    fields_by(set, places, &mut t, &mut sums, &settings, fields);
 }
 
 // Which messages are map entries, in a table that has none so far: only the first `count` may be.
@@ -123,11 +77,12 @@ fn fill_entries(set: &[u8], rows: &[u16], count: usize, entries: &mut [bool])
     requires entries_below { EntriesBelow count set.now rows.now }
     ensures { entries.new ≡ entries_by set.now rows.now }
 {
-    let n = writer::within(count, entries.len());
+    let n = count.min(entries.len());
     context_tables::fill_entries(set, rows, &mut entries[0..n]);
 }
 
-// Both tables, of a set with `count` messages, whose `n` fields have their places in `fields`; the columns are as long as there are fields that they go by.
+// Both tables, of a set with `count` messages, whose `n` fields have their places in `places`; of these it goes by as many as
+// `fields` has room for.
 fn fill_rows(
     messages: &mut [u16],
     t: &mut [u16],
@@ -135,25 +90,20 @@ fn fill_rows(
     o: &[u8],
     rows: &[u16],
     count: usize,
-    fields: &[u16],
+    places: &[u16],
     n: usize,
-    owner: &mut [Index],
-    target: &mut [Index],
-    kind: &mut [u8],
-    label: &mut [u8],
-    settings: &mut [bool],
+    fields: &mut [Field],
     boxed: &mut [bool],
 )
-    requires { Long (length owner.old) target.old kind.old label.old settings.old boxed.old × EntriesBelow count set.now rows.now }
-    ensures messages_after { messages.new ≡ message_table (length messages.old) rows.now fields.now n (columns_at (length owner.old) set.now fields.now) (settings_to (length owner.old) set.now o.now) }
-    ensures t_after { t.new ≡ field_table (length t.old) (length owner.old) set.now rows.now fields.now (columns_at (length owner.old) set.now fields.now) (settings_to (length owner.old) set.now o.now) (entries_by set.now rows.now) }
+    requires boxed_length { length boxed.old ≡ length fields.old }
+    requires entries_below { EntriesBelow count set.now rows.now }
+    ensures messages_after { messages.new ≡ message_table (length messages.old) rows.now places.now n (columns_at (length fields.old) set.now places.now) (settings_to (length fields.old) set.now o.now) }
+    ensures t_after { t.new ≡ field_table (length t.old) (length fields.old) set.now rows.now places.now (columns_at (length fields.old) set.now places.now) (settings_to (length fields.old) set.now o.now) (entries_by set.now rows.now) }
 {
     let mut entries = [false; MESSAGES];
     fill_entries(set, rows, count, &mut entries);
-    fill_fields(set, o, fields, owner, target, kind, label, settings);
-    context_tables::fill_rows(
-        messages, t, boxed, set, rows, fields, n, owner, target, kind, label, settings, &entries,
-    );
+    fill_fields(set, o, places, fields);
+    context_tables::fill_rows(messages, t, boxed, set, rows, places, n, fields, &entries);
 }
 
 // Both tables of a set, with the options `o`, given the places of its messages and what its fields are laid in. What the fields'
@@ -165,21 +115,17 @@ fn fill_by(
     t: &mut [u16],
     rows: &[u16],
     count: usize,
-    fields: &mut [u16],
-    owner: &mut [Index],
-    target: &mut [Index],
-    kind: &mut [u8],
-    label: &mut [u8],
-    settings: &mut [bool],
+    places: &mut [u16],
+    fields: &mut [Field],
     boxed: &mut [bool],
 )
-    requires { Ready set.now rows.now count fields.old owner.old target.old kind.old label.old settings.old boxed.old }
+    requires { Ready set.now rows.now count places.old fields.old boxed.old }
     ensures messages_after { messages.new ≡ message_numbers (length messages.old) set.now o.now }
     ensures t_after { t.new ≡ field_numbers_in t.old set.now o.now }
 {
-    let n = index::index_members(set, rows, count, 2, fields, 0);
-    let k = writer::within(n, owner.len());
-    let used = writer::within(k * 8, t.len());
+    let n = index::index_members(set, rows, count, 2, places, 0);
+    let k = n.min(fields.len());
+    let used = (k * 8).min(t.len());
     fill_rows(
         messages,
         &mut t[0..used],
@@ -187,13 +133,9 @@ fn fill_by(
         o,
         rows,
         count,
-        fields,
+        places,
         n,
-        &mut owner[0..k],
-        &mut target[0..k],
-        &mut kind[0..k],
-        &mut label[0..k],
-        &mut settings[0..k],
+        &mut fields[0..k],
         &mut boxed[0..k],
     );
 }
@@ -206,12 +148,8 @@ fn fill_short(set: &[u8], o: &[u8], messages: &mut [u16], t: &mut [u16], rows: &
     ensures messages_after { messages.new ≡ message_numbers (length messages.old) set.now o.now }
     ensures t_after { t.new ≡ field_numbers_in t.old set.now o.now }
 {
-    let mut fields = [0u16; SHORT_FIELD_CELLS];
-    let mut owner = [0u8; SHORT_FIELDS];
-    let mut target = [0u8; SHORT_FIELDS];
-    let mut kind = [0u8; SHORT_FIELDS];
-    let mut label = [0u8; SHORT_FIELDS];
-    let mut settings = [false; SHORT_FIELDS];
+    let mut places = [0u16; SHORT_FIELD_CELLS];
+    let mut fields = [NO_FIELD; SHORT_FIELDS];
     let mut boxed = [false; SHORT_FIELDS];
     fill_by(
         set,
@@ -220,12 +158,8 @@ fn fill_short(set: &[u8], o: &[u8], messages: &mut [u16], t: &mut [u16], rows: &
         t,
         rows,
         count,
+        &mut places,
         &mut fields,
-        &mut owner,
-        &mut target,
-        &mut kind,
-        &mut label,
-        &mut settings,
         &mut boxed,
     );
 }
@@ -238,12 +172,8 @@ fn fill_large(set: &[u8], o: &[u8], messages: &mut [u16], t: &mut [u16], rows: &
     ensures messages_after { messages.new ≡ message_numbers (length messages.old) set.now o.now }
     ensures t_after { t.new ≡ field_numbers_in t.old set.now o.now }
 {
-    let mut fields = [0u16; FIELD_CELLS];
-    let mut owner = [0u8; FIELDS];
-    let mut target = [0u8; FIELDS];
-    let mut kind = [0u8; FIELDS];
-    let mut label = [0u8; FIELDS];
-    let mut settings = [false; FIELDS];
+    let mut places = [0u16; FIELD_CELLS];
+    let mut fields = [NO_FIELD; FIELDS];
     let mut boxed = [false; FIELDS];
     fill_by(
         set,
@@ -252,17 +182,13 @@ fn fill_large(set: &[u8], o: &[u8], messages: &mut [u16], t: &mut [u16], rows: &
         t,
         rows,
         count,
+        &mut places,
         &mut fields,
-        &mut owner,
-        &mut target,
-        &mut kind,
-        &mut label,
-        &mut settings,
         &mut boxed,
     );
 }
 
-// Both tables of a set, with the options `o`. What the fields' table holds behind its rows stays.
+/// Both tables of a set, with the options `o`. What the fields' table holds behind its rows stays.
 pub fn fill_tables(set: &[u8], o: &[u8], messages: &mut [u16], t: &mut [u16])
     ensures messages_after { messages.new ≡ message_numbers (length messages.old) set.now o.now }
     ensures t_after { t.new ≡ field_numbers_in t.old set.now o.now }

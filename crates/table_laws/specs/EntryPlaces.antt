@@ -1,5 +1,5 @@
 -- Where a field's row says that its map entry lies. Assumes nothing.
-use Rattle.std.specs.Prelude.{◌≡◌, refl, Bool, ◌||◌, List, [], ℕ, ◌+◌, ◌*◌, ◌-◌, ◌≤◌, ◌<◌, length}
+use Rattle.std.specs.Prelude.{◌≡◌, refl, Bool, ◌||◌, List, [], ℕ, ◌+◌, ◌*◌, ◌-◌, ◌≤◌, ◌<◌, length, Ok}
 use Rattle.std.proofs.Common.{sym, ◌∙◌, arith}
 use Rattle.std.proofs.Math.Path.{ap}
 use Rattle.std.proofs.Math.Bool.{true, false}
@@ -15,7 +15,6 @@ use Rattle.name_rules.specs.Accessors.{type, is_repeated, is_message, is_group}
 use Rattle.name_rules.specs.Accessors as accessors
 use Rattle.name_rules.specs.FullNames.{Entry, set_entries}
 use Rattle.name_rules.specs.Answer.{names}
-use Rattle.name_rules.specs.declared.Names.TheVariants.{Good}
 use Rattle.index.specs.Tree.{Holds, all_members, row_at, row_bytes}
 use Rattle.index.specs.declared.Row as index_row
 use Rattle.index.proofs.SetLaws.{MessageTable, message_rows, decode_row}
@@ -62,7 +61,7 @@ module _ (set rows : List ℕ) (count : ℕ) (table : MessageTable set rows coun
       row_entry set rows count table j (omega arith) e ∙ ap (λ (x : Entry). x.message) (at_get_or p e)
 
   module _ (t fields_table : List ℕ) (n : ℕ) (holds : Holds (all_members set 2 rows count 0) t 0 fields_table n) (room : n * 5 ≤ length t)
-      (few : length (messages_in (decode_set set)) ≤ max_messages) (good : names (decode_set set) ≡ Good)
+      (few : length (messages_in (decode_set set)) ≤ max_messages) (good : names (decode_set set) ≡ Ok tt)
       (target : List ℕ) (targets : (r : Row) (k : ℕ) → At r (rows_of es) k → (is_message r.field || is_group r.field) ≡ true → get_or target k 0 ≡ number_of es (type_name_of r)) where
     abbrev kind : List ℕ
     kind = (columns set rows count table t fields_table n holds room few good target targets).kind

@@ -1,5 +1,5 @@
 -- The rows of the tables say of each message and field what context's definitions say by full names. Assumes nothing.
-use Rattle.std.specs.Prelude.{◌≡◌, refl, Bool, true, ◌||◌, List, ℕ, ◌+◌, ◌*◌, ◌≤◌, ◌<◌, eqb, ltb, length, get_or}
+use Rattle.std.specs.Prelude.{◌≡◌, refl, Bool, true, ◌||◌, List, ℕ, ◌+◌, ◌*◌, ◌≤◌, ◌<◌, eqb, ltb, length, get_or, Ok}
 use Rattle.std.proofs.Common.{sym, ap, ◌∙◌, subst, ⊎_elim, arith, ltb-true, ltb-false}
 use Rattle.std.proofs.Math.Bool.{false}
 use Rattle.std.proofs.Math.ListN.{length-map, get_or-eq_default}
@@ -12,7 +12,6 @@ use Rattle.options.specs.Settings.{Setting}
 use Rattle.name_rules.specs.Accessors.{text, type, label, is_repeated, is_message, is_group}
 use Rattle.name_rules.specs.FullNames.{◌·◌, Entry, set_entries}
 use Rattle.name_rules.specs.Answer.{names}
-use Rattle.name_rules.specs.declared.Names.TheVariants.{Good}
 use Rattle.context.specs.Context.{has}
 use Rattle.index.specs.Tree.{Holds, all_members}
 use Rattle.index.proofs.SetLaws.{MessageTable}
@@ -53,7 +52,7 @@ module _ (f : Fields) (settings : List Bool) (m k : ℕ) (within : k < m) (d : D
 
 module _ (set rows : List ℕ) (count : ℕ) (table : MessageTable set rows count) (t fields_table : List ℕ) (n : ℕ)
     (holds : Holds (all_members set 2 rows count 0) t 0 fields_table n) (room : n * 5 ≤ length t)
-    (few : length (messages_in (decode_set set)) ≤ max_messages) (good : names (decode_set set) ≡ Good) where
+    (few : length (messages_in (decode_set set)) ≤ max_messages) (good : names (decode_set set) ≡ Ok tt) where
   abbrev ds : List FileDescriptor
   ds = decode_set set
 

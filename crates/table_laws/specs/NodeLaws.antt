@@ -1,5 +1,5 @@
 -- The messages of a set with what is nested in them: the number behind it, and the map entries that their fields name. Assumes nothing.
-use Rattle.std.specs.Prelude.{◌≡◌, refl, ◌&&◌, ◌⊎◌, ℕ, ◌+◌, ◌<◌, length}
+use Rattle.std.specs.Prelude.{◌≡◌, refl, ◌&&◌, ◌⊎◌, ℕ, ◌+◌, ◌<◌, length, Ok}
 use Rattle.std.proofs.Math.Path.{sym, ap}
 use Rattle.std.proofs.Common.{◌∙◌, subst, ltb-false, eq-eqb, ne_eqb}
 use Rattle.std.proofs.Math.Bool.{Bool, true, false}
@@ -19,14 +19,13 @@ use Rattle.name_rules.specs.Rules.{file_good}
 use Rattle.name_rules.specs.FullNames.{◌·◌, package_scope, Entry, entries, set_entries, fields_of_entries, set_fields}
 use Rattle.name_rules.specs.MapEntries.{names_it, entry_named, entries_named, map_entries_named}
 use Rattle.name_rules.specs.Answer.{file_named, first_six, names}
-use Rattle.name_rules.specs.declared.Names.TheVariants.{Good}
 use Rattle.context_laws.specs.At.{At, at_one, mem_of_at}
 use Rattle.context_laws.specs.Tables.{Row, rows_of, type_name_of, Sound}
 use Rattle.context_laws.specs.Tables as tables
 use Rattle.context_laws.specs.Numbers.{find_entry}
 use Rattle.context_laws.specs.Rows.{first_row}
 use Rattle.context_laws.proofs.Rows.{find_owner, row_of, row_typed}
-use Rattle.context_laws.specs.SoundSets.{no_refusals}
+use Rattle.name_rules.proofs.NamesLaws.{no_refusals}
 use Rattle.text_tables.specs.Rows.{message_row, field_row}
 use Rattle.code_generator.specs.MapFields.{entry_of, map_entry_of}
 use Rattle.members.specs.Members.{map_entry_at}
@@ -99,7 +98,7 @@ module _ (es : List Entry) (fields parent : List FieldDescriptor) (after : ℕ �
 
 -- ---- each map entry among the files is named as it must be
 
-pub entries_are_named : (ds : List FileDescriptor) → names ds ≡ Good → Every (λ (f : FileDescriptor). map_entries_named (set_fields ds) f ≡ true) ds
+pub entries_are_named : (ds : List FileDescriptor) → names ds ≡ Ok tt → Every (λ (f : FileDescriptor). map_entries_named (set_fields ds) f ≡ true) ds
 unfolding first_six file_named
 entries_are_named ds good =
     all_every (λ (f : FileDescriptor). map_entries_named (set_fields ds) f ≡ true) (file_named (set_fields ds)) (λ f g. and_right (file_good f) (map_entries_named (set_fields ds) f) g) ds
@@ -114,7 +113,7 @@ pub record MapField (r : Row) (d : Entry) : Type 0 where
 
 -- ---- a set without refusals 6 and 7; after: the number behind what is nested in a message
 
-module _ (ds : List FileDescriptor) (s : Sound (set_entries ds)) (good : names ds ≡ Good) (after : ℕ → ℕ)
+module _ (ds : List FileDescriptor) (s : Sound (set_entries ds)) (good : names ds ≡ Ok tt) (after : ℕ → ℕ)
     (afters : FileAfters after 0 (map (λ (f : FileDescriptor). f.messages) ds)) where
   abbrev es : List Entry
   es = set_entries ds
@@ -202,7 +201,7 @@ module _ (ds : List FileDescriptor) (s : Sound (set_entries ds)) (good : names d
 
 -- ---- the messages of a set with their numbers
 
-module _ (set messages t : List ℕ) (s : Sound (set_entries (decode_set set))) (good : names (decode_set set) ≡ Good) (after : ℕ → ℕ)
+module _ (set messages t : List ℕ) (s : Sound (set_entries (decode_set set))) (good : names (decode_set set) ≡ Ok tt) (after : ℕ → ℕ)
     (afters : FileAfters after 0 (map (λ (f : FileDescriptor). f.messages) (decode_set set)))
     (behind : (e : Entry) (i : ℕ) → At e (set_entries (decode_set set)) i → (message_row messages i).after ≡ after i)
     (place : (r : Row) (k : ℕ) → At r (rows_of (set_entries (decode_set set))) k → is_message r.field ≡ true → (e : Entry) (j : ℕ) → At e (set_entries (decode_set set)) j → e.full ≡ type_name_of r → PlaceSays set (is_repeated r.field) e.message (field_row t k))

@@ -1,5 +1,5 @@
 -- A oneof's number fits its place in the table: a set without refusal 6 has fewer oneofs than bytes. Assumes nothing.
-use Rattle.std.specs.Prelude.{◌≡◌, refl, Bool, true, false, ℕ, ◌≤◌, ◌<◌}
+use Rattle.std.specs.Prelude.{◌≡◌, refl, Bool, true, false, ℕ, ◌≤◌, ◌<◌, Ok}
 use Rattle.std.proofs.Math.Path.{sym}
 use Rattle.std.proofs.Common.{subst, ⊎_elim, arith, length-append, lt-ltb}
 use mathlib.Core.List.Memᴰ
@@ -13,7 +13,6 @@ use Rattle.descriptor.specs.Decode.{decode_oneof, decode_message, decode_set}
 use Rattle.name_rules.specs.FullNames.{Entry, set_entries, fields_of_entries}
 use Rattle.name_rules.specs.WellFormed.{GoodMessage}
 use Rattle.name_rules.specs.Answer.{names}
-use Rattle.name_rules.specs.declared.Names.TheVariants.{Good}
 use Rattle.name_rules.proofs.WellFormedLaws.{every_message}
 use Rattle.index.proofs.SetLaws.{oneofs_of, members_fit}
 use Rattle.field_columns.proofs.EntryLaws.{set_messages}
@@ -43,7 +42,7 @@ number_fits true o h = refl
 number_fits false none h = refl
 number_fits false (some i) h = rw (lt-ltb i 65535 (h i refl))
 
-module _ (set : List ℕ) (small : length set ≤ 32768) (good : names (decode_set set) ≡ Good) where
+module _ (set : List ℕ) (small : length set ≤ 32768) (good : names (decode_set set) ≡ Ok tt) where
   pub oneof_fits : (f : FieldDescriptor) → Memᴰ f (fields_of_entries (set_entries (decode_set set)))
       → oneof_cell (choose f.proto3_optional none f.oneof_index) ≡ oneof_number (choose f.proto3_optional none f.oneof_index)
   unfolding decode_message

@@ -1,5 +1,5 @@
 -- The two tables of a set within the limits, without refusals 6 and 7: each row says what the definitions by full names say. Assumes nothing.
-use Rattle.std.specs.Prelude.{◌≡◌, Bool, true, false, ◌||◌, ℕ, ◌+◌, ◌*◌, ◌-◌, ◌≤◌, ◌<◌, length, get_or}
+use Rattle.std.specs.Prelude.{◌≡◌, Bool, true, false, ◌||◌, ℕ, ◌+◌, ◌*◌, ◌-◌, ◌≤◌, ◌<◌, length, get_or, Ok}
 use Rattle.std.proofs.Common.{sym, ◌∙◌, arith}
 use Rattle.std.proofs.Math.Path.{ap, subst}
 use mathlib.Core.List.{List}
@@ -12,7 +12,6 @@ use Rattle.options.specs.Settings.{Setting}
 use Rattle.name_rules.specs.Accessors.{is_repeated, is_message, is_group}
 use Rattle.name_rules.specs.FullNames.{Entry, set_entries}
 use Rattle.name_rules.specs.Answer.{names}
-use Rattle.name_rules.specs.declared.Names.TheVariants.{Good}
 use Rattle.index.specs.Tree.{Holds, all_members, row_at}
 use Rattle.index.proofs.SetLaws.{MessageTable}
 use Rattle.message_graph.specs.Limit.{messages}
@@ -42,7 +41,7 @@ use Rattle.table_laws.specs.OneofLaws.{oneof_fits}
 -- neither message nor group; and the buffer that `boxed_settings` wrote, with room for all fields
 module _ (set rows : List ℕ) (count : ℕ) (table : MessageTable set rows count) (t fields_table : List ℕ) (n : ℕ)
     (holds : Holds (all_members set 2 rows count 0) t 0 fields_table n) (room : n * 5 ≤ length t)
-    (passed : limit_passed set ≡ 0) (good : names (decode_set set) ≡ Good)
+    (passed : limit_passed set ≡ 0) (good : names (decode_set set) ≡ Ok tt)
     (target : List ℕ) (targets : (r : Row) (k : ℕ) → At r (rows_of (set_entries (decode_set set))) k → (is_message r.field || is_group r.field) ≡ true → get_or target k 0 ≡ number_of (set_entries (decode_set set)) (type_name_of r))
     (rs : List Setting) (buffer bytes : List ℕ) (end : ℕ) (wrote : Wrote buffer 0 (set_flags rs set) bytes end) (space : n ≤ length buffer) where
   abbrev ds : List FileDescriptor

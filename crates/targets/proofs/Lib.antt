@@ -1,3 +1,2 @@
 pub mod TypeLaws
-pub mod PutLaws
 pub mod TargetTheorem

@@ -1,4 +1,5 @@
 -- The column of targets of an accepted set has the numbers of the messages that type names name. Assumes nothing.
+use Rattle.std.specs.Prelude.{Ok}
 use mathlib.Core.Path.{◌≡◌, refl, sym, ap, ◌∙◌}
 use mathlib.Core.Bool.{Bool, true, false, not, ◌||◌}
 use mathlib.Core.List.{List, [], ◌∷◌, ◌++◌}
@@ -17,7 +18,6 @@ use Rattle.descriptor.specs.Limits.{messages_in, max_messages}
 use Rattle.name_rules.specs.Accessors.{is_message, is_group}
 use Rattle.name_rules.specs.FullNames.{Entry, set_entries}
 use Rattle.name_rules.specs.Answer.{names}
-use Rattle.name_rules.specs.declared.Names.TheVariants.{Good}
 use Rattle.index.specs.Tree.{Holds, all_members}
 use Rattle.index.proofs.SetLaws.{MessageTable}
 use Rattle.message_graph.specs.Tab.{tab, tab_at}
@@ -108,7 +108,7 @@ module _ (set t : List ℕ) (count : ℕ) (few_rows : count ≤ 65536) (lists : 
   -- `rows` and `fields` as index leaves them
   module _ (rows : List ℕ) (messages_counted : ℕ) (table : MessageTable set rows messages_counted) (u fields : List ℕ) (n : ℕ)
       (holds : Holds (all_members set 2 rows messages_counted 0) u 0 fields n) (room : n * 5 ≤ length u)
-      (few : length (messages_in (decode_set set)) ≤ max_messages) (good : names (decode_set set) ≡ Good) where
+      (few : length (messages_in (decode_set set)) ≤ max_messages) (good : names (decode_set set) ≡ Ok tt) where
     abbrev es : List Entry
     es = set_entries (decode_set set)
 

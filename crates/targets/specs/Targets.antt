@@ -5,7 +5,9 @@ use Rattle.descriptor.specs.Descriptor.{Bytes, FieldDescriptor}
 use Rattle.descriptor.specs.Decode.{decode_field}
 use Rattle.name_rules.specs.Accessors.{text, is_message, is_group}
 use Rattle.index.specs.Tree.{row_at, row_bytes}
-use Rattle.field_columns.specs.Columns.{byte_of}
+use Rattle.message_graph.specs.declared.Field.{Field}
+use Rattle.field_columns.specs.Columns.{byte_of, owner_at, column_at, Kind, Label}
+use Rattle.context_tables.specs.Cells.{is_set_at}
 use Rattle.declarations.specs.Rows.{cell_at}
 use Rattle.type_names.specs.LookUp.{find_row}
 
@@ -20,3 +22,13 @@ type_number set t count f = choose (is_message f || is_group f) (message_named s
 -- of field k of a table of fields
 unfoldable pub target_at : Bytes → List ℕ → List ℕ → ℕ → ℕ → ℕ
 target_at set fields t count k = type_number set t count (decode_field (row_bytes set (row_at fields k)))
+
+-- field k, with a boxed setting where a table of bytes says so
+abbrev pub field_in : Bytes → List ℕ → List ℕ → ℕ → List ℕ → ℕ → Field
+field_in set places t count settings k = record {
+  owner = owner_at places k;
+  target = target_at set places t count k;
+  kind = column_at set places Kind k;
+  label = column_at set places Label k;
+  boxed = is_set_at settings k;
+}

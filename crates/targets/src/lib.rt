@@ -1,24 +1,21 @@
-// The columns of the messages that the type names of a set's fields name, and of the fields' types and labels.
+//! The fields of a set: the message of each, the message that its type name names, its type and label, and its boxed setting.
 #![tactic(auto)]
 
-ghost use Rattle.std.specs.Prelude.{◌≡◌, ◌-◌, max, length, set as store};
+ghost use Rattle.std.specs.Prelude.{◌≡◌, ◌-◌, length};
 ghost use Rattle.descriptor.specs.Views.{field_of};
 ghost use Rattle.message_graph.specs.Tab.{tab};
-ghost use Rattle.field_columns.specs.Columns.{byte_of, column_at, Kind, Label};
+ghost use Rattle.field_columns.specs.Columns.{byte_of};
 ghost use Rattle.type_names.specs.LookUp.{row_sums};
-ghost use Rattle.targets.specs.Targets.{message_named, type_number, target_at};
+ghost use Rattle.targets.specs.Targets.{message_named, type_number, field_in};
 
 use descriptor::FieldView;
-use message_graph::Index;
+use message_graph::{Field, Index};
 
 // The number of a message whose row has this kind; 0 where a byte has no room for it.
 fn number_of(kind: usize) -> Index
     ensures { result ≡ byte_of (kind - 2) }
 {
-    if kind < 2 {
-        return 0;
-    }
-    let n = kind - 2;
+    let n = kind.saturating_sub(2);
     if n < 256 {
         return n as Index;
     }
@@ -54,69 +51,45 @@ fn target_of(set: &[u8], view: FieldView, t: &[usize], count: usize, sums: &[u64
     0
 }
 
-// The larger of the two.
-fn longer(a: usize, b: usize) -> usize
-    ensures { result ≡ max a b }
-{
-    if a < b {
-        return b;
-    }
-    a
-}
-
-// A number at place `i`, where the column has that place.
-fn put(column: &mut [u8], i: usize, number: u8)
-    ensures { column.new ≡ store column.old i number }
-{
-    if i < column.len() {
-        column[i] = number;
-    }
-}
-
-// The columns below, given the checksums of the rows: by one view of each field.
-fn columns_by(
+// Field `k`, given the checksums of the rows.
+fn field_in(
     set: &[u8],
-    fields: &[u16],
+    places: &[u16],
     t: &[usize],
     count: usize,
     sums: &[u64],
-    target: &mut [Index],
-    kind: &mut [u8],
-    label: &mut [u8],
-)
+    settings: &[u8],
+    k: usize,
+) -> Field
     requires { sums.now ≡ row_sums set.now t.now (length sums.now) }
-    ensures target_after { target.new ≡ tab (length target.old) (target_at set.now fields.now t.now count) }
-    ensures kind_after { kind.new ≡ tab (length kind.old) (column_at set.now fields.now Kind) }
-    ensures label_after { label.new ≡ tab (length label.old) (column_at set.now fields.now Label) }
+    ensures { result ≡ field_in set.now places.now t.now count settings.now k }
 {
-    let most = longer(target.len(), longer(kind.len(), label.len()));
-    let mut i = 0;
-    while i < most {
-        let view = field_columns::view_at(set, fields, i);
-        put(target, i, target_of(set, view, t, count, sums));
-        put(kind, i, field_columns::byte_of(view.kind));
-        put(label, i, field_columns::byte_of(view.label));
-        i += 1;
+    let view = field_columns::view_at(set, places, k);
+    Field {
+        owner: field_columns::owner_at(places, k),
+        target: target_of(set, view, t, count, sums),
+        kind: field_columns::byte_of(view.kind),
+        label: field_columns::byte_of(view.label),
+        boxed: base::byte_at(settings, k) != 0,
     }
 }
 
-// For each place of `target`, the number of the message that the type of the field there is, 0 where it is none; for each place
-// of `kind` and `label`, the field's type and label. `t` is a table of declarations with `count` rows; the checksums of rows go
-// into `sums`.
-pub fn fill_columns(
+/// For each place of `fields`, the field whose place in the set is there in `places`, with a boxed setting where the byte there in
+/// `settings` isn't 0. `t` is a table of declarations with `count` rows; the checksums of rows go into `sums`.
+#[tactic(auto, using(message_graph::specs::Tab::filled_none, message_graph::specs::Tab::filled_all))]
+pub fn fill_fields(
     set: &[u8],
-    fields: &[u16],
+    places: &[u16],
     t: &[usize],
     count: usize,
     sums: &mut [u64],
-    target: &mut [Index],
-    kind: &mut [u8],
-    label: &mut [u8],
+    settings: &[u8],
+    fields: &mut [Field],
 )
-    ensures target_after { target.new ≡ tab (length target.old) (target_at set.now fields.now t.now count) }
-    ensures kind_after { kind.new ≡ tab (length kind.old) (column_at set.now fields.now Kind) }
-    ensures label_after { label.new ≡ tab (length label.old) (column_at set.now fields.now Label) }
+    ensures { fields.new ≡ tab (length fields.old) (field_in set.now places.now t.now count settings.now) }
 {
     type_names::fill_sums(set, t, sums);
-    columns_by(set, fields, t, count, sums, target, kind, label);
+    for (k, field) in fields.iter_mut().enumerate() {
+        *field = field_in(set, places, t, count, sums, settings, k);
+    }
 }

@@ -1,10 +1,13 @@
-// What the text's writers read of a message and of a field, by their numbers in declaration order.
+//! What the text's writers read of a message and of a field, by their numbers in declaration order.
 #![tactic(auto)]
 
 ghost use Rattle.std.specs.Prelude.{◌≡◌, ◌<◌};
 ghost use Rattle.text_tables.specs.Rows.{number_at, flag_at, message_row, field_row};
 
-// Whether a message can derive Copy and Eq, its first field, and the message behind those nested in it.
+// The most rows that a table is read to have.
+const MOST_ROWS: usize = 65536;
+
+/// Whether a message can derive Copy and Eq, its first field, and the message behind those nested in it.
 #[derive(Drop)]
 pub struct MessageRow {
     pub copy: bool,
@@ -13,8 +16,8 @@ pub struct MessageRow {
     pub after: usize,
 }
 
-// Whether a field is boxed by a loop, whether it can derive Copy and Eq, where its part lies in the set, where that of the map entry
-// that it names, and its oneof: one more than the index, or 0.
+/// Whether a field is boxed by a loop, whether it can derive Copy and Eq, where its part lies in the set, where that of the map entry
+/// that it names, and its oneof: one more than the index, or 0.
 #[derive(Drop)]
 pub struct FieldRow {
     pub looped: bool,
@@ -27,95 +30,82 @@ pub struct FieldRow {
     pub oneof: usize,
 }
 
+// The number that a table has at i, and 0 past its end.
 fn number_at(t: &[u16], i: usize) -> usize
-    ensures { (result ≡ number_at t.now i) × (result < 65536) }
+    ensures number { result ≡ number_at t.now i }
+    ensures bound { result < 65536 }
 {
-    if i < t.len() {
-        return wide(t[i]);
+    match t.get(i) {
+        Some(number) => usize::from(*number),
+        None => 0,
     }
-    0
-}
-
-fn wide(x: u16) -> usize
-    ensures { (result ≡ x) × (result < 65536) }
-{
-    x as usize
 }
 
 fn flag_at(t: &[u16], i: usize) -> bool
     ensures { result ≡ flag_at t.now i }
 {
-    let n = number_at(t, i);
-    n != 0
+    number_at(t, i) != 0
 }
 
+/// The row of message `i`; nothing but false and 0 past the table's end.
+#[tactic(auto, unfolding(crate::specs::Rows::message_row, base::specs::Choose::choose))]
 pub fn message_row(t: &[u16], i: usize) -> MessageRow
     ensures { (result ≡ message_row t.now i) × (result.first < 65536) × (result.after < 65536) }
 {
-    if i < 65536 {
-        let at = i * 4;
-        let copy = flag_at(t, at);
-        let eq = flag_at(t, at + 1);
-        let first = number_at(t, at + 2);
-        let after = number_at(t, at + 3);
+    if i >= MOST_ROWS {
         return MessageRow {
-            copy,
-            eq,
-            first,
-            after,
+            copy: false,
+            eq: false,
+            first: 0,
+            after: 0,
         };
     }
+    let at = i * 4;
     MessageRow {
-        copy: false,
-        eq: false,
-        first: 0,
-        after: 0,
+        copy: flag_at(t, at),
+        eq: flag_at(t, at + 1),
+        first: number_at(t, at + 2),
+        after: number_at(t, at + 3),
     }
 }
 
+/// The row of field `k`; nothing but false and 0 past the table's end.
+#[tactic(auto, unfolding(crate::specs::Rows::field_row, base::specs::Choose::choose))]
 pub fn field_row(t: &[u16], k: usize) -> FieldRow
     ensures { result ≡ field_row t.now k }
 {
-    if k < 65536 {
-        let at = k * 8;
-        let looped = flag_at(t, at);
-        let copy = flag_at(t, at + 1);
-        let eq = flag_at(t, at + 2);
-        let start = number_at(t, at + 3);
-        let end = number_at(t, at + 4);
-        let entry = number_at(t, at + 5);
-        let entryend = number_at(t, at + 6);
-        let oneof = number_at(t, at + 7);
+    if k >= MOST_ROWS {
         return FieldRow {
-            looped,
-            copy,
-            eq,
-            start,
-            end,
-            entry,
-            entryend,
-            oneof,
+            looped: false,
+            copy: false,
+            eq: false,
+            start: 0,
+            end: 0,
+            entry: 0,
+            entryend: 0,
+            oneof: 0,
         };
     }
+    let at = k * 8;
     FieldRow {
-        looped: false,
-        copy: false,
-        eq: false,
-        start: 0,
-        end: 0,
-        entry: 0,
-        entryend: 0,
-        oneof: 0,
+        looped: flag_at(t, at),
+        copy: flag_at(t, at + 1),
+        eq: flag_at(t, at + 2),
+        start: number_at(t, at + 3),
+        end: number_at(t, at + 4),
+        entry: number_at(t, at + 5),
+        entryend: number_at(t, at + 6),
+        oneof: number_at(t, at + 7),
     }
 }
 
-// The oneof of a field: one more than the index, or 0.
+/// The oneof of a field: one more than the index, or 0.
+#[tactic(auto, unfolding(crate::specs::Rows::field_row, base::specs::Choose::choose))]
 pub fn oneof_at(t: &[u16], k: usize) -> usize
     ensures { result ≡ (field_row t.now k).oneof }
 {
-    if k < 65536 {
-        let at = k * 8 + 7;
-        return number_at(t, at);
+    if k >= MOST_ROWS {
+        return 0;
     }
-    0
+    number_at(t, k * 8 + 7)
 }

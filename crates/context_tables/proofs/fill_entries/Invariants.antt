@@ -1,11 +1,6 @@
 use Rattle.message_graph.specs.Tab.{Filled}
-use Prim.Native.Nat.{◌-◌}
-use lib.ListN.{length}
 use Rattle.context_tables.specs.Cells.{entry_at}
 use Rattle.context_tables.proofs.fill_entries.Given as goal
 
 abbrev pub invariant-loop-i : goal.invariant-loop-i
 invariant-loop-i l = Filled (entry_at l.set l.rows) l.initial.out l.out l.i
-
-abbrev pub decreases-loop-i : goal.decreases-loop-i
-decreases-loop-i l = length l.initial.out - l.i

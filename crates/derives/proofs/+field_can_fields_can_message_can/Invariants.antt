@@ -1,6 +1,5 @@
-use Rattle.message_graph.specs.Fields.{fields}
 use Rattle.derives.proofs.Known.{Scan}
-use Prim.Native.Nat.{◌+◌, ◌-◌, ◌*◌}
+use Prim.Native.Nat.{◌+◌, ◌*◌}
 use Rattle.derives.proofs.+field_can_fields_can_message_can.Given as goal
 
 abbrev pub decreases-field_can : goal.decreases-field_can
@@ -12,8 +11,5 @@ decreases-fields_can l = 3 * l.depth + 1
 abbrev pub decreases-message_can : goal.decreases-message_can
 decreases-message_can l = 3 * l.depth + 2
 
-abbrev pub invariant-fields_can-loop-i : goal.invariant-fields_can-loop-i
-invariant-fields_can-loop-i l = Scan l.d (fields l.owner l.target l.kind l.label) l.set l.initial.memo l.memo l.x l.i
-
-abbrev pub decreases-fields_can-loop-i : goal.decreases-fields_can-loop-i
-decreases-fields_can-loop-i l = l.last - l.i
+abbrev pub invariant-fields_can-loop-field : goal.invariant-fields_can-loop-field
+invariant-fields_can-loop-field l = Scan l.derive l.graph l.fields l.initial.memo l.memo l.message l.field-index

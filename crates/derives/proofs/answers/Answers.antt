@@ -1,25 +1,24 @@
-use mathlib.Core.Path.{sym}
-use native.Mathlib.Omega.{arith}
-use Rattle.message_graph.specs.Fields.{message_at_below}
+use Rattle.std.proofs.Common.{◌≡◌}
+use Rattle.message_graph.specs.Rows.{row_at, message_of}
 use Rattle.derives.proofs.Known.{told_none, told_memo, told_at, kept_more, unknown_bound, asked_none, asked_more, asked_all}
 use Rattle.derives.proofs.answers.Goals as goal
 
-pub loop-i-init : goal.loop-i-init
-loop-i-init c = (asked_none, told_none)
+pub loop-field-init : goal.loop-field-init
+loop-field-init c = record { asked = asked_none; kept = told_none }
 
-pub slice_bounds-message_can-end : goal.slice_bounds-message_can-end
-slice_bounds-message_can-end c = sym (told_memo c.loop-i.invariant.1 0).size
+pub message_can-requires-clause-memo : goal.message_can-requires-clause-memo
+message_can-requires-clause-memo c = told_memo c.loop-field.invariant.kept _
 
-pub message_can-requires : goal.message_can-requires
-message_can-requires c =
-    let below = message_at_below c.args.owner.now c.loop-i.i in
-    record { ranged = c.requires; memo = told_memo c.loop-i.invariant.1 _; x_lt_messages = (omega (arith, c.message_at-x.ensures), told_at c.loop-i.invariant.1 _); memo_bound = unknown_bound _ }
+pub message_can-requires-clause-sought : goal.message_can-requires-clause-sought
+message_can-requires-clause-sought c = told_at c.loop-field.invariant.kept _
 
-pub bounds-out-x : goal.bounds-out-x
-bounds-out-x c = omega (arith, c.loop-i.invariant.0.long, c.message_at-x.ensures, message_at_below c.args.owner.now c.loop-i.i)
+pub message_can-requires-clause-memo_bound : goal.message_can-requires-clause-memo_bound
+message_can-requires-clause-memo_bound c = unknown_bound _
 
-pub loop-i-preserved : goal.loop-i-preserved
-loop-i-preserved c = (asked_more c.loop-i.invariant.0 _ c.message_at-x.ensures c.message_can.result c.message_can.ensures.value, kept_more c.loop-i.invariant.1 c.message_can.ensures.kept)
+pub loop-field-preserved : goal.loop-field-preserved
+loop-field-preserved c =
+    let own : c.place_of-owner.result ≡ message_of (row_at c.args.graph.now c.loop-field.field-index).owner = rw c.fields-fields.ensures at c.place_of-owner.ensures.message in
+    record { asked = asked_more c.loop-field.invariant.asked _ own c.message_can.result c.message_can.ensures.value; kept = kept_more c.loop-field.invariant.kept c.message_can.ensures.kept }
 
 pub returns : goal.returns
-returns c = asked_all c.loop-i.invariant.0 c.loop-i-test.false
+returns c = asked_all c.loop-field.invariant.asked (rw c.fields-fields.ensures at c.loop-field-test.false)

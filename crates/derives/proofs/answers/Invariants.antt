@@ -1,13 +1,9 @@
-use Prim.Native.Nat.{◌-◌}
-use lib.ListN.{length, replicate}
+use Rattle.std.proofs.Common.{replicate}
+use Rattle.std.specs.Prelude.{None}
 use Rattle.message_graph.specs.Limit.{messages}
-use Rattle.message_graph.specs.Fields.{fields}
 use Rattle.derives.specs.Memo.{Kept}
 use Rattle.derives.proofs.Known.{Asked}
 use Rattle.derives.proofs.answers.Given as goal
 
-abbrev pub invariant-loop-i : goal.invariant-loop-i
-invariant-loop-i l = Asked l.d (fields l.owner l.target l.kind l.label) l.set l.out l.i × Kept l.d (fields l.owner l.target l.kind l.label) l.set (replicate messages 0) l.memo
-
-abbrev pub decreases-loop-i : goal.decreases-loop-i
-decreases-loop-i l = length l.owner - l.i
+abbrev pub invariant-loop-field : goal.invariant-loop-field
+invariant-loop-field l = record { asked : Asked l.derive l.graph l.can l.field-index; kept : Kept l.derive l.graph (replicate messages None) l.memo }

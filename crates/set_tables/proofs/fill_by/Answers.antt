@@ -5,25 +5,13 @@ use mathlib.Core.Path.{refl}
 use Rattle.set_tables.proofs.fill_by.Goals as goal
 
 pub overflow_mul-k : goal.overflow_mul-k
-overflow_mul-k c = omega (arith, c.within-k.ensures, c.requires.owners, fields_few c.args.set.now)
+overflow_mul-k c = omega (arith, c.min-k.ensures, c.requires.sized, fields_few c.args.set.now)
 
 pub slice_bounds-fill_rows-end-3 : goal.slice_bounds-fill_rows-end-3
-slice_bounds-fill_rows-end-3 c = omega (arith, c.within-k.ensures, c.requires.owners, c.requires.columns.targets)
-
-pub slice_bounds-fill_rows-end-4 : goal.slice_bounds-fill_rows-end-4
-slice_bounds-fill_rows-end-4 c = omega (arith, c.within-k.ensures, c.requires.owners, c.requires.columns.kinds)
-
-pub slice_bounds-fill_rows-end-5 : goal.slice_bounds-fill_rows-end-5
-slice_bounds-fill_rows-end-5 c = omega (arith, c.within-k.ensures, c.requires.owners, c.requires.columns.labels)
-
-pub slice_bounds-fill_rows-end-6 : goal.slice_bounds-fill_rows-end-6
-slice_bounds-fill_rows-end-6 c = omega (arith, c.within-k.ensures, c.requires.owners, c.requires.columns.flags)
-
-pub slice_bounds-fill_rows-end-7 : goal.slice_bounds-fill_rows-end-7
-slice_bounds-fill_rows-end-7 c = omega (arith, c.within-k.ensures, c.requires.owners, c.requires.columns.boxes)
+slice_bounds-fill_rows-end-3 c = omega (arith, c.min-k.ensures, c.requires.sized, c.requires.boxes)
 
 pub fill_rows-requires : goal.fill_rows-requires
-fill_rows-requires c = (parts_long _ _ _ _ _ _ _ _ _ c.within-k.ensures c.requires.owners c.requires.columns, entries_below _ _ _ c.requires.places c.requires.counted)
+fill_rows-requires c = record { boxed_length = parts_long _ _ _ _ _ c.min-k.ensures c.requires.sized c.requires.boxes; entries_below = entries_below _ _ _ c.requires.placed c.requires.counted }
 
 pub returns : goal.returns
-returns c = record { messages_after = message_numbers_are _ _ _ _ _ _ _ _ _ _ _ _ _ c.requires c.index_members-n.ensures _ c.within-k.ensures _ _ c.fill_rows.ensures.messages_after; t_after = field_numbers_are _ _ _ _ _ _ _ _ _ _ _ _ _ c.requires c.index_members-n.ensures _ c.within-k.ensures _ _ _ refl c.within-used.ensures _ c.fill_rows.ensures.t_after }
+returns c = record { messages_after = message_numbers_are _ _ _ _ _ _ _ _ _ c.requires c.index_members-n.ensures _ c.min-k.ensures _ _ c.fill_rows.ensures.messages_after; t_after = field_numbers_are _ _ _ _ _ _ _ _ _ c.requires c.index_members-n.ensures _ c.min-k.ensures _ _ _ refl c.min-used.ensures _ c.fill_rows.ensures.t_after }
