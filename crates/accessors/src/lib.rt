@@ -1,4 +1,4 @@
-// prost-types' accessors over a field's view: what is missing reads as its default.
+//! For callers that hold a set and a field's view: prost-types' accessors, where what is missing reads as its default.
 #![tactic(auto)]
 
 ghost use Rattle.std.specs.Prelude.{◌≡◌, ℕ};
@@ -9,6 +9,7 @@ ghost use Rattle.name_rules.specs.Accessors.{or_else, text, number, label, type}
 use descriptor::{FieldView, Number, Text};
 
 // The bytes of a text, none where it is missing.
+#[tactic(auto, unfolding(base::specs::Choose::choose))]
 pub fn text(s: &[u8], t: Text) -> &[u8]
     ensures { result.now ≡ text (text_of s.now t) }
 {
@@ -18,6 +19,7 @@ pub fn text(s: &[u8], t: Text) -> &[u8]
     &s[0..0]
 }
 
+#[tactic(auto, unfolding(base::specs::Choose::choose))]
 fn number_or(d: u32, n: Number) -> u32
     ensures { result ≡ or_else {A = ℕ} d (number_of n) }
 {
@@ -27,6 +29,7 @@ fn number_or(d: u32, n: Number) -> u32
     d
 }
 
+#[tactic(auto, unfolding(descriptor::specs::Views::field_of))]
 pub fn name(s: &[u8], f: FieldView) -> &[u8]
     ensures { result.now ≡ text (field_of s.now f).name }
 {
@@ -34,6 +37,7 @@ pub fn name(s: &[u8], f: FieldView) -> &[u8]
     text(s, name)
 }
 
+#[tactic(auto, unfolding(descriptor::specs::Views::field_of))]
 pub fn type_name(s: &[u8], f: FieldView) -> &[u8]
     ensures { result.now ≡ text (field_of s.now f).type_name }
 {
@@ -41,6 +45,7 @@ pub fn type_name(s: &[u8], f: FieldView) -> &[u8]
     text(s, name)
 }
 
+#[tactic(auto, unfolding(descriptor::specs::Views::field_of))]
 pub fn number(s: &[u8], f: FieldView) -> u32
     ensures { result ≡ number (field_of s.now f) }
 {
@@ -48,6 +53,7 @@ pub fn number(s: &[u8], f: FieldView) -> u32
     number_or(0, number)
 }
 
+#[tactic(auto, unfolding(descriptor::specs::Views::field_of))]
 pub fn label(s: &[u8], f: FieldView) -> u32
     ensures { result ≡ label (field_of s.now f) }
 {
@@ -55,6 +61,7 @@ pub fn label(s: &[u8], f: FieldView) -> u32
     number_or(1, label)
 }
 
+#[tactic(auto, unfolding(descriptor::specs::Views::field_of))]
 pub fn kind(s: &[u8], f: FieldView) -> u32
     ensures { result ≡ type (field_of s.now f) }
 {

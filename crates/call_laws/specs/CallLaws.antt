@@ -1,5 +1,5 @@
 -- The file with an index, of an accepted set: its text and its faults by the tables are those that the text call speaks of. Assumes nothing.
-use Rattle.std.specs.Prelude.{◌≡◌, length}
+use Rattle.std.specs.Prelude.{◌≡◌, length, Ok}
 use Rattle.std.proofs.Math.Path.{refl, ap}
 use Rattle.std.proofs.Common.{◌∙◌, not-suc-le-zero, le_of_suc-le-suc, length-append}
 use mathlib.Core.List.{List, [], ◌∷◌, map}
@@ -12,10 +12,8 @@ use Rattle.descriptor.specs.Decode.{entries_of, entries, last_from, parts, decod
 use Rattle.descriptor.specs.Limits.{messages_in, limit_passed}
 use Rattle.options.specs.Settings.{Setting, settings}
 use Rattle.options.specs.Layout.{layout}
-use Rattle.options.specs.declared.check.Layout.TheVariants as row
 use Rattle.name_rules.specs.FullNames.{package_scope}
 use Rattle.name_rules.specs.Answer.{names}
-use Rattle.name_rules.specs.declared.Names.TheVariants.{Good}
 use Rattle.index.specs.Tree.{size}
 use Rattle.context_laws.specs.At.{At}
 use Rattle.context_laws.specs.At.At.{first, next}
@@ -87,7 +85,7 @@ abbrev faults_of : List Setting → FileDescriptor → Faults
 faults_of rs f = record { overlap = variants_overlap rs f; default = defaults_fail rs f }
 
 -- the file with the index, of a set within the limits, without refusals 6 and 7
-module _ (rs : List Setting) (set messages t : List ℕ) (passed : limit_passed set ≡ 0) (good : names (decode_set set) ≡ Good) (says : Says rs set messages t)
+module _ (rs : List Setting) (set messages t : List ℕ) (passed : limit_passed set ≡ 0) (good : names (decode_set set) ≡ Ok tt) (says : Says rs set messages t)
     (file : ℕ) (there : file < length (parts 1 (entries set))) where
   abbrev part_of : Bytes
   part_of = part_at (parts 1 (entries set)) file
@@ -122,5 +120,5 @@ every_at P [] x h e = absurd (not-suc-le-zero h)
 every_at P (f ∷ fs) zero h e = e.0
 every_at P (f ∷ fs) (suc x) h e = every_at P fs x (le_of_suc-le-suc h) e.1
 
-pub call_bounded : (o set : Bytes) → layout o ≡ row.Good → limit_passed set ≡ 0 → (file : ℕ) → file < length (decode_set set) → length (file_text (settings o) (decode_set set) (file_at (decode_set set) file)) < 2 ^ 52
+pub call_bounded : (o set : Bytes) → layout o ≡ Ok tt → limit_passed set ≡ 0 → (file : ℕ) → file < length (decode_set set) → length (file_text (settings o) (decode_set set) (file_at (decode_set set) file)) < 2 ^ 52
 call_bounded o set good passed file there = every_at (λ (f : FileDescriptor). length (file_text (settings o) (decode_set set) f) < 2 ^ 52) (decode_set set) file there (text_bounded o set good passed)

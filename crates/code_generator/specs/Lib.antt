@@ -9,3 +9,4 @@ pub mod Generate
 pub mod Refusals
 pub mod Examples
 pub mod TreeTexts
+pub mod Writing

@@ -1,5 +1,5 @@
 -- Without refusal 6, the type and label of each field are among descriptor.proto's numbers, so a table of bytes holds them. Assumes nothing.
-use Rattle.std.specs.Prelude.{◌≡◌, true, ℕ, ◌≤◌, leb, length}
+use Rattle.std.specs.Prelude.{◌≡◌, true, ℕ, ◌≤◌, leb, length, Ok}
 use Rattle.std.proofs.Common.{subst, ⊎_elim, leb-true, ltb-false}
 use Rattle.std.proofs.lemmas.Bool.{false≢true}
 use mathlib.Core.List.Memᴰ
@@ -13,9 +13,9 @@ use Rattle.name_rules.specs.Accessors.{or_else, text, type, label}
 use Rattle.name_rules.specs.Rules.{has_name, within, field_good, message_good, entry_good, messages_good, package_good, syntax_good, file_good}
 use Rattle.name_rules.specs.MapEntries.{map_entries_named}
 use Rattle.name_rules.specs.FullNames.{◌·◌, entries, set_entries, package_scope, fields_of_entries, set_fields}
-use Rattle.name_rules.specs.declared.Names.TheVariants.{Good}
 use Rattle.name_rules.specs.Answer.{file_named, first_six, names}
-use Rattle.context_laws.specs.SoundSets.{fields_append, past, all_of_all, file_entries, no_refusals}
+use Rattle.context_laws.specs.SoundSets.{fields_append, past, all_of_all, file_entries}
+use Rattle.name_rules.proofs.NamesLaws.{no_refusals}
 
 pub record Ranged (f : FieldDescriptor) : Type 0 where
   pub type_in : type f ≤ 18
@@ -57,6 +57,6 @@ files_ranged all_fields (x ∷ fs) h f m =
     (λ w. files_ranged all_fields fs ok.1 f w)
     (Memᴰ.append_cases (fields_of_entries (file_entries x)) (subst (λ (l : List FieldDescriptor). Memᴰ f l) (fields_append (file_entries x) (set_entries fs)) m))
 
-pub ranged_set : (set : List FileDescriptor) → names set ≡ Good → (f : FieldDescriptor) → Memᴰ f (set_fields set) → Ranged f
+pub ranged_set : (set : List FileDescriptor) → names set ≡ Ok tt → (f : FieldDescriptor) → Memᴰ f (set_fields set) → Ranged f
 unfolding first_six
 ranged_set set good = files_ranged (set_fields set) set (ltb-false (first_six set) (length set) (no_refusals set good).0)

@@ -1,5 +1,5 @@
 -- A set within limit 3 and without refusals 6 and 7 is sound. Assumes nothing.
-use Rattle.std.specs.Prelude.{◌≡◌, refl, Bool, true, false, ◌&&◌, ◌||◌, not, ℕ, suc, ◌+◌, ◌≤◌, ltb, length}
+use Rattle.std.specs.Prelude.{◌≡◌, refl, Bool, true, false, ◌&&◌, ◌||◌, not, ℕ, suc, ◌+◌, ◌≤◌, ltb, length, Ok}
 use Rattle.std.proofs.Common.{sym, ◌∙◌, ap, subst, ⊎_elim, not-suc-le-zero, arith, length-append, ltb-false}
 use Rattle.std.proofs.Math.Bool.{or-false, or_assoc}
 use mathlib.Core.List.Memᴰ
@@ -13,9 +13,8 @@ use Rattle.descriptor.specs.Descriptor.{Bytes, Forest, done, node, preorder, Fie
 use Rattle.descriptor.specs.Limits.{max_messages, messages_in}
 use Rattle.name_rules.specs.Accessors.{text}
 use Rattle.name_rules.specs.FullNames.{◌·◌, Entry, entries, set_entries, package_scope, Declaration, enum_declarations, entry_declarations, file_declarations, set_declarations, declared, equals, declared_as, fresh, type_declared, fields_of_entries, file_fields, first_undeclared}
-use Rattle.name_rules.specs.declared.Names.{Names}
-use Rattle.name_rules.specs.declared.Names.TheVariants.{Good, Six, Seven}
-use Rattle.name_rules.specs.Answer.{first_six, first_seven, names, refusal_number}
+use Rattle.name_rules.proofs.NamesLaws.{no_refusals}
+use Rattle.name_rules.specs.Answer.{first_six, first_seven, names}
 use Rattle.context_laws.specs.Tables.{listed, Distinct, Sound}
 
 -- ---- tests over two lists, one after the other
@@ -187,20 +186,8 @@ set_count [] = refl
 set_count (f ∷ fs) =
     length-append (file_entries f) (set_entries fs) ∙ rw (entries_count (package_scope f.package_name) f.messages, set_count fs) (sym (length-append (preorder f.messages) (messages_in fs)))
 
--- where `names` finds no refusal, there is no file with refusal 6 or 7
-choose_none : (t u : Bool) (six seven : Names) → (refusal_number six ≡ 0 → ⊥) → (refusal_number seven ≡ 0 → ⊥) → choose t six (choose u seven Good) ≡ Good → (t ≡ false) × (u ≡ false)
-unfolding choose
-choose_none true u six seven g h e = absurd (g (ap refusal_number e))
-choose_none false true six seven g h e = absurd (h (ap refusal_number e))
-choose_none false false six seven g h e = (refl, refl)
-
-pub no_refusals : (set : List FileDescriptor) → names set ≡ Good → (ltb (first_six set) (length set) ≡ false) × (ltb (first_seven set) (length set) ≡ false)
-unfolding names
-no_refusals set good =
-    choose_none (ltb (first_six set) (length set)) (ltb (first_seven set) (length set)) (Six (first_six set)) (Seven (first_seven set)) (λ e. omega arith) (λ e. omega arith) good
-
 -- limit 3 is kept, and there is neither refusal 6 nor 7
-pub sound_set : (set : List FileDescriptor) → length (messages_in set) ≤ max_messages → names set ≡ Good → Sound (set_entries set)
+pub sound_set : (set : List FileDescriptor) → length (messages_in set) ≤ max_messages → names set ≡ Ok tt → Sound (set_entries set)
 unfolding first_seven type_declared choose
 sound_set set few good =
     let all_files = files_pass (set_declarations set) [] set (ltb-false (first_seven set) (length set) (no_refusals set good).1) in

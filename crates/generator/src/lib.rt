@@ -6,7 +6,10 @@ ghost use Rattle.ident.specs.Convert.{convert};
 ghost use Rattle.calls.specs.TextCall.{text_call, text_left};
 ghost use Rattle.calls.specs.NameCall.{name_call};
 
+use base::refusal::Returned;
+
 // The text call: 0 or the refusal's number is returned, and the length or the place is left in `place`.
+#[tactic(auto, unfolding(calls::specs::TextCall::text_call))]
 #[unsafe(no_mangle)]
 pub extern "C" fn cemilovash_text(
     set: &[u8],
@@ -19,18 +22,19 @@ pub extern "C" fn cemilovash_text(
     ensures place_after { place.new ≡ (text_call set.now options.now file (length text.old)).place }
     ensures text_after { text.new ≡ text_left set.now options.now file text.old }
 {
-    let x = text_call::numbers_of(text_call::text(set, options, file, text));
+    let x = Returned::from(text_call::text(set, options, file, text));
     *place = x.place;
     x.number
 }
 
 // The name check: 0 or the refusal's number is returned, and 1 for yes, 0 for no or the place is left in `place`.
+#[tactic(auto, unfolding(calls::specs::NameCall::name_call, calls::specs::NameCall::yes_or_no, base::specs::Choose::choose))]
 #[unsafe(no_mangle)]
 pub extern "C" fn cemilovash_names(set: &[u8], options: &[u8], place: &mut usize) -> u32
     ensures value { result ≡ (name_call set.now options.now).number }
     ensures place_after { place.new ≡ (name_call set.now options.now).place }
 {
-    let y = name_call::numbers_of(name_call::check_names(set, options));
+    let y = Returned::from(name_call::check_names(set, options).map(usize::from));
     *place = y.place;
     y.number
 }

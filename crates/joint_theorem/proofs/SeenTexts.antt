@@ -1,5 +1,5 @@
 -- What is seen, file index by file index, is what is seen of the set; and what stands in modules, without marks. Assumes nothing.
-use Rattle.std.specs.Prelude.{ℕ, zero, suc, ◌≡◌, refl, Bool, true, false, length}
+use Rattle.std.specs.Prelude.{ℕ, zero, suc, ◌≡◌, refl, Bool, true, false, length, Ok}
 use Rattle.std.proofs.Math.Path.{sym, ap}
 use Rattle.std.proofs.Common.{◌∙◌, inl, inr}
 use mathlib.Core.List.{List, [], ◌∷◌, ◌++◌, map, map-append, Memᴰ}
@@ -9,7 +9,6 @@ use Rattle.descriptor.specs.Descriptor.{Bytes, FileDescriptor}
 use Rattle.descriptor.specs.Decode.{decode_set}
 use Rattle.options.specs.Settings.{Setting, settings}
 use Rattle.name_rules.specs.Answer.{names}
-use Rattle.name_rules.specs.declared.Names.TheVariants.{Good}
 use Rattle.code_generator.specs.Piece.{Piece, raw, opaque, extern, name, mod_open, decl_open, label, path, mark, written}
 use Rattle.name_check.specs.NameCheck.{PackageModule, package_modules}
 use Rattle.calls.specs.TextCall.{file_at}
@@ -83,7 +82,7 @@ module _ (set options : Bytes) where
   pub marked_is : set_sights (settings options) (decode_set set) ≡ described set options
   marked_is = set_sights_are (settings options) (decode_set set)
 
-  module _ (good : names (decode_set set) ≡ Good) where
+  module _ (good : names (decode_set set) ≡ Ok tt) where
     pub seen_is : seen set options ≡ map unmarked (set_sights (settings options) (decode_set set))
     unfolding seen_in
     seen_is =

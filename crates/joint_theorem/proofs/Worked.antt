@@ -19,8 +19,9 @@ use Rattle.code_generator.specs.Enums.{is_used, mappings_from}
 use Rattle.code_generator.specs.Generate.{file_text}
 use Rattle.code_generator.specs.Refusals.{any_message, overlap, enum_overlaps, variants_overlap, default_fails, defaults_fail}
 use Rattle.code_generator.specs.TreeTexts as worked
-use Rattle.calls.specs.TextCall.{given, file_at, by_index, by_room, by_text, text_call}
-use Rattle.calls.specs.NameCall.{yes_or_no, name_call}
+use Rattle.base.specs.Refusal.{given, returned, after}
+use Rattle.calls.specs.TextCall.{file_at, by_index, by_room, by_text, text_answer, text_call}
+use Rattle.calls.specs.NameCall.{yes_or_no, name_answer, name_call}
 use Rattle.walks_end.specs.Walks.{group_free}
 use Rattle.walks_end.proofs.Examples as names
 use Rattle.joint_theorem.specs.Claim.{Accepted, Demand}
@@ -36,11 +37,11 @@ free : group_free (decode_set set) ≡ true
 free = rw decoded names.free
 
 says_yes : name_call set options ≡ given 1
-unfolding name_call yes_or_no choose
+unfolding name_call name_answer yes_or_no choose
 says_yes = rw (laid_out, rows, valid, readable, decoded, names.good, names.says_yes) refl
 
-of_file : (file : ℕ) → text_call set options file (length (buffers file)) ≡ by_index file 3 (by_text worked.rs worked.set 4096 (file_at worked.set file))
-unfolding text_call
+of_file : (file : ℕ) → text_call set options file (length (buffers file)) ≡ returned (after (by_index file 3) (by_text worked.rs worked.set 4096 (file_at worked.set file)))
+unfolding text_call text_answer
 of_file file = rw (laid_out, rows, valid, readable, decoded, names.good, length-replicate {A = ℕ} 4096 0) refl
 
 -- refusals 8 and 9 of each file
@@ -48,8 +49,8 @@ judged : map {B = Bool × Bool} (λ (f : FileDescriptor). (variants_overlap work
 unfolding variants_overlap enum_overlaps overlap defaults_fail default_fails any_message any among mappings_from is_used plain_fields map_entry_of sort_of taken extern_paths value_of find_best first_with prefixes filled before_dots choose same
 judged = refl
 
-in_room : (f : FileDescriptor) (text : Bytes) → variants_overlap worked.rs f ≡ false → defaults_fail worked.rs f ≡ false → file_text worked.rs worked.set f ≡ text → (by_room 4096 (length text)).number ≡ 0
-    → (by_text worked.rs worked.set 4096 f).number ≡ 0
+in_room : (f : FileDescriptor) (text : Bytes) → variants_overlap worked.rs f ≡ false → defaults_fail worked.rs f ≡ false → file_text worked.rs worked.set f ≡ text → (returned (by_room 4096 (length text))).number ≡ 0
+    → (returned (by_text worked.rs worked.set 4096 f)).number ≡ 0
 unfolding by_text choose
 in_room f text o d e h = rw (o, d, e) h
 

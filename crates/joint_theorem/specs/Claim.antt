@@ -16,7 +16,8 @@ use Rattle.context_laws.specs.Links.{Led}
 use Rattle.code_generator.specs.Piece.{Ref, type, choice, Owned}
 use Rattle.code_generator.specs.Oneofs.{oneof_of}
 use Rattle.name_check.specs.NameCheck.{package_modules}
-use Rattle.calls.specs.TextCall.{given, text_call, text_left, file_at}
+use Rattle.base.specs.Refusal.{given}
+use Rattle.calls.specs.TextCall.{text_call, text_left, file_at}
 use Rattle.calls.specs.NameCall.{name_call}
 use Rattle.sights.specs.Sights.{Item, Use, BoxUse, Sight, read, file_place, set_sights, items, uses, boxes}
 use Rattle.sights.specs.Unmarked.{unmarked, unmarked_item, unmarked_use}

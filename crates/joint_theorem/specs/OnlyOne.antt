@@ -1,5 +1,5 @@
 -- No two declarations of the texts are for the same message, enum or oneof. Assumes nothing.
-use Rattle.std.specs.Prelude.{ℕ, suc, ◌<◌, ◌≡◌, Bool, true, false, ◌||◌, length, get_or}
+use Rattle.std.specs.Prelude.{ℕ, suc, ◌<◌, ◌≡◌, Bool, true, false, ◌||◌, length, get_or, Ok}
 use Rattle.std.proofs.Math.Path.{refl}
 use Rattle.std.proofs.Common.{sym, ap, ◌∙◌, subst, arith}
 use Rattle.std.proofs.Math.Option.{Option, some}
@@ -14,7 +14,6 @@ use Rattle.extern_paths.specs.ExternPaths.{taken}
 use Rattle.name_rules.specs.Accessors.{text}
 use Rattle.name_rules.specs.FullNames.{set_entries}
 use Rattle.name_rules.specs.Answer.{names}
-use Rattle.name_rules.specs.declared.Names.TheVariants.{Good}
 use Rattle.name_rules.specs.WellFormed.{GoodEnum}
 use Rattle.type_names.proofs.SevenTheorems.{full_names, entries_apart}
 use Rattle.code_generator.specs.Piece.{Ref, type, choice}
@@ -64,7 +63,7 @@ nodes_apart : (ns : List Node) → FullsDiffer (map full_of ns) → Apart SameFu
 nodes_apart [] h = apart_nil
 nodes_apart (n ∷ ns) h = apart_cons (first_apart n ns h) (nodes_apart ns (λ i j l k e. h (suc i) (suc j) (omega (arith, l)) (omega (arith, k)) e))
 
-module _ (set : List FileDescriptor) (good : names set ≡ Good) where
+module _ (set : List FileDescriptor) (good : names set ≡ Ok tt) where
   one_node : (m n : Node) → Memᴰ m (set_nodes set) → Memᴰ n (set_nodes set) → full_of m ≡ full_of n → m ≡ n
   one_node m n i j e =
       let is : full_names (set_entries set) ≡ map full_of (set_nodes set) = ap full_names (set_entries_are set) ∙ names_are (set_nodes set) in
@@ -116,7 +115,7 @@ module _ (set : List FileDescriptor) where
         )))
         (comes_messages h following (λ n i. k n (Memᴰ.tail (Memᴰ.append_right (nodes full nested) i))))
 
-    all_come : names set ≡ Good → (f : FileDescriptor) → Memᴰ f set → Every Comes (file_nameds rs f)
+    all_come : names set ≡ Ok tt → (f : FileDescriptor) → Memᴰ f set → Every Comes (file_nameds rs f)
     unfolding file_nameds
     all_come good f i =
         let w = well_formed rs set good f i in
@@ -154,7 +153,7 @@ same_type h k x y e =
 same_oneof : (h k : List Bytes) (x y : OneofField) → h ≡ k → x.name ≡ y.name → x.has_type_name_conflict ≡ y.has_type_name_conflict → oneof_named h x ≡ oneof_named k y
 same_oneof h k x y p q c = rw (p, q, c) refl
 
-module _ (set : List FileDescriptor) (good : names set ≡ Good) where
+module _ (set : List FileDescriptor) (good : names set ≡ Ok tt) where
   for_oneof : (m n : Node) → Memᴰ m (set_nodes set) → Memᴰ n (set_nodes set) → (x y : OneofField) → Memᴰ x (oneof_fields m.message m.nested) → Memᴰ y (oneof_fields n.message n.nested)
       → full_of m ≡ full_of n → x.name ≡ y.name → oneof_named (names_of m) x ≡ oneof_named (names_of n) y
   for_oneof m n i j x y k l e q =

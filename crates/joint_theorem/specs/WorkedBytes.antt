@@ -1,26 +1,25 @@
 -- A worked set and its options as bytes, and how they are read. Assumes nothing.
-use Rattle.std.specs.Prelude.{◌≡◌, refl, [], ◌∷◌, ◌++◌}
+use Rattle.std.specs.Prelude.{◌≡◌, refl, [], ◌∷◌, ◌++◌, Ok}
 use Rattle.base.specs.Bytes.{b}
 use Rattle.base.specs.Choose.{choose}
 use Rattle.base.specs.Lists.{any, all_of}
 use Rattle.wire.specs.Varint.{varint, groups, on_varint}
 use Rattle.wire.specs.Step.{payload, step_at}
-use Rattle.wire.specs.Records.{on_step, scan, records, pass, over}
+use Rattle.wire.specs.Records.{on_step, scan, records}
 use Rattle.wire.specs.Contents.{field_of, value_of}
-use Rattle.known_fields.specs.Known.{class, class_in}
-use Rattle.known_fields.specs.Check.{check_set, check, judge, enter, levels_for, meet, on_verdict, on_checked}
+use Rattle.wire.specs.Readers.{groups as front_groups, varint as front_varint, payload as front_payload, cut}
+use Rattle.wire.specs.Message.{record_at, with_others, records_within, records_at}
+use Rattle.known_fields.specs.Known.{known, class_in, class}
+use Rattle.known_fields.specs.Check.{check_set, check, check_records, check_inside, admits, inner, enter, levels_for, meet}
 use Rattle.descriptor.specs.Descriptor.{Bytes, preorder}
 use Rattle.descriptor.specs.Decode.{entries, entries_of, last_from, parts, joined, field_in, decode_field, value_in, decode_value, decode_enum, decode_oneof, decode_message, decode_messages, decode_file, decode_set, deeper, too_deep_file}
 use Rattle.descriptor.specs.Limits.{messages_in, fields_in, enums_in, segments, passes_8, enum_lengths, full_lengths, passes_9, passes_10, limit_of_files, limit_passed}
 use Rattle.limits.specs.Answer.{read_set}
-use Rattle.limits.specs.declared.Read.TheVariants as read
 use Rattle.options.specs.Kinds.{sort_of, has_path, has_value, stands_once, is_kind}
 use Rattle.options.specs.Settings.{number, row_count, kind_at, path_length, value_length, zero_at, bodies, settings_from, settings}
 use Rattle.options.specs.Layout.{fits, kind_before, repeated, header_good, printable, body_good, row_good, layout_from, layout}
-use Rattle.options.specs.declared.check.Layout.TheVariants as row
 use Rattle.split.specs.Split.{begins, split_behind, split}
 use Rattle.extern_checks.specs.Doubles.{has_gap, valid_path, lists, doubled, at_fault, externs_from, externs}
-use Rattle.extern_checks.specs.declared.Externs.TheVariants as extern
 use Rattle.code_generator.specs.TreeTexts as worked
 
 -- the encoded set, a FileDescriptorSet of three files
@@ -35,11 +34,11 @@ pub decoded : decode_set set ≡ worked.set
 unfolding decode_set decode_file decode_messages decode_message decode_field decode_enum decode_oneof field_in value_in decode_value joined parts last_from entries entries_of field_of value_of records scan on_step step_at payload varint groups on_varint choose
 decoded = refl
 
-pub readable : read_set set ≡ read.Good
-unfolding read_set check_set check over pass records scan on_step step_at payload varint groups on_varint choose judge enter levels_for class class_in meet on_verdict on_checked limit_passed limit_of_files messages_in fields_in enums_in segments passes_8 enum_lengths full_lengths passes_9 passes_10 preorder any all_of deeper too_deep_file decode_set decode_file decode_messages decode_message decode_field decode_enum decode_oneof field_in value_in decode_value joined parts last_from entries entries_of field_of value_of
+pub readable : read_set set ≡ Ok tt
+unfolding read_set check_set check check_records check_inside admits inner enter levels_for meet class class_in known records_at records_within with_others record_at front_payload cut front_varint front_groups records scan on_step step_at payload varint groups on_varint choose limit_passed limit_of_files messages_in fields_in enums_in segments passes_8 enum_lengths full_lengths passes_9 passes_10 preorder any all_of deeper too_deep_file decode_set decode_file decode_messages decode_message decode_field decode_enum decode_oneof field_in value_in decode_value joined parts last_from entries entries_of field_of value_of
 readable = refl
 
-pub laid_out : layout options ≡ row.Good
+pub laid_out : layout options ≡ Ok tt
 unfolding layout layout_from row_good body_good printable header_good repeated kind_before fits is_kind stands_once has_value has_path sort_of number row_count kind_at path_length value_length zero_at bodies choose
 laid_out = refl
 
@@ -47,6 +46,6 @@ pub rows : settings options ≡ worked.rs
 unfolding settings settings_from number row_count kind_at path_length value_length bodies
 rows = refl
 
-pub valid : externs worked.rs ≡ extern.Good
+pub valid : externs worked.rs ≡ Ok tt
 unfolding externs externs_from at_fault doubled lists valid_path has_gap split split_behind begins any choose
 valid = refl

@@ -1,7 +1,7 @@
 -- Of an accepted set, with tables that say what they should and room for 2,048 rows: the names of members that meet are those of the name check.
 -- Assumes nothing.
 use Prim.Native.Nat.{ℕ, zero, suc, ◌+◌, ◌≤◌}
-use Rattle.std.specs.Prelude.{◌≡◌, Bool, true, false, ◌&&◌, not, length}
+use Rattle.std.specs.Prelude.{◌≡◌, Bool, true, false, ◌&&◌, not, length, Ok}
 use Rattle.std.proofs.Math.Path.{refl, ap₂}
 use Rattle.std.proofs.Common.{ap, ◌∙◌, ⊎_elim, arith, length-append, take_all}
 use Rattle.std.proofs.Math.Bool.{◌||◌}
@@ -17,7 +17,6 @@ use Rattle.name_rules.specs.Accessors.{text}
 use Rattle.name_rules.specs.FullNames.{◌·◌, package_scope}
 use Rattle.name_rules.specs.WellFormed.{GoodMessage, WellFormed}
 use Rattle.name_rules.specs.Answer.{names}
-use Rattle.name_rules.specs.declared.Names.TheVariants.{Good}
 use Rattle.name_rules.proofs.WellFormedLaws.{every_file}
 use Rattle.index.specs.Tree.{size}
 use Rattle.joined.specs.Joined.{max_path}
@@ -121,7 +120,7 @@ module _ (rs : List Setting) (set messages t : List ℕ) (room : ℕ) (enough : 
       (ap (λ (k : ℕ). files_meet rs room set messages t k ps) (behind_here i p numbered.0) ∙ files_are says (i + size (decode_file p).messages) ps numbered.1 fit.1 good.1 few.1)
 
   -- the set: within the limits, without refusals 6 and 7
-  pub set_meets_is : limit_passed set ≡ 0 → names (decode_set set) ≡ Good → Says rs set messages t → set_meets rs room set messages t ≡ any (file_members_meet rs) (decode_set set)
+  pub set_meets_is : limit_passed set ≡ 0 → names (decode_set set) ≡ Ok tt → Says rs set messages t → set_meets rs room set messages t ≡ any (file_members_meet rs) (decode_set set)
   unfolding set_meets decode_set fields_in
   set_meets_is passed good says =
       files_are says 0 (parts 1 (entries set)) says.nodes (set_fits set passed) (every_file (decode_set set) good)

@@ -17,11 +17,11 @@ use Rattle.set_tables.proofs.TablesSay.{tables_say, all_messages, all_fields}
 use Rattle.place_rows.specs.PlaceRows.{set_rows}
 use Rattle.package_names.specs.Packages.{packages_meet, packages_stand}
 use Rattle.member_rows.specs.MemberRows.{rows_overlap, set_meets}
-use Rattle.calls.specs.TextCall.{given}
-use Rattle.calls.specs.NameCall.{yes_or_no}
+use Rattle.descriptor.specs.Decode.{decode_set}
+use Rattle.name_check.specs.NameCheck.{name_check}
 use Rattle.name_call.specs.Differ.{rows_laid, names_differ}
 use Rattle.name_call.specs.NameTheorem.{names_differ_is}
-use Rattle.name_call.specs.Answer.{Accepted, checked}
+use Rattle.name_call.specs.Answer.{Accepted}
 
 -- the rows in the buffer
 pub stands_laid : {u v p : List ℕ} {r n : ℕ} → Wrote u 0 p v r → n ≡ min r (length v) → (set : Bytes) (z : Bool) → z ≡ packages_stand n (take (n - 0) (drop 0 v)) set → z ≡ packages_stand (length (take (length u) p)) (take (length u) p) set
@@ -49,20 +49,11 @@ module _ (rs : List Setting) (room : ℕ) (set messages t : List ℕ) (a : Bool)
       unfolding names_differ
       by_members h now en d ed = rw (← ea, ha, ← eb, hb, ← ec, h, ← en, ← ed)
 
--- yes or no, of an accepted set
-module _ (set o : Bytes) (accepted : Accepted set) (messages fields : List ℕ) (m n : ℕ) (messages_are : messages ≡ message_numbers m set o) (fields_are : fields ≡ field_numbers n set o) (wide : m ≡ 1024) (long : n ≡ 16384)
-    (room : ℕ) (rows : room ≡ 1081344) (d : Bool) (is : d ≡ names_differ (settings o) room set messages fields) where
-  says : Says (settings o) set messages fields
-  says = rw (messages_are, fields_are) (tables_say set o accepted.limits accepted.named m n (let few = all_messages set accepted.limits in omega arith) (let room = all_fields set accepted.limits accepted.named in omega arith))
-
-  pub answered : given (choose d 1 0) ≡ checked set o
-  unfolding checked yes_or_no
-  answered = ap (λ (b : Bool). given (choose b 1 0)) (is ∙ names_differ_is (settings o) set messages fields accepted.limits accepted.named says room (omega arith))
-
-  pub says_yes : d ≡ true → given 1 ≡ checked set o
-  unfolding choose
-  says_yes h = ap (λ (b : Bool). given (choose b 1 0)) (sym h) ∙ answered
-
-  pub says_no : d ≡ false → given 0 ≡ checked set o
-  unfolding choose
-  says_no h = ap (λ (b : Bool). given (choose b 1 0)) (sym h) ∙ answered
+-- of an accepted set
+pub answered : (set o : Bytes) → Accepted set → (messages fields : List ℕ) (m n : ℕ) → messages ≡ message_numbers m set o → fields ≡ field_numbers n set o → m ≡ 1024 → n ≡ 16384
+    → (room : ℕ) → room ≡ 1081344 → names_differ (settings o) room set messages fields ≡ name_check (settings o) (decode_set set)
+answered set o accepted messages fields m n messages_are fields_are wide long room rows =
+    names_differ_is (settings o) set messages fields accepted.limits accepted.named says room (omega arith)
+  where
+    says : Says (settings o) set messages fields
+    says = rw (messages_are, fields_are) (tables_say set o accepted.limits accepted.named m n (let few = all_messages set accepted.limits in omega arith) (let room = all_fields set accepted.limits accepted.named in omega arith))

@@ -1,2 +1,1 @@
 pub mod DifferLaws
-pub mod CallLaws

@@ -1,6 +1,6 @@
 -- Of an accepted set, with tables that say what they should and room for 2,816 rows: names are found to differ exactly if the name check says yes.
 -- Assumes nothing.
-use Rattle.std.specs.Prelude.{ℕ, ◌≤◌, ◌≡◌, refl, Bool, true, false, length, take}
+use Rattle.std.specs.Prelude.{ℕ, ◌≤◌, ◌≡◌, refl, Bool, true, false, length, take, Ok}
 use Rattle.std.proofs.Common.{sym, ◌∙◌, arith, take_all}
 use Rattle.std.proofs.Math.Path.{ap, ap₂}
 use Rattle.std.proofs.Math.Bool.{◌&&◌, not}
@@ -11,7 +11,6 @@ use Rattle.descriptor.specs.Decode.{decode_set}
 use Rattle.descriptor.specs.Limits.{limit_passed}
 use Rattle.options.specs.Settings.{Setting}
 use Rattle.name_rules.specs.Answer.{names}
-use Rattle.name_rules.specs.declared.Names.TheVariants.{Good}
 use Rattle.table_says.specs.Says.{Says}
 use Rattle.code_generator.specs.Refusals.{overlap}
 use Rattle.name_check.specs.NameCheck.{Place, package_modules, module_place, file_places, places, places_differ, file_members_meet, name_check}
@@ -39,7 +38,7 @@ not_not : (a : Bool) → not (not a) ≡ a
 not_not true = refl
 not_not false = refl
 
-module _ (rs : List Setting) (set messages t : List ℕ) (passed : limit_passed set ≡ 0) (good : names (decode_set set) ≡ Good) (says : Says rs set messages t) (room : ℕ) where
+module _ (rs : List Setting) (set messages t : List ℕ) (passed : limit_passed set ≡ 0) (good : names (decode_set set) ≡ Ok tt) (says : Says rs set messages t) (room : ℕ) where
   abbrev declared : List Place
   declared = all_of (file_places rs) (decode_set set)
 

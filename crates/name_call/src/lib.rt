@@ -3,26 +3,14 @@
 
 ghost use Rattle.std.specs.Prelude.{◌≡◌, length};
 ghost use Rattle.options.specs.Settings.{settings};
-ghost use Rattle.calls.specs.NameCall.{name_call};
+ghost use Rattle.descriptor.specs.Decode.{decode_set};
+ghost use Rattle.name_check.specs.NameCheck.{name_check};
+ghost use Rattle.calls.specs.NameCall.{name_answer};
 ghost use Rattle.name_call.specs.Differ.{names_differ};
-ghost use Rattle.name_call.specs.Answer.{outcome_of, Accepted, checked, by_set};
+ghost use Rattle.name_call.specs.Answer.{Accepted};
 
-use extern_checks::Externs;
-use options::check::Layout;
-use set_rules::Judged;
-
-// Yes, no, or a refusal with its place. A definition of specs/ gives the numbers.
-#[derive(Drop)]
-pub enum NameAnswer {
-    Yes,
-    No,
-    Layout(usize),
-    Externs(usize),
-    Unreadable(usize),
-    Limit(usize),
-    Names(usize),
-    Types(usize),
-}
+use base::refusal::Refusal;
+use options::Options;
 
 // Four numbers for each of 256 messages, eight for each of 2,048 fields.
 const MESSAGE_NUMBERS: usize = 1024;
@@ -54,72 +42,26 @@ pub fn names_differ(t: &mut [u8], o: &[u8], set: &[u8], messages: &[u16], fields
     !members
 }
 
-// Of a set without refusals.
-fn set_names(set: &[u8], o: &[u8]) -> NameAnswer
+// Do all names of a set without refusals differ?
+fn set_names(set: &[u8], o: &[u8]) -> bool
     requires { Accepted set.now }
-    ensures { outcome_of result ≡ checked set.now o.now }
+    ensures { result ≡ name_check (settings o.now) (decode_set set.now) }
 {
     let mut messages = [0u16; MESSAGE_NUMBERS];
     let mut fields = [0u16; FIELD_NUMBERS];
     set_tables::fill_tables(set, o, &mut messages, &mut fields);
     let mut rows = [0u8; ROW_BYTES];
-    let differ = names_differ(&mut rows, o, set, &messages, &fields);
-    if differ {
-        return NameAnswer::Yes;
-    }
-    return NameAnswer::No;
+    names_differ(&mut rows, o, set, &messages, &fields)
 }
 
-// 3, 4, 6 and 7, and the answer where they don't apply.
-fn judge_names(set: &[u8], o: &[u8]) -> NameAnswer
-    ensures { outcome_of result ≡ by_set set.now (checked set.now o.now) }
+/// The name check: do all names of a set differ?
+#[tactic(auto, unfolding(calls::specs::NameCall::name_answer), using(limits::proofs::AnswerLaws::none_passed))]
+pub fn check_names(set: &[u8], options: &[u8]) -> Result<bool, Refusal>
+    ensures { result ≡ name_answer set.now options.now }
 {
-    match set_rules::judge_set(set) {
-        Judged::Good => return set_names(set, o),
-        Judged::Fault(place) => return NameAnswer::Unreadable(place),
-        Judged::Passed(limit) => return NameAnswer::Limit(limit),
-        Judged::Six(file) => return NameAnswer::Names(file),
-        Judged::Seven(file) => return NameAnswer::Types(file),
-    }
-}
-
-// The name check of a set.
-pub fn check_names(set: &[u8], options: &[u8]) -> NameAnswer
-    ensures { outcome_of result ≡ name_call set.now options.now }
-{
-    match options::check::check_layout(options) {
-        Layout::Broken(row) => return NameAnswer::Layout(row),
-        Layout::Good => match extern_checks::check_externs(options) {
-            Externs::Bad(row) => return NameAnswer::Externs(row),
-            Externs::Good => return judge_names(set, options),
-        },
-    }
-}
-
-// Document 01's number and place of an answer.
-#[derive(Drop)]
-pub struct Numbers {
-    pub number: u32,
-    pub place: usize,
-}
-
-fn with_place(number: u32, place: usize) -> Numbers
-    ensures { (result.number ≡ number) × (result.place ≡ place) }
-{
-    Numbers { number, place }
-}
-
-pub fn numbers_of(a: NameAnswer) -> Numbers
-    ensures { (result.number ≡ (outcome_of a).number) × (result.place ≡ (outcome_of a).place) }
-{
-    match a {
-        NameAnswer::Yes => with_place(0, 1),
-        NameAnswer::No => with_place(0, 0),
-        NameAnswer::Layout(row) => with_place(1, row),
-        NameAnswer::Externs(row) => with_place(2, row),
-        NameAnswer::Unreadable(key) => with_place(3, key),
-        NameAnswer::Limit(limit) => with_place(4, limit),
-        NameAnswer::Names(file) => with_place(6, file),
-        NameAnswer::Types(file) => with_place(7, file),
-    }
+    options::check::check(options)?;
+    extern_checks::check(&Options::new(options))?;
+    limits::read_set(set)?;
+    set_rules::judge_names(set)?;
+    Ok(set_names(set, options))
 }

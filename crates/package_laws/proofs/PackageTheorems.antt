@@ -1,6 +1,6 @@
 -- Of an accepted set: packages that meet, and modules of packages among rows of places, as they are found, are those of the name check.
 -- Assumes nothing.
-use Rattle.std.specs.Prelude.{ℕ, ◌<◌, ◌≤◌, ◌≡◌, refl, Bool, true, false, ◌&&◌, ◌||◌, not, List, [], ◌∷◌, map, ltb, length}
+use Rattle.std.specs.Prelude.{ℕ, ◌<◌, ◌≤◌, ◌≡◌, refl, Bool, true, false, ◌&&◌, ◌||◌, not, List, [], ◌∷◌, map, ltb, length, Ok}
 use Rattle.std.proofs.Common.{sym, ap, ap₂, ◌∙◌, arith, take_all, ltb-true, ltb-false}
 use Rattle.base.specs.Bytes.{same_length}
 use Rattle.base.specs.Lists.{any, Every, every_to}
@@ -13,7 +13,6 @@ use Rattle.descriptor.specs.Decode.{entries, parts, decode_file, decode_set}
 use Rattle.descriptor.specs.Limits.{limit_passed}
 use Rattle.name_rules.specs.FullNames.{◌·◌}
 use Rattle.name_rules.specs.Answer.{names}
-use Rattle.name_rules.specs.declared.Names.TheVariants.{Good}
 use Rattle.joined.specs.Joined.{max_path}
 use Rattle.name_check.specs.NameCheck.{Place, PackageModule, modules_in, file_modules, package_modules, module_place, same_place, places_differ}
 use Rattle.name_rows.specs.Rows.{place_row, rows_in}
@@ -62,7 +61,7 @@ parts_are set = sym (
     ∙ ap (λ (q : Bytes → Bool). any q (parts 1 (entries set))) (λ i p. any_map (λ (g : FileDescriptor). meets cut_snake (file_segments (decode_file p)) (file_segments g)) decode_file (parts 1 (entries set)) i))
 
 -- the modules of packages have places that differ exactly if none meet
-pub packages_differ : (set : Bytes) → limit_passed set ≡ 0 → names (decode_set set) ≡ Good → places_differ (map module_place (package_modules (decode_set set))) ≡ not (packages_meet set)
+pub packages_differ : (set : Bytes) → limit_passed set ≡ 0 → names (decode_set set) ≡ Ok tt → places_differ (map module_place (package_modules (decode_set set))) ≡ not (packages_meet set)
 packages_differ set passed good = modules_differ (decode_set set) ∙ ap not (sym (parts_are set ∙ files_meet (decode_set set) (set_segments set passed good)))
 
 -- ---- modules of packages among rows
@@ -95,7 +94,7 @@ stands_is ys e m s = on (ltb (length m.home) 257) refl
     on false h = let l = ltb-false (length m.home) 257 h in sym (far (module_place m) ys (omega arith) e)
 
 -- one stands among the rows of places exactly if it is one of the places
-pub packages_stand_is : (set : Bytes) → limit_passed set ≡ 0 → names (decode_set set) ≡ Good → (ys : List Place) → Every Holds ys → (n : ℕ) (t : Bytes) → rows_in n t ≡ map place_row ys
+pub packages_stand_is : (set : Bytes) → limit_passed set ≡ 0 → names (decode_set set) ≡ Ok tt → (ys : List Place) → Every Holds ys → (n : ℕ) (t : Bytes) → rows_in n t ≡ map place_row ys
     → packages_stand n t set ≡ places_meet (map module_place (package_modules (decode_set set))) ys
 unfolding packages_stand part_stands decode_set
 packages_stand_is set passed good ys e n t is =

@@ -1,5 +1,5 @@
 -- The segments of the packages of an accepted set are names of at most 64 bytes. Assumes nothing.
-use Rattle.std.specs.Prelude.{ℕ, ◌≤◌, ◌≡◌, refl, true, false, eqb, ltb, length}
+use Rattle.std.specs.Prelude.{ℕ, ◌≤◌, ◌≡◌, refl, true, false, eqb, ltb, length, Ok}
 use Rattle.std.proofs.Math.Path.{sym, ap}
 use Rattle.std.proofs.Common.{subst, ◌∙◌, ltb-false}
 use Rattle.std.proofs.Math.Option.{Option, some, none}
@@ -19,7 +19,6 @@ use Rattle.name_rules.specs.FullNames.{package_scope}
 use Rattle.name_rules.specs.Rules as rules
 use Rattle.name_rules.specs.WellFormed.{Name, WellFormed}
 use Rattle.name_rules.specs.Answer.{names}
-use Rattle.name_rules.specs.declared.Names.TheVariants.{Good}
 use Rattle.name_rules.proofs.WellFormedLaws.{every_file}
 use Rattle.limit_facts.specs.Within.{within}
 use Rattle.paths_reach.specs.Dots.{split_cons}
@@ -71,7 +70,7 @@ files_segments [] good h = tt
 files_segments (f ∷ fs) good h =
     (package_segments f.package_name good.0.package_names (or_false_left (long_package f.package_name) _ h), files_segments fs good.1 (or_false_right (long_package f.package_name) _ h))
 
-pub set_segments : (set : Bytes) → limit_passed set ≡ 0 → names (decode_set set) ≡ Good → Every (λ (f : FileDescriptor). Every Segment (file_segments f)) (decode_set set)
+pub set_segments : (set : Bytes) → limit_passed set ≡ 0 → names (decode_set set) ≡ Ok tt → Every (λ (f : FileDescriptor). Every Segment (file_segments f)) (decode_set set)
 unfolding passes_8
 set_segments set passed good =
     files_segments (decode_set set) (every_file (decode_set set) good) (or_false_left _ _ (or_false_left _ _ (within set passed).names))

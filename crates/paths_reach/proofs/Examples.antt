@@ -1,5 +1,5 @@
 -- A set of two packages that meets what the theorem asks for, and the paths that are seen in its texts. Assumes nothing.
-use Rattle.std.specs.Prelude.{ℕ, ◌≡◌, refl, Bool, true, false}
+use Rattle.std.specs.Prelude.{ℕ, ◌≡◌, refl, Bool, true, false, Ok}
 use Prim.Native.String.{String}
 use Rattle.std.proofs.Common.{ap, ◌∙◌}
 use Rattle.std.proofs.Math.Option.{Option, some, none}
@@ -22,7 +22,6 @@ use Rattle.name_rules.specs.Rules.{good_name, segments, field_good, value_good, 
 use Rattle.name_rules.specs.FullNames.{entries, set_entries, file_declarations, set_declarations, declared, declared_as, fresh, type_declared, fields_of_entries, first_undeclared}
 use Rattle.name_rules.specs.MapEntries.{entry_named, entries_named, map_entries_named}
 use Rattle.name_rules.specs.Answer.{file_named, first_six, first_seven, names}
-use Rattle.name_rules.specs.declared.Names.TheVariants.{Good}
 use Rattle.context.specs.MessageGraph.{fields_of, field_links, links, leads, is_nested}
 use Rattle.context.specs.Context.{should_box}
 use Rattle.code_generator.specs.Resolve.{local_path, ident_path, ident_type, skip_common, way}
@@ -76,7 +75,7 @@ set =
     ∷ record { package_name = some (b "a.c"); syntax = none; messages = node (message "Thing" [] [] false []) done done; enums = [] }
     ∷ []
 
-good : names set ≡ Good
+good : names set ≡ Ok tt
 unfolding names first_six first_seven file_named file_good messages_good message_good field_good value_good enum_good entry_good key_good value_field_good key_type segments good_name map_entries_named entries_named entry_named entries set_entries file_declarations set_declarations declared declared_as fresh type_declared fields_of_entries first_undeclared name_start name_part every is_name has_word between class sort_of syntax_of all count first_failing choose same
 good = refl
 

@@ -1,6 +1,6 @@
 -- Clause 2 of demand 3: in a set without refusals 6 and 7 for which the name check says yes, each written path outside the extern paths
 -- reaches exactly one declaration, the one that the descriptor names.
-use Rattle.std.specs.Prelude.{ℕ, suc, ◌≡◌, Bool, true, ◌&&◌, ◌||◌, length}
+use Rattle.std.specs.Prelude.{ℕ, suc, ◌≡◌, Bool, true, ◌&&◌, ◌||◌, length, Ok}
 use Rattle.std.proofs.Math.Path.{refl}
 use Rattle.std.proofs.Common.{ap, sym, ◌∙◌, subst, arith, eqb-true}
 use Rattle.std.proofs.Math.Bool.{false}
@@ -21,7 +21,6 @@ use Rattle.name_rules.specs.Rules.{is_text}
 use Rattle.name_rules.specs.MapEntries.{names_it}
 use Rattle.name_rules.specs.WellFormed.{GoodField, GoodEntry}
 use Rattle.name_rules.specs.Answer.{names}
-use Rattle.name_rules.specs.declared.Names.TheVariants.{Good}
 use Rattle.code_generator.specs.Piece.{type, choice}
 use Rattle.code_generator.specs.Resolve.{way}
 use Rattle.code_generator.specs.MapFields.{MapEntry, map_entry_of}
@@ -137,7 +136,7 @@ entry_at k (node m nested following) x e h = go (m.map_entry && same (scope_of k
 abbrev Reached : List Setting → List FileDescriptor → Use → Type 0
 Reached rs set u = ReachesOne (world rs set) u
 
-module _ (rs : List Setting) (set : List FileDescriptor) (good : names set ≡ Good) (says_yes : name_check rs set ≡ true) where
+module _ (rs : List Setting) (set : List FileDescriptor) (good : names set ≡ Ok tt) (says_yes : name_check rs set ≡ true) where
   -- ---- the path of a type
   hits_type : (h : List Bytes) → Every DotFree h → (full : Bytes) (t : Target rs set full) → taken rs full ≡ false → Hits (whole rs set) h (written_path (way (scope_of h) full)) (type full)
   hits_type h here full t out =

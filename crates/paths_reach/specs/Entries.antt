@@ -1,6 +1,6 @@
 -- Which fields name a map entry, in a set without refusal 6: repeated message fields of the message that it is nested in. Assumes nothing.
 use Prim.Native.Nat.{ℕ, suc, ◌+◌, ◌≤◌}
-use Rattle.std.specs.Prelude.{◌≡◌, Bool, ◌&&◌, ◌⊎◌, eqb, ltb, length}
+use Rattle.std.specs.Prelude.{◌≡◌, Bool, ◌&&◌, ◌⊎◌, eqb, ltb, length, Ok}
 use Rattle.std.proofs.Math.Path.{refl, ap, sym, subst}
 use Rattle.std.proofs.Common.{◌∙◌, length-append}
 use Rattle.std.proofs.Math.Bool.{true, false}
@@ -19,8 +19,8 @@ use Rattle.name_rules.specs.Accessors.{text, is_repeated, is_message}
 use Rattle.name_rules.specs.Rules.{is_text, file_good}
 use Rattle.name_rules.specs.FullNames.{package_scope, entries, set_entries, fields_of_entries, set_fields}
 use Rattle.name_rules.specs.MapEntries.{names_it, maps_it, entry_named, entries_named, map_entries_named}
-use Rattle.name_rules.specs.Answer.{file_named, first_six, first_seven, names, refusal_number}
-use Rattle.name_rules.specs.declared.Names.TheVariants.{Good, Six, Seven}
+use Rattle.name_rules.specs.Answer.{file_named, first_six, first_seven, names}
+use Rattle.name_rules.proofs.NamesLaws.{no_refusals}
 use Rattle.map_entries.proofs.FieldCounts.{count_append}
 use Rattle.type_names.proofs.SevenTheorems.{fields_append}
 use Rattle.paths_reach.specs.Dots.{scope_of, scope_of_names, dotted_package}
@@ -186,20 +186,16 @@ unfolding entry_named count
 none_around fields full h = let l = ltb-true 0 0 (and_left (ltb 0 (count (maps_it full) [])) (eqb (count (maps_it full) []) (count (names_it full) fields)) h) in omega arith
 
 -- ---- a set without refusal 6
-no_six : (set : List FileDescriptor) → names set ≡ Good → all (file_named (set_fields set)) set ≡ true
-unfolding names choose first_six
-no_six set h = none_fails (file_named (set_fields set)) set (ltb-false (first_six set) (length set) (go (ltb (first_six set) (length set)) h))
-  where
-    go : (s : Bool) → choose s (Six (first_six set)) (choose (ltb (first_seven set) (length set)) (Seven (first_seven set)) Good) ≡ Good → s ≡ false
-    go false q = refl
-    go true q = let z : ◌≡◌ {A = ℕ} 6 0 = ap refusal_number q in absurd (omega arith)
+no_six : (set : List FileDescriptor) → names set ≡ Ok tt → all (file_named (set_fields set)) set ≡ true
+unfolding first_six
+no_six set h = none_fails (file_named (set_fields set)) set (ltb-false (first_six set) (length set) (no_refusals set h).0)
 
 -- a full name isn't empty
 pub names_full : (x : Bytes) (h : List Bytes) (o : Option Bytes) → scope_of (x ∷ h) ≡ text o → is_text (scope_of (x ∷ h)) o ≡ true
 names_full x h none e = absurd (let l = length-append (scope_of h) (46 ∷ x) in let z = ap length e in omega arith)
 names_full x h (some y) e = ap (same y) e ∙ same_refl y
 
-module _ (set : List FileDescriptor) (good : names set ≡ Good) where
+module _ (set : List FileDescriptor) (good : names set ≡ Ok tt) where
   around_in_file : (f : FileDescriptor) → Memᴰ f set → (n : Node) → Memᴰ n (file_nodes f) → n.message.map_entry ≡ true → Around (set_fields set) (file_nodes f) n
   unfolding file_named map_entries_named
   around_in_file f i n j e =

@@ -1,5 +1,5 @@
 -- The declaration that a field's type name names, in a set without refusals 6 and 7. Assumes nothing.
-use Rattle.std.specs.Prelude.{ℕ, zero, suc, ◌+◌, ◌≤◌, ◌<◌, ◌≡◌, refl, Bool, true, ◌&&◌, ◌||◌, not, eqb, ltb, length, get_or}
+use Rattle.std.specs.Prelude.{ℕ, zero, suc, ◌+◌, ◌≤◌, ◌<◌, ◌≡◌, refl, Bool, true, ◌&&◌, ◌||◌, not, eqb, ltb, length, get_or, Ok}
 use Rattle.std.proofs.Math.Path.{ap, sym}
 use Rattle.std.proofs.Common.{◌∙◌, subst, ⊎_elim, arith, ltb-false, eqb-true, eq-eqb}
 use Rattle.std.proofs.Math.Bool.{false}
@@ -15,8 +15,8 @@ use Rattle.extern_paths.specs.ExternPaths.{taken}
 use Rattle.name_rules.specs.Accessors.{text, type, is_message, is_group, is_enum}
 use Rattle.name_rules.specs.FullNames.{◌·◌, package_scope, Entry, entries, set_entries, Declaration, enum_declarations, entry_declarations, file_declarations, set_declarations, fresh, type_declared, file_fields, set_fields, first_undeclared}
 use Rattle.name_rules.specs.WellFormed.{GoodEnum, WellFormed}
-use Rattle.name_rules.specs.Answer.{first_six, first_seven, names, refusal_number}
-use Rattle.name_rules.specs.declared.Names.TheVariants.{Good, Six, Seven}
+use Rattle.name_rules.specs.Answer.{first_six, first_seven, names}
+use Rattle.name_rules.proofs.NamesLaws.{no_refusals}
 use Rattle.name_rules.proofs.WellFormedLaws.{every_file}
 use Rattle.type_names.proofs.FreshLaws.{fulls}
 use Rattle.type_names.proofs.SevenTheorems.{full_names, message_named, enum_named}
@@ -118,14 +118,12 @@ first_below ds before (f ∷ fs) =
     let rest = first_below ds (before ++ file_declarations f) fs in
     choose_case (λ (n : ℕ). n ≤ suc (length fs)) (fresh before (file_declarations f) && all (type_declared ds) (file_fields f)) (λ _. omega arith) (λ _. omega arith)
 
-pub no_seven : (set : List FileDescriptor) → names set ≡ Good → first_seven set ≡ length set
-unfolding names choose first_seven
-no_seven set h = go (ltb (first_six set) (length set)) (ltb (first_seven set) (length set)) refl h
-  where
-    go : (s t : Bool) → ltb (first_seven set) (length set) ≡ t → choose s (Six (first_six set)) (choose t (Seven (first_seven set)) Good) ≡ Good → first_seven set ≡ length set
-    go true t e q = let z : ◌≡◌ {A = ℕ} 6 0 = ap refusal_number q in absurd (omega arith)
-    go false true e q = let z : ◌≡◌ {A = ℕ} 7 0 = ap refusal_number q in absurd (omega arith)
-    go false false e q = let a = ltb-false (first_seven set) (length set) e in let c = first_below (set_declarations set) [] set in omega arith
+pub no_seven : (set : List FileDescriptor) → names set ≡ Ok tt → first_seven set ≡ length set
+unfolding first_seven
+no_seven set h =
+    let a = ltb-false (first_seven set) (length set) (no_refusals set h).1 in
+    let c = first_below (set_declarations set) [] set in
+    omega arith
 
 -- what a full name stands for: it is written where no extern path takes it
 pub record Target (rs : List Setting) (set : List FileDescriptor) (full : Bytes) : Type 0 where
@@ -135,7 +133,7 @@ pub record Target (rs : List Setting) (set : List FileDescriptor) (full : Bytes)
   pub free : Every DotFree (name ∷ home)
   pub there : taken rs full ≡ false → Memᴰ (type_named home name) (whole rs set)
 
-module _ (rs : List Setting) (set : List FileDescriptor) (good : names set ≡ Good) where
+module _ (rs : List Setting) (set : List FileDescriptor) (good : names set ≡ Ok tt) where
   pub well_formed : (f : FileDescriptor) → Memᴰ f set → WellFormed f
   well_formed f i = every_at WellFormed set (every_file set good) i
 

@@ -1,13 +1,12 @@
 -- Of an accepted set, with tables that say what they should: the rows are those of the declared places, which are few, and each fits into a row.
 -- Assumes nothing.
-use Rattle.std.specs.Prelude.{ℕ, ◌≤◌, ◌≡◌, List, length}
+use Rattle.std.specs.Prelude.{ℕ, ◌≤◌, ◌≡◌, List, length, Ok}
 use Rattle.std.proofs.Common.{arith}
 use Rattle.base.specs.Lists.{all_of, Every, every_of}
 use Rattle.descriptor.specs.Decode.{entries, parts, decode_set}
 use Rattle.descriptor.specs.Limits.{limit_passed}
 use Rattle.options.specs.Settings.{Setting}
 use Rattle.name_rules.specs.Answer.{names}
-use Rattle.name_rules.specs.declared.Names.TheVariants.{Good}
 use Rattle.name_rules.proofs.WellFormedLaws.{every_file}
 use Rattle.path_fits.proofs.FitLaws.{set_fits}
 use Rattle.table_says.specs.Says.{Says}
@@ -20,7 +19,7 @@ use Rattle.place_laws.specs.RowTexts.{files_rows_are}
 use Rattle.place_laws.specs.HeldPlaces.{files_held}
 use Rattle.place_laws.specs.PlaceCount.{places_most}
 
-module _ (rs : List Setting) (set messages t : List ℕ) (passed : limit_passed set ≡ 0) (good : names (decode_set set) ≡ Good) (says : Says rs set messages t) where
+module _ (rs : List Setting) (set messages t : List ℕ) (passed : limit_passed set ≡ 0) (good : names (decode_set set) ≡ Ok tt) (says : Says rs set messages t) where
   abbrev pub declared : List Place
   declared = all_of (file_places rs) (decode_set set)
 

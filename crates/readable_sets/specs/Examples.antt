@@ -1,5 +1,5 @@
 -- A set that the theorem speaks of: a message that holds itself, an enum and a oneof. Assumes nothing.
-use Rattle.std.specs.Prelude.{ℕ, ◌≡◌, refl, false, List, [], ◌∷◌, map}
+use Rattle.std.specs.Prelude.{ℕ, ◌≡◌, refl, false, List, [], ◌∷◌, map, Ok}
 use Rattle.std.proofs.Math.Option.{Option, some, none}
 use Rattle.base.specs.Bytes.{b, same}
 use Rattle.base.specs.Choose.{choose}
@@ -12,7 +12,6 @@ use Rattle.name_rules.specs.FullNames.{entries, set_entries, file_declarations, 
 use Rattle.name_rules.specs.Rules.{good_name, segments, field_good, value_good, enum_good, message_good, messages_good, file_good}
 use Rattle.name_rules.specs.MapEntries.{entries_named, map_entries_named}
 use Rattle.name_rules.specs.Answer.{file_named, first_six, first_seven, names}
-use Rattle.name_rules.specs.declared.Names.TheVariants.{Good}
 use Rattle.sights.specs.Sights.{set_sights}
 use Rattle.sights.specs.Unmarked.{unmarked}
 use Rattle.readable_sets.specs.ReadableSets.{seen_in, see_set}
@@ -52,7 +51,7 @@ tree =
 abbrev trees : List FileDescriptor
 trees = record { package_name = some (b "a.b"); syntax = some (b "proto3"); messages = node tree done done; enums = [] } ∷ []
 
-pub trees_good : names trees ≡ Good
+pub trees_good : names trees ≡ Ok tt
 unfolding choose same between class name_start name_part every is_name has_word all first_failing count syntax_of segments good_name field_good value_good enum_good message_good messages_good file_good entries set_entries file_declarations set_declarations declared declared_as fresh type_declared fields_of_entries first_undeclared entries_named map_entries_named file_named first_six first_seven names
 trees_good = refl
 

@@ -1,5 +1,5 @@
 -- A set without refusals 6 and 7: all names convert, and the reader of bytes sees what the marked pieces show. Assumes nothing.
-use Rattle.std.specs.Prelude.{ℕ, zero, suc, ◌+◌, ◌≤◌, Bool, ◌&&◌, ◌||◌, not, ◌⊎◌, ltb, get_or, length}
+use Rattle.std.specs.Prelude.{ℕ, zero, suc, ◌+◌, ◌≤◌, Bool, ◌&&◌, ◌||◌, not, ◌⊎◌, ltb, get_or, length, Ok}
 use native.Mathlib.Omega.{arith}
 use Rattle.std.proofs.Math.Path.{◌≡◌, refl, ap, subst}
 use Rattle.std.proofs.Common.{sym, inl, inr, ltb-false}
@@ -18,8 +18,8 @@ use Rattle.options.specs.Settings.{Setting}
 use Rattle.name_rules.specs.Accessors.{text, type, is_message, is_group, is_enum}
 use Rattle.name_rules.specs.FullNames.{◌·◌, package_scope, Entry, entries, Declaration, enum_declarations, entry_declarations, file_declarations, set_declarations, declared_as, equals, fresh, type_declared, fields_of_entries, file_fields, first_undeclared}
 use Rattle.name_rules.specs.Rules.{segments}
-use Rattle.name_rules.specs.Answer.{first_six, first_seven, names, refusal_number}
-use Rattle.name_rules.specs.declared.Names.TheVariants.{Good, Six, Seven}
+use Rattle.name_rules.specs.Answer.{first_six, first_seven, names}
+use Rattle.name_rules.proofs.NamesLaws.{no_refusals}
 use Rattle.name_rules.specs.WellFormed.{Name, GoodField, GoodEnum, GoodMessage, GoodEntry, EveryNode, WellFormed}
 use Rattle.name_rules.proofs.WellFormedLaws.{every_file}
 use Rattle.sights.specs.Sights.{read, file_place, file_sights, set_sights, Sight}
@@ -222,20 +222,11 @@ none_undeclared ds before (f ∷ fs) h = on (fresh before (file_declarations f) 
     on true e l others = (and_right (fresh before (file_declarations f)) (all (type_declared ds) (file_fields f)) e, others (omega arith))
     on false e l others = absurd (omega arith)
 
-module _ (fs : List FileDescriptor) (h : names fs ≡ Good) where
-  no_seven : ltb (first_seven fs) (length fs) ≡ false
-  unfolding names choose
-  no_seven = go (ltb (first_six fs) (length fs)) (ltb (first_seven fs) (length fs)) h
-    where
-      go : (s t : Bool) → choose s (Six (first_six fs)) (choose t (Seven (first_seven fs)) Good) ≡ Good → t ≡ false
-      go s false e = refl
-      go true true e = let z : ◌≡◌ {A = ℕ} 6 0 = ap refusal_number e in absurd (omega arith)
-      go false true e = let z : ◌≡◌ {A = ℕ} 7 0 = ap refusal_number e in absurd (omega arith)
-
+module _ (fs : List FileDescriptor) (h : names fs ≡ Ok tt) where
   -- all names of the set convert
   pub every_readable : Every ReadableFile fs
   unfolding first_seven
-  every_readable = go fs (every_file fs h) (none_undeclared (set_declarations fs) [] fs (ltb-false (first_seven fs) (length fs) no_seven))
+  every_readable = go fs (every_file fs h) (none_undeclared (set_declarations fs) [] fs (ltb-false (first_seven fs) (length fs) (no_refusals fs h).1))
     where
       go : (gs : List FileDescriptor) → Every WellFormed gs → Every (TypesDeclared (set_declarations fs)) gs → Every ReadableFile gs
       go [] w d = tt
@@ -246,7 +237,7 @@ module _ (fs : List FileDescriptor) (h : names fs ≡ Good) where
 unfoldable pub seen_in : List Setting → List FileDescriptor → List Sight
 seen_in rs set = all_of (λ f. read (file_place f) [] (see (text_symbols rs set f))) set
 
-pub see_set : (rs : List Setting) (set : List FileDescriptor) → names set ≡ Good → seen_in rs set ≡ map unmarked (set_sights rs set)
+pub see_set : (rs : List Setting) (set : List FileDescriptor) → names set ≡ Ok tt → seen_in rs set ≡ map unmarked (set_sights rs set)
 unfolding seen_in set_sights all_of
 see_set rs set h = go set (every_readable set h)
   where

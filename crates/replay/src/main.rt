@@ -1,173 +1,132 @@
-// Replays recorded answers: for each case of answers.bin and refused.bin, what the program generate prints for its set and
-// options is compared with the recorded output. A pack is eight bytes, then for each case three little-endian 32-bit lengths
-// (set, options, output) and the bytes of the three. The index of a case that differs is printed.
+//! Replays recorded answers: for each case of answers.bin and refused.bin, what the program generate prints for its set and
+//! options is compared with the recorded output. A pack is eight bytes, then for each case three little-endian 32-bit lengths
+//! (set, options, output) and the bytes of the three. The index of a case that differs is printed.
 #![tactic(auto)]
 
-ghost use Rattle.std.specs.Prelude.{◌<◌};
+ghost use Rattle.std.specs.Prelude.{◌<◌, ◌≤◌, length};
+ghost use Rattle.std.specs.Iterator.{at_most};
 
+use base::refusal::Refusal;
+use cases::Tally;
 use itoa::Buffer;
 use std::io::Write;
 use std::rt::Files;
 use std::{fs, io};
-use text_call::Numbers;
 
-// No text is longer.
+/// No text is longer.
 const TEXT: usize = 65536;
 
-// Limit 2, and one more, which is refused.
+/// Limit 2, and one more, which is refused.
 const FILES: usize = 33;
 
-// The bytes before the first case, and those of a case's head.
+/// The bytes before the first case.
 const MAGIC: usize = 8;
 
+/// The bytes of a case's head.
 const HEAD: usize = 12;
 
-// Where the rest of the output begins, or that it is another one.
+/// What generate is given, and what it prints.
+#[derive(Clone, Copy)]
+struct Case<'a> {
+    set: &'a [u8],
+    options: &'a [u8],
+    output: &'a [u8],
+}
+
+/// The cases that are left.
 #[derive(Drop)]
-enum Place {
-    At(usize),
-    Other,
+struct Cases<'a> {
+    bytes: &'a [u8],
 }
 
-#[derive(Drop)]
-struct Tally {
-    cases: u64,
-    differ: u64,
-}
-
-fn wide(x: u8) -> usize
-    ensures { result < 256 }
-{
-    x as usize
-}
-
-// Does s go on at this place with the piece?
-fn behind(s: &[u8], from: Place, piece: &[u8]) -> Place {
-    let Place::At(at) = from else {
-        return Place::Other;
-    };
-    if s.len() < at {
-        return Place::Other;
-    }
-    if s.len() - at < piece.len() {
-        return Place::Other;
-    }
-    let end = at + piece.len();
-    if base::same_bytes(&s[at..end], piece) {
-        return Place::At(end);
-    }
-    Place::Other
-}
-
-fn is_end(s: &[u8], at: Place) -> bool {
-    match at {
-        Place::At(n) => n == s.len(),
-        Place::Other => false,
-    }
-}
-
-fn behind_package(s: &[u8], from: Place, package: &[u8]) -> Place {
-    let at = behind(s, from, b"//@ ");
-    if package.len() == 0 {
-        return behind(s, at, b"-\n");
-    }
-    let at = behind(s, at, package);
-    behind(s, at, b"\n")
-}
-
-fn behind_number(s: &[u8], from: Place, n: u64) -> Place {
-    let mut digits = Buffer::new();
-    behind(s, from, digits.format(n).as_bytes())
-}
-
-fn behind_refusal(s: &[u8], from: Place, x: Numbers) -> Place {
-    let at = behind(s, from, b"refused ");
-    let at = behind_number(s, at, x.number as u64);
-    let at = behind(s, at, b" ");
-    let at = behind_number(s, at, x.place as u64);
-    behind(s, at, b"\n")
-}
-
-// Is the output what is printed for the set and the options?
-fn is_output(set: &[u8], options: &[u8], output: &[u8], text: &mut [u8]) -> bool {
-    let mut at = Place::At(0);
-    for file in 0..FILES {
-        let x = text_call::numbers_of(text_call::text(set, options, file, text));
-        if x.number == 5 {
-            return is_end(output, at);
-        }
-        if x.number != 0 {
-            return is_end(output, behind_refusal(output, at, x));
-        }
-        at = behind_package(output, at, file_package::package_of(set, file));
-        let n = writer::within(x.place, text.len());
-        at = behind(output, at, &text[..n]);
-    }
-    false
-}
-
-fn counted<W: Write>(out: &mut W, t: Tally, same: bool) -> io::Result<Tally> {
-    let cases = t.cases.wrapping_add(1);
-    if same {
-        return Ok(Tally {
-            cases,
-            differ: t.differ,
-        });
-    }
-    writeln!(out, "{} differs", t.cases)?;
-    Ok(Tally {
-        cases,
-        differ: t.differ.wrapping_add(1),
-    })
-}
-
-// A 32-bit number of a case's head; larger ones, which no part of a case has, are cut.
+/// A 32-bit length of a case's head.
 fn length_at(head: &[u8; HEAD], k: usize) -> usize
     requires { k < 9 }
-    ensures { result < 16777216 }
 {
-    let low = wide(head[k]);
-    let middle = wide(head[k + 1]);
-    let high = wide(head[k + 2]);
-    high * 65536 + middle * 256 + low
+    u32::from_le_bytes([head[k], head[k + 1], head[k + 2], head[k + 3]]) as usize
 }
 
-// The first n bytes, or as many as there are, and the rest.
-fn read_part(s: &[u8], n: usize) -> (&[u8], &[u8]) {
-    s.split_at(writer::within(n, s.len()))
+/// The first n bytes, or as many as there are, and the rest.
+fn split(bytes: &[u8], n: usize) -> (&[u8], &[u8])
+    ensures { length result.1.now ≤ length bytes.now }
+{
+    bytes.split_at(n.min(bytes.len()))
 }
 
-// Compares the case of the head, and gives what is behind its parts.
-fn replay_case<'a>(parts: &'a [u8], head: &[u8; HEAD], text: &mut [u8]) -> (bool, &'a [u8]) {
-    let (set, parts) = read_part(parts, length_at(head, 0));
-    let (options, parts) = read_part(parts, length_at(head, 4));
-    let (output, parts) = read_part(parts, length_at(head, 8));
-    (is_output(set, options, output, text), parts)
+impl<'a> Iterator for Cases<'a> {
+    type Item = Case<'a>;
+
+    ghost remaining = { λ s. at_most (length s.bytes.now) };
+
+    fn next(&mut self) -> Option<Case<'a>> {
+        let (head, rest) = self.bytes.split_first_chunk::<HEAD>()?;
+        let (set, rest) = split(rest, length_at(head, 0));
+        let (options, rest) = split(rest, length_at(head, 4));
+        let (output, rest) = split(rest, length_at(head, 8));
+        self.bytes = rest;
+        Some(Case {
+            set,
+            options,
+            output,
+        })
+    }
+}
+
+/// What is behind a number at the front of the output, if it is there.
+fn behind_number(output: &[u8], number: u64) -> Option<&[u8]> {
+    output.strip_prefix(Buffer::new().format(number).as_bytes())
+}
+
+/// What is behind the line of a refusal.
+fn behind_refusal(output: &[u8], refusal: Refusal) -> Option<&[u8]> {
+    let rest = output.strip_prefix(b"refused ")?;
+    let rest = behind_number(rest, u64::from(refusal.number()))?;
+    let rest = rest.strip_prefix(b" ")?;
+    behind_number(rest, refusal.place() as u64)?.strip_prefix(b"\n")
+}
+
+/// What is behind the line of a package, and a text.
+fn behind_file<'a>(output: &'a [u8], package: &[u8], text: &[u8]) -> Option<&'a [u8]> {
+    let rest = output.strip_prefix(b"//@ ")?;
+    let shown = if package.is_empty() { b"-" } else { package };
+    rest.strip_prefix(shown)?
+        .strip_prefix(b"\n")?
+        .strip_prefix(text)
+}
+
+/// Is the output what is printed for the set and the options?
+fn is_printed(case: Case<'_>, text: &mut [u8]) -> Option<bool> {
+    let mut rest = case.output;
+    for file in 0..FILES {
+        let length = match text_call::text(case.set, case.options, file, text) {
+            Ok(length) => length,
+            Err(Refusal::FileIndex { .. }) => return Some(rest.is_empty()),
+            Err(refusal) => return Some(behind_refusal(rest, refusal)?.is_empty()),
+        };
+        let package = file_package::package_of(case.set, file);
+        rest = behind_file(rest, package, text.get(..length)?)?;
+    }
+    None
 }
 
 fn replay<W: Write>(out: &mut W, pack: &[u8], text: &mut [u8]) -> io::Result<Tally> {
-    let mut t = Tally {
-        cases: 0,
-        differ: 0,
-    };
-    let (_, mut rest) = read_part(pack, MAGIC);
-    // Each case has a head, so there are fewer of them than bytes.
-    for _ in 0..pack.len() {
-        let Some((head, parts)) = rest.split_first_chunk::<HEAD>() else {
-            break;
-        };
-        let (same, parts) = replay_case(parts, head, text);
-        t = counted(out, t, same)?;
-        rest = parts;
+    let (_, bytes) = split(pack, MAGIC);
+    let mut tally = Tally::new();
+    for (index, case) in (Cases { bytes }).enumerate() {
+        let same = is_printed(case, text) == Some(true);
+        tally.count(same);
+        if !same {
+            writeln!(out, "{index} differs")?;
+        }
     }
-    Ok(t)
+    Ok(tally)
 }
 
 fn replay_pack(rt: &(impl Files + Alloc + Print), path: &str) -> io::Result<()> {
     let pack = fs::read(rt, path)?;
     let mut text = vec![in rt.alloc(); 0u8; TEXT]?;
-    let t = replay(&mut io::writer(rt), &pack, &mut text)?;
-    println!(rt; "{path}: {} compared, {} differ", t.cases, t.differ)
+    let tally = replay(&mut io::writer(rt), &pack, &mut text)?;
+    println!(rt; "{path}: {tally}")
 }
 
 fn main(rt: HostRuntime) -> io::Result<()> {

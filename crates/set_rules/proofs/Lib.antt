@@ -1,3 +1,2 @@
 pub mod RowCounts
 pub mod NameAnswers
-pub mod JudgeLaws

@@ -13,7 +13,9 @@ use Rattle.descriptor.specs.Descriptor.{Bytes}
 use Rattle.descriptor.specs.Decode.{entries, parts, decode_file, decode_set}
 use Rattle.name_rules.specs.Rules.{file_good}
 use Rattle.name_rules.specs.Answer.{first_six, first_seven, names}
-use Rattle.name_rules.specs.declared.Names.TheVariants.{Good, Six, Seven}
+use Rattle.base.specs.declared.refusal.Refusal.{Refusal}
+use Rattle.base.specs.declared.refusal.Refusal.TheVariants.{Declaration, TypeName}
+use Rattle.std.specs.Prelude.{Result, Ok, Err}
 use Rattle.declarations.specs.Rows.{State, has_room, declared, Became}
 use Rattle.declarations.specs.Listed.{listed, listed_files}
 use Rattle.declarations.specs.declared.Count.{Count}
@@ -56,21 +58,21 @@ module _ (bytes : Bytes) where
     n : files ≡ length (decode_set bytes)
     n = files_are files counted
 
-    pub answer_six : six < files → Six six ≡ names (decode_set bytes)
+    pub answer_six : six < files → ◌≡◌ {A = Result Unit Refusal} (Err (Declaration six)) (names (decode_set bytes))
     unfolding names choose
-    answer_six h = let t : ltb (first_six (decode_set bytes)) (length (decode_set bytes)) ≡ true = rw (← six_first, ← n) (lt-ltb six files h) in rw t (ap Six six_first)
+    answer_six h = let t : ltb (first_six (decode_set bytes)) (length (decode_set bytes)) ≡ true = rw (← six_first, ← n) (lt-ltb six files h) in rw t (ap (λ (file : ℕ). Err (Declaration file)) six_first)
 
     module _ (past : files ≤ six) (seven : ℕ) (seven_first : seven ≡ first_seven (decode_set bytes)) where
       not_six : ltb (first_six (decode_set bytes)) (length (decode_set bytes)) ≡ false
       not_six = rw (← six_first, ← n) (le-ltb six files past)
 
-      pub answer_seven : seven < files → Seven seven ≡ names (decode_set bytes)
+      pub answer_seven : seven < files → ◌≡◌ {A = Result Unit Refusal} (Err (TypeName seven)) (names (decode_set bytes))
       unfolding names choose
       answer_seven h =
           let t : ltb (first_seven (decode_set bytes)) (length (decode_set bytes)) ≡ true = rw (← seven_first, ← n) (lt-ltb seven files h) in
-          rw (not_six, t) (ap Seven seven_first)
+          rw (not_six, t) (ap (λ (file : ℕ). Err (TypeName file)) seven_first)
 
-      pub answer_good : files ≤ seven → Good ≡ names (decode_set bytes)
+      pub answer_good : files ≤ seven → ◌≡◌ {A = Result Unit Refusal} (Ok tt) (names (decode_set bytes))
       unfolding names choose
       answer_good h =
           let t : ltb (first_seven (decode_set bytes)) (length (decode_set bytes)) ≡ false = rw (← seven_first, ← n) (le-ltb seven files h) in

@@ -5,22 +5,12 @@ ghost use Rattle.std.specs.Prelude.{◌≡◌};
 ghost use Rattle.descriptor.specs.Decode.{decode_set};
 ghost use Rattle.descriptor.specs.Limits.{limit_passed};
 ghost use Rattle.name_rules.specs.Answer.{names};
-ghost use Rattle.set_rules.specs.Judge.{by_names, judge_set};
+ghost use Rattle.set_rules.specs.Judge.{judge_set};
 ghost use Rattle.set_rules.specs.Room.{Room, Declares};
 
+use base::refusal::Refusal;
 use declarations::Count;
-use limits::{Read, SHORT};
-use name_rules::Names;
-
-// Is the set good? If not, the offset of refusal 3, the limit passed, or the file of refusal 6 or 7.
-#[derive(Drop)]
-pub enum Judged {
-    Good,
-    Fault(usize),
-    Passed(usize),
-    Six(usize),
-    Seven(usize),
-}
+use limits::SHORT;
 
 // A row for each file and each declaration of a set within the limits, and one more; seven numbers a row.
 pub const ROWS: usize = 545;
@@ -33,7 +23,13 @@ pub const SHORT_ROWS: usize = 151;
 pub const SHORT_CELLS: usize = 1057;
 
 // Refusals 6 and 7 by the table of the set's declarations; checksums of its rows go into `sums`.
-fn judge_rows(set: &[u8], t: &[usize], count: Count, who: &mut [usize], sums: &mut [u64]) -> Names
+fn judge_rows(
+    set: &[u8],
+    t: &[usize],
+    count: Count,
+    who: &mut [usize],
+    sums: &mut [u64],
+) -> Result<(), Refusal>
     requires { Declares set.now t.now count who.old }
     ensures { result ≡ names (decode_set set.now) }
 {
@@ -44,17 +40,17 @@ fn judge_rows(set: &[u8], t: &[usize], count: Count, who: &mut [usize], sums: &m
     let unnamed = map_entries::first_unnamed(set, t, rows, who);
     let six = writer::within(bad, unnamed);
     if six < files {
-        return Names::Six(six);
+        return Err(Refusal::Declaration { file: six });
     }
     let seven = declared_types::first_undeclared(set, t, rows, sums);
     if seven < files {
-        return Names::Seven(seven);
+        return Err(Refusal::TypeName { file: seven });
     }
-    Names::Good
+    Ok(())
 }
 
 // Refusals 6 and 7, with a table and columns that have room for the set's files and declarations.
-fn judge_by(set: &[u8], t: &mut [usize], who: &mut [usize], sums: &mut [u64]) -> Names
+fn judge_by(set: &[u8], t: &mut [usize], who: &mut [usize], sums: &mut [u64]) -> Result<(), Refusal>
     requires { Room set.now t.old who.old }
     ensures { result ≡ names (decode_set set.now) }
 {
@@ -63,8 +59,8 @@ fn judge_by(set: &[u8], t: &mut [usize], who: &mut [usize], sums: &mut [u64]) ->
     judge_rows(set, t, count, who, &mut sums[0..n])
 }
 
-// Refusals 6 and 7 of a set within the limits.
-fn judge_names(set: &[u8]) -> Names
+/// Has a set within the limits neither refusal 6 nor 7? If it has one, the first of 6, else of 7.
+pub fn judge_names(set: &[u8]) -> Result<(), Refusal>
     requires { limit_passed set.now ≡ 0 }
     ensures { result ≡ names (decode_set set.now) }
 {
@@ -80,22 +76,11 @@ fn judge_names(set: &[u8]) -> Names
     judge_by(set, &mut t, &mut who, &mut sums)
 }
 
-fn by_names(n: Names) -> Judged
-    ensures { result ≡ by_names n }
-{
-    match n {
-        Names::Good => Judged::Good,
-        Names::Six(file) => Judged::Six(file),
-        Names::Seven(file) => Judged::Seven(file),
-    }
-}
-
-pub fn judge_set(set: &[u8]) -> Judged
+/// Has a set none of the refusals 3, 4, 6 and 7? If it has one, the first in document 01's order.
+#[tactic(auto, unfolding(crate::specs::Judge::judge_set), using(limits::proofs::AnswerLaws::none_passed))]
+pub fn judge_set(set: &[u8]) -> Result<(), Refusal>
     ensures { result ≡ judge_set set.now }
 {
-    match limits::read_set(set) {
-        Read::Good => by_names(judge_names(set)),
-        Read::Fault(place) => Judged::Fault(place),
-        Read::Passed(limit) => Judged::Passed(limit),
-    }
+    limits::read_set(set)?;
+    judge_names(set)
 }

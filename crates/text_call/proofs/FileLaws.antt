@@ -24,11 +24,12 @@ use Rattle.file_parts.specs.FileParts.{part_at, first_number}
 use Rattle.code_generator.specs.Enums.{append_enums}
 use Rattle.code_generator.specs.Generate.{append_messages, generate, file_text}
 use Rattle.code_generator.specs.Refusals.{any_message, variants_overlap, defaults_fail}
-use Rattle.calls.specs.TextCall.{Outcome, by_room, by_text, file_at, call_text}
+use Rattle.std.specs.Prelude.{Result, Ok, Err}
+use Rattle.base.specs.declared.refusal.Refusal.{Refusal}
+use Rattle.base.specs.declared.refusal.Refusal.TheVariants.{Variants, BytesDefault}
+use Rattle.calls.specs.TextCall.{by_room, by_text, file_at, call_text}
 use Rattle.call_laws.specs.CallLaws.{file_is as file_by_bytes, call_number_within, call_text_is, call_faults_are, call_bounded}
-use Rattle.text_call.specs.Answer.{left_by, Accepted, Roomy, Answers, Whole}
-use Rattle.text_call.specs.declared.TextAnswer.{TextAnswer}
-use Rattle.text_call.specs.declared.TextAnswer.TheVariants.{Length, Variants, Defaults}
+use Rattle.text_call.specs.Answer.{Accepted, Roomy, Answers, Whole}
 use Rattle.text_call.proofs.RoomLaws.{refuses}
 
 pub files_counted : (set : Bytes) → length (parts 1 (entries set)) ≡ length (decode_set set)
@@ -41,15 +42,15 @@ none_counted [] n counted none = refl
 none_counted (x ∷ xs) n counted none = absurd (omega arith)
 
 module _ (set o : Bytes) (file : ℕ) (t : List ℕ) where
-  blank : (f : FileDescriptor) → f.messages ≡ done → f.enums ≡ [] → Answers (by_text (settings o) (decode_set set) (length t) f) (file_text (settings o) (decode_set set) f) t t (Length 0)
-  unfolding by_text by_room left_by choose any variants_overlap defaults_fail any_message generate append_messages append_enums
-  blank f no_messages no_enums = rw (no_messages, no_enums, le-leb 0 (length t) (omega arith)) (record { outcome = refl; left = refl })
+  blank : (f : FileDescriptor) → f.messages ≡ done → f.enums ≡ [] → Answers (by_text (settings o) (decode_set set) (length t) f) (file_text (settings o) (decode_set set) f) t t (Ok 0)
+  unfolding by_text by_room choose any variants_overlap defaults_fail any_message generate append_messages append_enums
+  blank f no_messages no_enums = rw (no_messages, no_enums, le-leb 0 (length t) (omega arith)) (record { answer = refl; left = refl })
 
   pub empty_file : (p : Bytes) → p ≡ part_at (parts 1 (entries set)) file → (parts 4 (entries p) ≡ []) × (parts 5 (entries p) ≡ [])
-      → Answers (by_text (settings o) (decode_set set) (length t) (file_at (decode_set set) file)) (call_text set o file) t t (Length 0)
+      → Answers (by_text (settings o) (decode_set set) (length t) (file_at (decode_set set) file)) (call_text set o file) t t (Ok 0)
   unfolding decode_set decode_file decode_messages
   empty_file p part_is none =
-      subst (λ (f : FileDescriptor). Answers (by_text (settings o) (decode_set set) (length t) f) (file_text (settings o) (decode_set set) f) t t (Length 0))
+      subst (λ (f : FileDescriptor). Answers (by_text (settings o) (decode_set set) (length t) f) (file_text (settings o) (decode_set set) f) t t (Ok 0))
       (ap decode_file part_is ∙ file_by_bytes (parts 1 (entries set)) file)
       (blank (decode_file p) (ap (decode_messages 16) none.0) (ap (map decode_enum) none.1))
 
@@ -108,23 +109,23 @@ module _ (set o : Bytes) (file : ℕ) (accepted : Accepted set o file) (messages
       default_is = sym (ap (λ (x : Faults). x.default) faults_are)
 
       module _ (t : List ℕ) where
-        abbrev Answered : List ℕ → TextAnswer → Type 0
+        abbrev Answered : List ℕ → Result ℕ Refusal → Type 0
         Answered t' r = Answers (by_text (settings o) (decode_set set) (length t) file_is) (call_text set o file) t t' r
 
-        pub overlaps : faults.overlap ≡ true → Answered t Variants
+        pub overlaps : faults.overlap ≡ true → Answered t (Err Variants)
         unfolding by_text choose
-        overlaps h = refuses Variants _ (call_text set o file) t t (rw (overlap_is, h)) refl refl
+        overlaps h = refuses Variants _ (call_text set o file) t (rw (overlap_is, h) refl)
 
         module _ (apart : faults.overlap ≡ false) where
-          pub default_fails : faults.default ≡ true → Answered t Defaults
+          pub default_fails : faults.default ≡ true → Answered t (Err BytesDefault)
           unfolding by_text choose
-          default_fails h = refuses Defaults _ (call_text set o file) t t (rw (overlap_is, apart, default_is, h)) refl refl
+          default_fails h = refuses BytesDefault _ (call_text set o file) t (rw (overlap_is, apart, default_is, h) refl)
 
           good_is : faults.default ≡ false → by_room (length t) (length (call_text set o file)) ≡ by_text (settings o) (decode_set set) (length t) file_is
           unfolding by_text choose
-          good_is h = rw (overlap_is, apart, default_is, h)
+          good_is h = rw (overlap_is, apart, default_is, h) refl
 
-          pub fault_free : faults.default ≡ false → (t' : List ℕ) (r : TextAnswer) → Whole (text_of_file (settings o) set messages fields i p) t t' r → Answered t' r
+          pub fault_free : faults.default ≡ false → (t' : List ℕ) (r : Result ℕ Refusal) → Whole (text_of_file (settings o) set messages fields i p) t t' r → Answered t' r
           fault_free h t' r w =
-              subst (λ (x : Outcome). Answers x (call_text set o file) t t' r) (good_is h)
+              subst (λ (x : Result ℕ Refusal). Answers x (call_text set o file) t t' r) (good_is h)
               (subst (λ (q : List ℕ). Whole q t t' r) text_is w)

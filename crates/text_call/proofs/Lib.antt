@@ -1,3 +1,3 @@
 pub mod RoomLaws
 pub mod FileLaws
-pub mod OrderLaws
+pub mod AcceptLaws

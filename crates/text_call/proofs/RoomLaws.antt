@@ -13,15 +13,15 @@ use Rattle.base.specs.Choose.{choose}
 use Rattle.writer.specs.Wrote.{Wrote, kept}
 use Rattle.writer.specs.Answer.{needs_room, rendered}
 use Rattle.joined.specs.Joined.{used, sliced}
-use Rattle.calls.specs.TextCall.{Outcome, given, refused, max_text, by_room}
-use Rattle.text_call.specs.Answer.{outcome_of, left_by, Answers, Whole}
-use Rattle.text_call.specs.declared.TextAnswer.{TextAnswer}
-use Rattle.text_call.specs.declared.TextAnswer.TheVariants.{Length, Room}
+use Rattle.std.specs.Prelude.{Result, Ok, Err}
+use Rattle.base.specs.declared.refusal.Refusal.{Refusal}
+use Rattle.base.specs.declared.refusal.Refusal.TheVariants.{TextLength}
+use Rattle.calls.specs.TextCall.{max_text, by_room}
+use Rattle.text_call.specs.Answer.{Answers, Whole}
 
 -- a refusal changes no byte
-pub refuses : (r : TextAnswer) (x : Outcome) (p t t' : List ℕ) → outcome_of r ≡ x → t' ≡ t → eqb (outcome_of r).number 0 ≡ false → Answers x p t t' r
-unfolding left_by choose
-refuses r x p t t' e same n = record { outcome = e; left = rw (← e, n) same }
+pub refuses : (r : Refusal) (x : Result ℕ Refusal) (p t : List ℕ) → Err r ≡ x → Answers x p t t (Err r)
+refuses r x p t e = record { answer = e; left = rw (← e) refl }
 
 fits_both : (n a b : ℕ) → (leb n a && leb n b) ≡ leb n (min a b)
 fits_both n a b = on (dec_le n a) (dec_le n b)
@@ -32,14 +32,14 @@ fits_both n a b = on (dec_le n a) (dec_le n b)
     on (no h) k = rw (lt-leb n a (omega arith), lt-leb n (min a b) (omega arith))
 
 module _ (t p : List ℕ) where
-  by_least : by_room (length t) (length p) ≡ choose (leb (length p) (min (length t) max_text)) (given (length p)) (refused 10 (length p))
+  by_least : by_room (length t) (length p) ≡ choose (leb (length p) (min (length t) max_text)) (Ok (length p)) (Err (TextLength (length p)))
   unfolding by_room
   by_least = rw (fits_both (length p) (length t) max_text)
 
   module _ (room : ℕ) (least : room ≡ min (length t) max_text) where
-    pub no_room : room < length p → Whole p t t (Room (length p))
+    pub no_room : room < length p → Whole p t t (Err (TextLength (length p)))
     unfolding choose
-    no_room h = refuses (Room (length p)) _ p t t (sym (by_least ∙ rw (lt-leb (length p) (min (length t) max_text) (omega arith)))) refl refl
+    no_room h = refuses (TextLength (length p)) _ p t (sym (by_least ∙ rw (lt-leb (length p) (min (length t) max_text) (omega arith)) refl))
 
     module _ (fits : length p ≤ room) {t' : List ℕ} {m : ℕ} (w : Wrote t 0 p t' m) where
       size : m ≡ length p
@@ -50,23 +50,22 @@ module _ (t p : List ℕ) where
           let e = size in
           rw (le-leb (length p) (length t) (omega arith)) at (rendered refl w (omega arith) w).text
 
-      given_is : by_room (length t) (length p) ≡ given (length p)
+      given_is : by_room (length t) (length p) ≡ Ok (length p)
       unfolding choose
-      given_is = by_least ∙ rw (le-leb (length p) (min (length t) max_text) (omega arith))
+      given_is = by_least ∙ rw (le-leb (length p) (min (length t) max_text) (omega arith)) refl
 
-      pub written : Whole p t t' (Length m)
-      unfolding left_by choose
-      written = record { outcome = ap given size ∙ sym given_is; left = rw given_is text_is }
+      pub written : Whole p t t' (Ok m)
+      written = record { answer = ap (λ (n : ℕ). Ok n) size ∙ sym given_is; left = rw given_is text_is }
 
   -- the text was made in a buffer s of its own, of which n bytes are used
   module _ (short : length p < 2 ^ 63) {s s' : List ℕ} {n : ℕ} (w : Wrote s 0 p s' n) where
     made : n ≡ length p
     made = let g = needs_room w in omega arith
 
-    pub too_long : max_text < n → Whole p t t (Room n)
-    too_long h = let e = made in subst (λ (k : ℕ). Whole p t t (Room k)) (sym e) (no_room _ refl (omega arith))
+    pub too_long : max_text < n → Whole p t t (Err (TextLength n))
+    too_long h = let e = made in subst (λ (k : ℕ). Whole p t t (Err (TextLength k))) (sym e) (no_room _ refl (omega arith))
 
-    pub from_part : (size : ℕ) → length s ≡ size → n ≤ size → {t' : List ℕ} {r : TextAnswer} → Whole (take (n - 0) (drop 0 s')) t t' r → Whole p t t' r
+    pub from_part : (size : ℕ) → length s ≡ size → n ≤ size → {t' : List ℕ} {r : Result ℕ Refusal} → Whole (take (n - 0) (drop 0 s')) t t' r → Whole p t t' r
     from_part size l h {t'} {r} v =
         let e = made in
         let k = kept w in

@@ -1,5 +1,5 @@
 -- Of an accepted set, the text and the faults of each file by the tables are code_generator's. Assumes nothing.
-use Rattle.std.specs.Prelude.{ℕ, suc, ◌+◌, ◌≡◌, List}
+use Rattle.std.specs.Prelude.{ℕ, suc, ◌+◌, ◌≡◌, List, Ok}
 use Rattle.std.proofs.Common.{sym, ap, subst}
 use Rattle.base.specs.Lists.{Every}
 use Rattle.descriptor.specs.Descriptor.{Bytes, MessageDescriptor, Forest, FileDescriptor}
@@ -9,7 +9,6 @@ use Rattle.options.specs.Settings.{Setting}
 use Rattle.name_rules.specs.FullNames.{package_scope}
 use Rattle.name_rules.specs.WellFormed.{WellFormed}
 use Rattle.name_rules.specs.Answer.{names}
-use Rattle.name_rules.specs.declared.Names.TheVariants.{Good}
 use Rattle.name_rules.proofs.WellFormedLaws.{every_file}
 use Rattle.index.specs.Tree.{size}
 use Rattle.context_laws.specs.At.{At, at_map}
@@ -46,7 +45,7 @@ numbered_at P i (first e) h = subst (λ (g : FileDescriptor). Numbered P (packag
 numbered_at P i (next {y = g} p) h = numbered_at P (i + size g.messages) p h.1
 
 -- file n of a set within the limits, without refusals 6 and 7; p is its part
-module _ (rs : List Setting) (set messages t : List ℕ) (passed : limit_passed set ≡ 0) (good : names (decode_set set) ≡ Good) (says : Says rs set messages t)
+module _ (rs : List Setting) (set messages t : List ℕ) (passed : limit_passed set ≡ 0) (good : names (decode_set set) ≡ Ok tt) (says : Says rs set messages t)
     (p : Bytes) (n : ℕ) (at : At p (parts 1 (entries set)) n) where
   file_at : At (decode_file p) (decode_set set) n
   unfolding decode_set

@@ -1,5 +1,5 @@
 -- Every text of a set within the limits is shorter than 2 ^ 52 bytes. Assumes nothing.
-use Rattle.std.specs.Prelude.{◌≡◌, refl, Bool, true, false, ℕ, zero, suc, ◌+◌, ◌*◌, ◌-◌, ◌^◌, ◌≤◌, ◌<◌, eqb, leb, ltb, take, drop}
+use Rattle.std.specs.Prelude.{◌≡◌, refl, Bool, true, false, ℕ, zero, suc, ◌+◌, ◌*◌, ◌-◌, ◌^◌, ◌≤◌, ◌<◌, eqb, leb, ltb, take, drop, Ok}
 use Rattle.std.proofs.Common.{ap, length-take, length-drop, leb-true, eqb-true}
 use Rattle.std.proofs.Math.Option.{Option, some, none}
 use mathlib.Core.List.{List, [], ◌∷◌, ◌++◌, map}
@@ -21,9 +21,8 @@ use Rattle.descriptor.specs.Decode as decode
 use Rattle.descriptor.specs.Limits.{messages_in, fields_in, enums_in, limit_passed}
 use Rattle.limit_facts.specs.Within.{within as within_limits}
 use Rattle.options.specs.Settings.{Setting, settings, settings_from, row_count, path_length, value_length, bodies}
-use Rattle.options.specs.Layout.{layout, layout_from, row_good, refusal_number}
-use Rattle.options.specs.declared.check.Layout.{Layout}
-use Rattle.options.specs.declared.check.Layout.TheVariants.{Good, Broken}
+use Rattle.options.specs.Layout.{layout, layout_from, row_good}
+use Rattle.base.proofs.RefusalLaws.{chosen, other}
 use Rattle.name_rules.specs.Accessors.{text}
 use Rattle.name_rules.specs.FullNames.{package_scope}
 use Rattle.code_generator.specs.Generate.{is_proto3, generate, file_text}
@@ -169,23 +168,15 @@ unfolding decode_set
 set_short set h = each_part FileShort decode_file file_short (parts 1 (entries set)) (within set h 1)
 
 -- ---- options
-refuses : (place : ℕ) {A : Type 0} → Broken place ≡ Good → A
-refuses place e = let n = ap refusal_number e in absurd (omega arith)
-
-chosen : (c : Bool) (x : Layout) (place : ℕ) → choose c x (Broken place) ≡ Good → (c ≡ true) × (x ≡ Good)
-unfolding choose
-chosen true x place e = (refl, e)
-chosen false x place e = refuses place e
-
-small_size : (s : List ℕ) (size k i at : ℕ) → layout_from s size k i at ≡ Good → size ≤ 4096
+small_size : (s : List ℕ) (size k i at : ℕ) → layout_from s size k i at ≡ Ok tt → size ≤ 4096
 unfolding layout_from
 small_size s size zero i at e =
-    let h = chosen (eqb at size) _ i e in
-    let k = chosen (leb at 4096) _ i h.1 in
+    let h = chosen (eqb at size) _ _ e in
+    let k = chosen (leb at 4096) _ _ h.1 in
     let a = eqb-true at size h.0 in
     let c = leb-true at 4096 k.0 in
     omega arith
-small_size s size (suc k) i at e = small_size s size k (i + 1) _ (chosen (row_good s i at) _ i e).1
+small_size s size (suc k) i at e = small_size s size k (i + 1) _ (chosen (row_good s i at) _ _ e).1
 
 record Sized (n : ℕ) (rs : List Setting) : Type 0 where
   few : length rs ≤ n
@@ -200,20 +191,16 @@ sized o h (suc k) i at =
     let v = part_short o (at + path_length o i) (value_length o i) in
     record { few = omega arith; short = (omega arith, rest.short) }
 
-pub small_options : (o : List ℕ) → layout o ≡ Good → Small (settings o)
+pub small_options : (o : List ℕ) → layout o ≡ Ok tt → Small (settings o)
 unfolding layout settings choose
 small_options o e =
-    let inner = on (ltb (length o) 2) e in
-    let rows = chosen (leb (row_count o) 64) _ 0 inner in
+    let inner = (other (ltb (length o) 2) _ _ e).1 in
+    let rows = chosen (leb (row_count o) 64) _ _ inner in
     let few = leb-true (row_count o) 64 rows.0 in
     let size = small_size (take 4096 o) (length o) (row_count o) 0 (bodies o) rows.1 in
     let all = sized o size (row_count o) 0 (bodies o) in
     let count = all.few in
     record { few = omega arith; short = all.short }
-  where
-    on : (c : Bool) {x : Layout} → choose c (Broken 0) x ≡ Good → x ≡ Good
-    on true e = refuses 0 e
-    on false e = e
 
 -- ---- the weight of a file's messages by the limits
 spread : {A B : Type 0} (g : A → List B) (xs ys : List A) → length (all_of g (xs ++ ys)) ≡ length (all_of g xs) + length (all_of g ys)
@@ -269,7 +256,7 @@ module _ {rs : List Setting} (small : Small rs) (set : List FileDescriptor) wher
       (omega arith, files_long fs h.1 (omega arith) (omega arith) (omega arith))
 
 -- the length of every text is exact: it is below 2 ^ 52, for options that are good and a set that passes no limit
-pub text_bounded : (o set : Bytes) → layout o ≡ Good → limit_passed set ≡ 0 → Every (λ (f : FileDescriptor). length (file_text (settings o) (decode_set set) f) < 2 ^ 52) (decode_set set)
+pub text_bounded : (o set : Bytes) → layout o ≡ Ok tt → limit_passed set ≡ 0 → Every (λ (f : FileDescriptor). length (file_text (settings o) (decode_set set) f) < 2 ^ 52) (decode_set set)
 text_bounded o set good passed =
     let w = within_limits set passed in
     files_long (small_options o good) (decode_set set) (decode_set set) (set_short set w.small) w.messages w.fields w.enums

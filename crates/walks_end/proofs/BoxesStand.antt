@@ -1,6 +1,6 @@
 -- Clause 4 of demand 3: in a group-free set without refusals 6 and 7, and with no boxed setting, Box stands in the texts exactly at the written
 -- singular message fields whose type leads back to their own message.
-use Rattle.std.specs.Prelude.{ℕ, ◌+◌, ◌≡◌, Bool, ◌&&◌, ◌||◌, eqb}
+use Rattle.std.specs.Prelude.{ℕ, ◌+◌, ◌≡◌, Bool, ◌&&◌, ◌||◌, eqb, Ok}
 use Rattle.std.proofs.Math.Path.{refl, ap, subst}
 use Rattle.std.proofs.Common.{sym, ◌∙◌}
 use Rattle.std.proofs.Math.Bool.{true, false, not}
@@ -20,7 +20,6 @@ use Rattle.extern_paths.specs.ExternPaths.{taken}
 use Rattle.name_rules.specs.Accessors.{text, is_repeated, is_message, is_group}
 use Rattle.name_rules.specs.FullNames.{◌·◌, package_scope}
 use Rattle.name_rules.specs.Answer.{names}
-use Rattle.name_rules.specs.declared.Names.TheVariants.{Good}
 use Rattle.context.specs.MessageGraph.{is_nested}
 use Rattle.context.specs.Context.{has, should_box}
 use Rattle.code_generator.specs.Piece.{Owned, snake, camel, spelt, box}
@@ -289,7 +288,7 @@ module _ (rs : List Setting) (base : List Bytes) (set : List FileDescriptor) (un
       ◌then◌ back (boxed_choice (m.map_entry || taken rs (scope_of full)) (◌then◌ back (boxed_struct fs proto3 n fine) module_boxes))
       (boxed_messages proto3 h fs following (λ c i. k c (Memᴰ.tail (Memᴰ.append_right (nodes (text m.name ∷ h) nested) i))))
 
-module _ (rs : List Setting) (set : List FileDescriptor) (good : names set ≡ Good) (free : group_free set ≡ true) (unset : no_boxed_setting rs ≡ true) where
+module _ (rs : List Setting) (set : List FileDescriptor) (good : names set ≡ Ok tt) (free : group_free set ≡ true) (unset : no_boxed_setting rs ≡ true) where
   boxed_file : (f : FileDescriptor) → Memᴰ f set → BoxedAt (leads_back set) (written_sights rs set f) (written_in rs (package_scope f.package_name) f.messages)
   unfolding written_sights
   boxed_file f i =

@@ -1,5 +1,5 @@
 -- What the fields of a set have that is group-free and without refusals 6 and 7. Assumes nothing.
-use Rattle.std.specs.Prelude.{ℕ, ◌≡◌, true, false, ◌&&◌, length}
+use Rattle.std.specs.Prelude.{ℕ, ◌≡◌, true, false, ◌&&◌, length, Ok}
 use Rattle.std.proofs.Common.{ap, sym, ◌∙◌, subst, ⊎_elim}
 use Rattle.std.proofs.Math.Bool.{not}
 use Rattle.std.proofs.Math.Option.{some}
@@ -15,7 +15,6 @@ use Rattle.name_rules.specs.FullNames.{package_scope, Entry, entries, set_entrie
 use Rattle.name_rules.specs.MapEntries.{names_it}
 use Rattle.name_rules.specs.WellFormed.{GoodField}
 use Rattle.name_rules.specs.Answer.{names}
-use Rattle.name_rules.specs.declared.Names.TheVariants.{Good}
 use Rattle.context.specs.MessageGraph.{Link, is_link, field_links, links}
 use Rattle.code_generator.specs.MapFields.{MapEntry, map_entry_of}
 use Rattle.code_generator.specs.Oneofs.{is_at, oneof_of}
@@ -71,7 +70,7 @@ file_entries_in (g ∷ fs) f i e j =
     (Memᴰ.cases_cons i)
 
 -- ---- messages
-module _ (set : List FileDescriptor) (good : names set ≡ Good) (free : group_free set ≡ true) where
+module _ (set : List FileDescriptor) (good : names set ≡ Ok tt) (free : group_free set ≡ true) where
   no_group_in : (f : FieldDescriptor) → Memᴰ f (set_fields set) → is_group f ≡ false
   unfolding group_free
   no_group_in f i =

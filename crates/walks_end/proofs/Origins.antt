@@ -1,6 +1,6 @@
 -- Where the paths that are seen in the texts come from: around each stands Box, Vec or a map, or it goes along a link that leads nowhere back,
 -- or it is that of a oneof. Assumes nothing.
-use Rattle.std.specs.Prelude.{◌≡◌, Bool, false, ◌&&◌, ◌||◌, not}
+use Rattle.std.specs.Prelude.{◌≡◌, Bool, false, ◌&&◌, ◌||◌, not, Ok}
 use Rattle.std.proofs.Math.Path.{refl}
 use Rattle.std.proofs.Common.{sym, subst}
 use Rattle.std.proofs.Math.Bool.{true}
@@ -17,7 +17,6 @@ use Rattle.extern_paths.specs.ExternPaths.{taken}
 use Rattle.name_rules.specs.Accessors.{text, is_repeated, is_message, is_group}
 use Rattle.name_rules.specs.FullNames.{◌·◌, package_scope, set_entries}
 use Rattle.name_rules.specs.Answer.{names}
-use Rattle.name_rules.specs.declared.Names.TheVariants.{Good}
 use Rattle.context.specs.MessageGraph.{is_link, links, is_nested}
 use Rattle.context.specs.Context.{has, should_box}
 use Rattle.code_generator.specs.Piece.{Ref, type, choice, snake, camel, spelt, opt, vec, box, table}
@@ -235,7 +234,7 @@ known_file rs set f k =
     (known_messages rs (file_place f) set proto3 (package_names f) [] f.messages k))
     (known_enums rs (file_place f) set [] scope f.enums)
 
-pub origins : (rs : List Setting) (set : List FileDescriptor) → names set ≡ Good → group_free set ≡ true → (u : Use) → Memᴰ u (uses (set_sights rs set)) → Origin set u
+pub origins : (rs : List Setting) (set : List FileDescriptor) → names set ≡ Ok tt → group_free set ≡ true → (u : Use) → Memᴰ u (uses (set_sights rs set)) → Origin set u
 origins rs set good free =
     fine_uses (Origin set) (set_sights rs set)
     (subst (λ (l : List Sight). Every (Fine (Origin set)) l) (sym (set_sights_are rs set))

@@ -1,5 +1,5 @@
 -- Clause 3 of demand 3 without the marks, which no text shows: what a reader sees that gives items and paths by their names alone.
-use Rattle.std.specs.Prelude.{◌≡◌, refl, Bool, false, ◌&&◌, ◌⊎◌, drop}
+use Rattle.std.specs.Prelude.{◌≡◌, refl, Bool, false, ◌&&◌, ◌⊎◌, drop, Ok}
 use Rattle.std.proofs.Math.Path.{ap, sym, subst}
 use Rattle.std.proofs.Common.{◌∙◌, inl, inr, ⊎_elim}
 use Rattle.std.proofs.Math.Bool.{true, not}
@@ -12,7 +12,6 @@ use Rattle.base.specs.Tests.{both_ways}
 use Rattle.descriptor.specs.Descriptor.{Bytes, FileDescriptor}
 use Rattle.options.specs.Settings.{Setting}
 use Rattle.name_rules.specs.Answer.{names}
-use Rattle.name_rules.specs.declared.Names.TheVariants.{Good}
 use Rattle.name_check.specs.NameCheck.{name_check, package_modules}
 use Rattle.sights.specs.Events.{WrittenPath}
 use Rattle.sights.specs.Sights.{Item, Use, set_sights, uses}
@@ -55,7 +54,7 @@ mem_those {A} p (y ∷ xs) x m h = go (p y) refl (Memᴰ.cases_cons m) (λ k. me
     go false e (inl q) rest = both_ways h (ap p q ∙ e)
     go false e (inr k) rest = rest k
 
-module _ (rs : List Setting) (set : List FileDescriptor) (good : names set ≡ Good) (says_yes : name_check rs set ≡ true) (free : group_free set ≡ true)
+module _ (rs : List Setting) (set : List FileDescriptor) (good : names set ≡ Ok tt) (says_yes : name_check rs set ≡ true) (free : group_free set ≡ true)
     (item : Item → Item) (use_of : Use → Use) (keeps : Keeps item use_of)
   where
     abbrev us : List Use

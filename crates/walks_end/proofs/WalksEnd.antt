@@ -1,6 +1,6 @@
 -- Clause 3 of demand 3: in a group-free set without refusals 6 and 7 for which the name check says yes, no walk comes back to where it starts,
 -- boxed settings or not.
-use Rattle.std.specs.Prelude.{ℕ, ◌≡◌, true, false}
+use Rattle.std.specs.Prelude.{ℕ, ◌≡◌, true, false, Ok}
 use Rattle.std.proofs.Common.{ap, sym, ◌∙◌, subst, ⊎_elim, arith}
 use Rattle.std.proofs.Math.Option.{Option, some, none}
 use mathlib.Core.List.Memᴰ
@@ -10,7 +10,6 @@ use Rattle.descriptor.specs.Descriptor.{Bytes, FileDescriptor}
 use Rattle.options.specs.Settings.{Setting}
 use Rattle.name_rules.specs.FullNames.{set_entries}
 use Rattle.name_rules.specs.Answer.{names}
-use Rattle.name_rules.specs.declared.Names.TheVariants.{Good}
 use Rattle.context.specs.MessageGraph.{Link, links, is_nested}
 use Rattle.context_laws.specs.Links.{Led}
 use Rattle.context_laws.proofs.Links.{led_complete}
@@ -67,7 +66,7 @@ module _ (set : List FileDescriptor) where
   comes_back a (oneof_alone m n s t) = type_or_oneof a m m n s t
   comes_back a (link_first from to s b k) = both_ways (led_complete all_links to from (subst (λ (z : Bytes). Led all_links to z) s k)) b
 
-module _ (rs : List Setting) (set : List FileDescriptor) (good : names set ≡ Good) (says_yes : name_check rs set ≡ true) (free : group_free set ≡ true) where
+module _ (rs : List Setting) (set : List FileDescriptor) (good : names set ≡ Ok tt) (says_yes : name_check rs set ≡ true) (free : group_free set ≡ true) where
   abbrev GoesOn : Item → Item → Type 0
   GoesOn = Walk (world rs set) (uses (set_sights rs set))
 

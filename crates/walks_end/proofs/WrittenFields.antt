@@ -1,6 +1,6 @@
 -- The written fields, in a set without refusals 6 and 7: all fields of the messages that are no map entries and that no extern path takes; the
 -- structs of these are seen in the texts. Assumes nothing.
-use Rattle.std.specs.Prelude.{ℕ, zero, suc, ◌+◌, ◌<◌, ◌≡◌, Bool, ◌||◌, ◌↔◌, length}
+use Rattle.std.specs.Prelude.{ℕ, zero, suc, ◌+◌, ◌<◌, ◌≡◌, Bool, ◌||◌, ◌↔◌, length, Ok}
 use Rattle.std.proofs.Common.{arith, ap, sym, ◌∙◌, eq-eqb}
 use Rattle.std.proofs.Math.Path.{refl, subst}
 use Rattle.std.proofs.Math.Bool.{true, false}
@@ -17,7 +17,6 @@ use Rattle.name_rules.specs.Accessors.{text}
 use Rattle.name_rules.specs.FullNames.{package_scope}
 use Rattle.name_rules.specs.WellFormed.{GoodField}
 use Rattle.name_rules.specs.Answer.{names}
-use Rattle.name_rules.specs.declared.Names.TheVariants.{Good}
 use Rattle.code_generator.specs.Piece.{Owned}
 use Rattle.code_generator.specs.Oneofs.{OneofField, oneof_of, is_plain, is_at, plain_fields, fields_at, meets, oneofs_from, oneof_fields}
 use Rattle.sights.specs.Sights.{Item, Sight, items, set_sights}
@@ -179,7 +178,7 @@ module _ (rs : List Setting) where
           (mathlib.Core.List.Memᴰ.append_cases (written_in rs (scope_of full) nested) l))
           (mathlib.Core.List.Memᴰ.append_cases (map (owned (scope_of full)) (plain_fields m.fields)) k)
 
-module _ (rs : List Setting) (set : List FileDescriptor) (good : names set ≡ Good) where
+module _ (rs : List Setting) (set : List FileDescriptor) (good : names set ≡ Ok tt) where
   file_scope : (f : FileDescriptor) → written_in rs (package_scope f.package_name) f.messages ≡ written_in rs (scope_of (package_names f)) f.messages
   file_scope f = ap (λ (s : Bytes). written_in rs s f.messages) (sym (scope_of_names (dotted_package f.package_name)))
 

@@ -1,6 +1,6 @@
 use Rattle.set_tables.proofs.ZeroLaws.{fresh_zeros, held_zeros}
 use mathlib.Core.Path.{sym, ◌∙◌}
-use Rattle.name_call.proofs.DifferLaws.{says_yes, says_no}
+use Rattle.name_call.proofs.DifferLaws.{answered}
 use lib.ListN.{length, length-replicate}
 use Prim.Native.Nat.{ℕ}
 use Rattle.name_call.proofs.set_names.Goals as goal
@@ -20,8 +20,7 @@ slice_bounds-names_differ-end-2 c = sym {a = length c.fill_tables.new.messages} 
 pub slice_bounds-names_differ-end-3 : goal.slice_bounds-names_differ-end-3
 slice_bounds-names_differ-end-3 c = sym {a = length c.fill_tables.new.t} {b = 16384} c.fields-2-1.given
 
-pub returns-then-differ : goal.returns-then-differ
-returns-then-differ c = says_yes _ _ c.requires _ _ _ _ c.fill_tables.ensures.messages_after (c.fill_tables.ensures.t_after ∙ held_zeros _ _ _ _ (fresh_zeros 16384)) (length-replicate {A = ℕ} 1024 0) (length-replicate {A = ℕ} 16384 0) _ (sym c.names_differ-differ.auto.t ∙ c.rows-2-1.given) _ c.names_differ-differ.ensures c.if-differ.true
-
 pub returns : goal.returns
-returns c = says_no _ _ c.requires _ _ _ _ c.fill_tables.ensures.messages_after (c.fill_tables.ensures.t_after ∙ held_zeros _ _ _ _ (fresh_zeros 16384)) (length-replicate {A = ℕ} 1024 0) (length-replicate {A = ℕ} 16384 0) _ (sym c.names_differ-differ.auto.t ∙ c.rows-2-1.given) _ c.names_differ-differ.ensures c.if-differ.false
+returns c =
+    c.names_differ.ensures
+    ∙ answered _ _ c.requires _ _ _ _ c.fill_tables.ensures.messages_after (c.fill_tables.ensures.t_after ∙ held_zeros _ _ _ _ (fresh_zeros 16384)) (length-replicate {A = ℕ} 1024 0) (length-replicate {A = ℕ} 16384 0) _ (sym c.names_differ.auto.t ∙ c.rows-2-1.given)

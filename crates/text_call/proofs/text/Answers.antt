@@ -1,15 +1,8 @@
-use Rattle.text_call.proofs.OrderLaws.{called, layout_broken, extern_bad, options_good}
-use mathlib.Core.Path.{sym, ◌∙◌}
+use Rattle.std.proofs.Common.{sym, ◌∙◌}
+use Rattle.text_call.proofs.AcceptLaws.{accepts}
 use Rattle.text_call.proofs.text.Goals as goal
 
-pub returns-in-Broken : goal.returns-in-Broken
-returns-in-Broken c = let r = called _ _ _ _ (layout_broken _ _ _ _ _ c.check_layout.ensures _ c.in-Broken.is) in record { result_value = r.0; t_after = r.1 }
-
-pub returns-in-Bad : goal.returns-in-Bad
-returns-in-Bad c = let r = called _ _ _ _ (extern_bad _ _ _ _ _ c.check_layout.ensures c.in-Good.is _ c.check_externs.ensures _ c.in-Bad.is) in record { result_value = r.0; t_after = r.1 }
-
-pub set_answer-requires : goal.set_answer-requires
-set_answer-requires c = sym c.check_layout.ensures ∙ c.in-Good.is
-
-pub returns-in-Good-check_externs : goal.returns-in-Good-check_externs
-returns-in-Good-check_externs c = let r = called _ _ _ _ (options_good _ _ _ _ _ c.check_layout.ensures c.in-Good.is _ c.check_externs.ensures c.in-Good-check_externs.is c.set_answer.ensures) in record { result_value = r.0; t_after = r.1 }
+pub file_answer-requires : goal.file_answer-requires
+file_answer-requires c =
+    accepts _ _ _ (sym c.check.ensures ∙ c.in_ok-check.was) (sym c.read_set.ensures ∙ c.in_ok-read_set.was)
+    (sym c.check_index.ensures ∙ c.in_ok-check_index.was) (sym c.judge_names.ensures ∙ c.in_ok-judge_names.was)

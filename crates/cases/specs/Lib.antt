@@ -1,0 +1,5 @@
+pub mod Tally
+pub mod Compared
+pub mod Code
+pub mod Seen
+pub mod Pack

@@ -1,0 +1,34 @@
+ghost use Rattle.std.specs.Prelude.{◌≡◌, IfOk, Option, None, Some};
+ghost use Rattle.std.specs.Iterator.{Drains, IsFinite};
+ghost use Rattle.cases.specs.Compared.{Compared};
+
+use crate::tally::Tally;
+use std::fmt::Display;
+use std::io;
+use std::io::Write;
+
+/// Counts the cases, and prints on a line of its own what `differs` gives of each case whose answer is not the recorded one.
+pub fn compare_all<
+    W: Write,
+    C,
+    I: Iterator<Item = C> + Drop,
+    D: Display + Drop,
+    F: Fn(C) -> Option<D> + Drop,
+>(out: &mut W, cases: I, differs: F) -> io::Result<Tally>
+    requires can { I.can_next cases }
+    requires ends { IsFinite (I.remaining cases) }
+    requires callable { F.IsAlwaysCallable differs }
+    ensures { IfOk result (λ t. (all : _) × Drains I.next_gives cases all × Compared (λ c. F.post differs c None) (λ c. (d : D) × F.post differs c (Some d)) all t) }
+{
+    let mut tally = Tally::new();
+    for case in cases {
+        match differs(case) {
+            None => tally.count(true),
+            Some(words) => {
+                tally.count(false);
+                writeln!(out, "{words}")?;
+            }
+        }
+    }
+    Ok(tally)
+}

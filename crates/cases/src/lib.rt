@@ -1,0 +1,12 @@
+//! What the programs share that compare recorded answers: the tally of the cases, packs of cases, and answers as field numbers.
+#![tactic(auto)]
+
+pub mod code;
+pub mod compare;
+pub mod pack;
+pub mod tally;
+
+pub use code::code_of;
+pub use compare::compare_all;
+pub use pack::{Case, Fault, Pack};
+pub use tally::Tally;

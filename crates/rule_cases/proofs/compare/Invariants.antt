@@ -1,5 +1,0 @@
-use Rattle.std.proofs.Common.{length, ◌-◌}
-use Rattle.rule_cases.proofs.compare.Given as goal
-
-abbrev pub decreases-loop-out : goal.decreases-loop-out
-decreases-loop-out g l = length l.s - l.at
