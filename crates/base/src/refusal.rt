@@ -1,4 +1,4 @@
-// Document 01's table of refusals.
+//! Document 01's table of refusals.
 ghost use Rattle.std.specs.Prelude.{◌≡◌};
 ghost use Rattle.base.specs.Refusal.{refusal_number, refusal_place, returned};
 

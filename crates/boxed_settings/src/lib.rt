@@ -1,83 +1,85 @@
 //! Which fields of a set have a boxed setting at `.M.f`, by bytes of a table: 1 for each that has, 0 for each other.
 #![tactic(auto)]
 
+ghost use Rattle.std.specs.Prelude.{◌≡◌};
 ghost use Rattle.writer.specs.Wrote.{Wrote};
+ghost use Rattle.writer.specs.Writing.{◌▻◌};
 ghost use Rattle.descriptor.specs.Decode.{entries, parts};
 ghost use Rattle.options.specs.Settings.{settings};
 ghost use Rattle.boxed_settings.specs.Flags.{flag, field_flag, field_flags, messages_flags, file_flags, set_flags};
 
 use joined::MAX_PATH;
+use options::{Kind, Options};
 use parts::Parts;
+use writer::Text;
 
-fn put_flag(t: &mut [u8], at: usize, on: bool) -> usize
-    ensures { Wrote t.old at (flag on) t.new result }
-{
-    if on {
-        return writer::put_byte(t, at, 1);
-    }
-    writer::put_byte(t, at, 0)
-}
-
-// A field of the message with this full name.
-fn put_field(t: &mut [u8], at: usize, o: &[u8], full: &[u8], p: &[u8]) -> usize
-    ensures { Wrote t.old at (field_flag (settings o.now) full.now 0 p.now) t.new result }
+/// A field of the message with this full name.
+fn put_field(text: &mut Text<'_>, options: &Options<'_>, full: &[u8], field: &[u8])
+    ensures { text.new ≡ text.old ▻ field_flag options.now full.now 0 field.now }
 {
     let mut path = [0u8; MAX_PATH];
-    let n = joined::path_in(&mut path, full, joined::name_of(p));
-    let row = path::find_first(o, 4, &path[0..n]);
-    put_flag(t, at, row.found)
+    let n = joined::path_in(&mut path, full, joined::name_of(field));
+    let boxed = path::get_first(options, Kind::Boxed, &path[..n]).is_some();
+    text.put_byte(u8::from(boxed));
 }
 
-fn put_fields(t: &mut [u8], at: usize, o: &[u8], full: &[u8], s: &[u8]) -> usize
-    ensures { Wrote t.old at (field_flags (settings o.now) full.now s.now) t.new result }
+/// The fields of the message with this full name.
+#[tactic(auto, unfolding(crate::specs::Flags::field_flags), using(crate::proofs::FlagLaws::walks))]
+fn put_fields(text: &mut Text<'_>, options: &Options<'_>, full: &[u8], message: &[u8])
+    ensures { text.new ≡ text.old ▻ field_flags options.now full.now message.now }
 {
-    let mut a = at;
-    for p in Parts::new(s, 2) {
-        a = put_field(t, a, o, full, p);
+    for field in Parts::new(message, 2) {
+        put_field(text, options, full, field);
     }
-    a
 }
 
-// The messages with this field number in a scope, and those nested in them, so many levels.
+/// The messages with this field number in a scope, and those nested in them, so many levels.
+#[tactic(auto, using(crate::proofs::FlagLaws::walks))]
 fn put_messages(
-    t: &mut [u8],
-    at: usize,
-    o: &[u8],
+    text: &mut Text<'_>,
+    options: &Options<'_>,
     scope: &[u8],
-    s: &[u8],
+    part: &[u8],
     number: u64,
     left: usize,
-) -> usize
-    ensures { Wrote t.old at (messages_flags left (settings o.now) scope.now (parts number (entries s.now))) t.new result }
+)
+    ensures { text.new ≡ text.old ▻ messages_flags left options.now scope.now (parts number (entries part.now)) }
 {
     if left == 0 {
-        return at;
+        return;
     }
-    let mut a = at;
-    for p in Parts::new(s, number) {
+    for message in Parts::new(part, number) {
         let mut full = [0u8; MAX_PATH];
-        let n = joined::path_in(&mut full, scope, joined::name_of(p));
-        a = put_fields(t, a, o, &full[0..n], p);
-        a = put_messages(t, a, o, &full[0..n], p, 3, left - 1);
+        let n = joined::path_in(&mut full, scope, joined::name_of(message));
+        put_fields(text, options, &full[..n], message);
+        put_messages(text, options, &full[..n], message, 3, left - 1);
     }
-    a
 }
 
-fn put_file(t: &mut [u8], at: usize, o: &[u8], s: &[u8]) -> usize
-    ensures { Wrote t.old at (file_flags (settings o.now) 0 s.now) t.new result }
+/// The messages of a file.
+fn put_file(text: &mut Text<'_>, options: &Options<'_>, file: &[u8])
+    ensures { text.new ≡ text.old ▻ file_flags options.now 0 file.now }
 {
     let mut scope = [0u8; MAX_PATH];
-    let n = joined::package_in(&mut scope, s);
-    put_messages(t, at, o, &scope[0..n], s, 4, 16)
+    let n = joined::package_in(&mut scope, file);
+    put_messages(text, options, &scope[..n], file, 4, 16);
+}
+
+/// The files of a set.
+#[tactic(auto, unfolding(crate::specs::Flags::set_flags), using(crate::proofs::FlagLaws::walks))]
+fn put_files(text: &mut Text<'_>, options: &Options<'_>, set: &[u8])
+    ensures { text.new ≡ text.old ▻ set_flags options.now set.now }
+{
+    for file in Parts::new(set, 1) {
+        put_file(text, options, file);
+    }
 }
 
 /// The fields of a set in declaration order.
 pub fn boxed_settings(t: &mut [u8], o: &[u8], set: &[u8]) -> usize
     ensures { Wrote t.old 0 (set_flags (settings o.now) set.now) t.new result }
 {
-    let mut a = 0;
-    for p in Parts::new(set, 1) {
-        a = put_file(t, a, o, p);
-    }
-    a
+    let mut text = Text::new(t);
+    put_files(&mut text, &Options::new(o), set);
+    text.next(0)
 }

@@ -31,7 +31,8 @@ fn byte_of(v: u32, next: usize) -> Unescaped
     }
 }
 
-/// An escape of one letter.
+/// The byte that an escape of one letter stands for.
+// Its letters are of C's escapes. Those of Rust's, which literal's `form_of` writes, are others.
 #[tactic(auto, unfolding(crate::specs::Unescape::letter, base::specs::Choose::choose))]
 fn letter(c: u8, next: usize) -> Unescaped
     ensures { result ≡ letter c next }
@@ -50,6 +51,7 @@ fn letter(c: u8, next: usize) -> Unescaped
     Unescaped::Byte(byte, next)
 }
 
+/// Is it an octal digit?
 #[tactic(auto, unfolding(crate::specs::Unescape::is_octal, utf8::specs::Utf8::between, base::specs::Choose::choose))]
 fn is_octal(c: u8) -> bool
     ensures { result ≡ is_octal c }
@@ -83,6 +85,7 @@ fn octal_at(s: &[u8], p: usize) -> Unescaped
     byte_of(y * 8 + octal_value(d), p + 3)
 }
 
+/// Is it a hexadecimal digit?
 #[tactic(auto, unfolding(crate::specs::Unescape::is_hex, utf8::specs::Utf8::between, base::specs::Choose::choose))]
 fn is_hex(c: u8) -> bool
     ensures { result ≡ is_hex c }

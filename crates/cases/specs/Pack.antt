@@ -3,7 +3,7 @@ use Rattle.std.specs.Prelude.{ℕ, List, Result, Ok, Err, map}
 use Rattle.wire.specs.Records.{records}
 use Rattle.cases.specs.Seen.{SeenCase, case_in}
 use Rattle.cases.specs.declared.pack.Case.{Case}
-use Rattle.cases.specs.declared.pack.Fault.{Fault}
+use Rattle.wire.specs.declared.records.record.Fault.{Fault}
 
 abbrev pub seen : Result Case Fault → Result SeenCase ℕ
 seen (Ok c) = Ok (record { number = c.number; bytes = c.bytes.now })

@@ -1,6 +1,8 @@
 -- The cases of a pack without where they lie in memory.
 use Rattle.std.specs.Prelude.{ℕ, List, Result, Ok, Err}
 use Rattle.wire.specs.Contents.{value_of}
+use Rattle.wire.specs.Message.{Entry}
+use Rattle.wire.specs.declared.records.record.Fault.{Fault as FaultAt}
 use Rattle.wire.specs.declared.Step.{Step}
 use Rattle.wire.specs.declared.Step.TheVariants.{End, Fault, Found}
 use Rattle.descriptor.specs.Decode.{bytes_in}
@@ -15,3 +17,8 @@ abbrev pub case_in : List ℕ → Step → Result SeenCase ℕ
 case_in s End = Err 0
 case_in s (Fault key) = Err key
 case_in s (Found f) = Ok (record { number = f.number; bytes = bytes_in (value_of s f) })
+
+-- the same of a record that was read
+abbrev pub case_of : Result Entry FaultAt → Result SeenCase ℕ
+case_of (Ok e) = Ok (record { number = e.field.number; bytes = bytes_in e.field.value })
+case_of (Err f) = Err f.key

@@ -1,3 +1,4 @@
+//! A case's answer as a field number.
 ghost use Rattle.std.specs.Prelude.{◌≡◌};
 ghost use Rattle.cases.specs.Code.{code_of};
 

@@ -1,3 +1,4 @@
+//! The comparison of answers with those recorded.
 ghost use Rattle.std.specs.Prelude.{◌≡◌, IfOk, Option, None, Some};
 ghost use Rattle.std.specs.Iterator.{Drains, IsFinite};
 ghost use Rattle.cases.specs.Compared.{Compared};
@@ -8,6 +9,8 @@ use std::io;
 use std::io::Write;
 
 /// Counts the cases, and prints on a line of its own what `differs` gives of each case whose answer is not the recorded one.
+// What it asks, it asks of its types alone: any iterator and any function may be given, and one of them may ask something of
+// its caller, or have no end.
 pub fn compare_all<
     W: Write,
     C,

@@ -8,5 +8,6 @@ pub mod tally;
 
 pub use code::code_of;
 pub use compare::compare_all;
-pub use pack::{Case, Fault, Pack};
+pub use pack::{Case, Pack};
 pub use tally::Tally;
+pub use wire::records::Fault;

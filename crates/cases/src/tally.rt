@@ -1,3 +1,4 @@
+//! A tally of cases.
 ghost use Rattle.std.specs.Prelude.{◌≡◌, ◌+◌, ◌++◌, ◌≤◌, if◌then◌else◌, Some, codes, decimal};
 ghost use Rattle.cases.specs.Tally.{one_more};
 

@@ -3,7 +3,7 @@ ghost use Rattle.std.specs.Prelude.{◌≡◌};
 ghost use Rattle.descriptor.specs.Decode.{decode_value};
 ghost use Rattle.descriptor.specs.Steps.{value_step};
 
-use crate::reading::{TakeRecord, read_into};
+use crate::reading::{TakeRecord, described};
 use crate::values::{bytes_in, flag_after, number_in};
 use std::marker::Model;
 use wire::records::Record;
@@ -56,8 +56,6 @@ impl<'a> EnumValueDescriptor<'a> {
     pub fn new(part: &'a [u8]) -> Self
         ensures { result ≡ decode_value part.now }
     {
-        let mut value = EnumValueDescriptor::default();
-        read_into(&mut value, part);
-        value
+        described(part)
     }
 }

@@ -5,7 +5,7 @@ ghost use Rattle.descriptor.specs.Accessors.{text, number, label, type, is_repea
 ghost use Rattle.descriptor.specs.Decode.{decode_field};
 ghost use Rattle.descriptor.specs.Steps.{options_step, field_step};
 
-use crate::reading::{TakeRecord, read_into};
+use crate::reading::{TakeRecord, described, read_into};
 use crate::values::{bytes_in, flag_in, number_in};
 use std::marker::Model;
 use wire::records::Record;
@@ -144,9 +144,7 @@ impl<'a> FieldDescriptor<'a> {
     pub fn new(part: &'a [u8]) -> Self
         ensures { result ≡ decode_field part.now }
     {
-        let mut field = FieldDescriptor::default();
-        read_into(&mut field, part);
-        field
+        described(part)
     }
 
     /// The name; none reads as no bytes.

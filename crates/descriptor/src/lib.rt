@@ -20,6 +20,7 @@ pub use field::{
     TYPE_MESSAGE,
 };
 pub use message::{FileHeader, MessageHeader, name_of};
+pub use values::bytes_in;
 
 // For callers that hold a set and the places of its parts: the same descriptors as views, whose texts are places in the set.
 

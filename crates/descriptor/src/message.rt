@@ -5,7 +5,7 @@ ghost use Rattle.descriptor.specs.Decode.{decode_message, decode_file, decode_en
 ghost use Rattle.descriptor.specs.Seen.{text_seen};
 ghost use Rattle.descriptor.specs.Steps.{message_step, file_step, name_step};
 
-use crate::reading::{TakeRecord, read_into};
+use crate::reading::{TakeRecord, described};
 use crate::values::{bytes_in, flag_after};
 use std::marker::Model;
 use wire::records::Record;
@@ -59,9 +59,7 @@ impl<'a> MessageHeader<'a> {
     pub fn new(part: &'a [u8]) -> Self
         ensures { result ≡ message_header (decode_message part.now) }
     {
-        let mut message = MessageHeader::default();
-        read_into(&mut message, part);
-        message
+        described::<MessageHeader<'a>>(part)
     }
 }
 
@@ -100,9 +98,7 @@ impl<'a> FileHeader<'a> {
     pub fn new(part: &'a [u8]) -> Self
         ensures { result ≡ file_header (decode_file part.now) }
     {
-        let mut file = FileHeader::default();
-        read_into(&mut file, part);
-        file
+        described::<FileHeader<'a>>(part)
     }
 }
 
@@ -139,7 +135,6 @@ pub fn name_of<'a>(part: &'a [u8]) -> Option<&'a [u8]>
     ensures oneof { text_seen result ≡ decode_oneof part.now }
     ensures enumeration { text_seen result ≡ (decode_enum part.now).name }
 {
-    let mut name = Name::default();
-    read_into(&mut name, part);
+    let name: Name<'_> = described(part);
     name.name
 }

@@ -27,3 +27,13 @@ pub fn read_into<'a, T: TakeRecord<'a>>(known: &mut T, part: &'a [u8])
         }
     }
 }
+
+/// What the message says alone.
+#[inline(always)]
+pub fn described<'a, T: TakeRecord<'a> + Default>(part: &'a [u8]) -> T
+    ensures { (none : T) × T.is_default none × (result ≡ after T.step none (entries part.now)) }
+{
+    let mut known = T::default();
+    read_into(&mut known, part);
+    known
+}

@@ -10,13 +10,13 @@ ghost use Rattle.extern_checks.specs.Doubles.{has_gap, valid_path, prost_type_pa
 use base::refusal::Refusal;
 use extern_paths::prost_types::PATHS;
 use options::{Kind, Options, Row};
-use split::{Parts, is_word};
+use split::{Parts, Separator, is_word};
 
 /// Has the path an empty segment behind a `.`?
 fn has_gap(path: &[u8]) -> bool
     ensures { result ≡ has_gap path.now }
 {
-    Parts::new(path, b".")
+    Parts::new(path, Separator::Dot)
         .skip(1)
         .any(|segment| segment.is_empty())
 }

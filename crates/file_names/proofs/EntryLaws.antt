@@ -1,22 +1,16 @@
 -- What a map entry holds, by its bytes. Assumes nothing.
-use mathlib.Core.Path.{◌≡◌, refl, sym, ap, ap₂, ◌∙◌}
-use mathlib.Core.Bool.{Bool, true, false, ◌&&◌, not}
+use mathlib.Core.Path.{◌≡◌, refl, ap, ap₂}
+use mathlib.Core.Bool.{Bool, true, false, ◌&&◌, ◌||◌, not}
 use mathlib.Core.List.{List, [], ◌∷◌, map}
-use Prim.Native.Nat.{ℕ, zero, suc, ◌-◌}
+use Prim.Native.Nat.{ℕ, zero, suc}
 use native.Mathlib.Omega.{arith}
 use lib.Dec.{eqb}
-use lib.ListN.{length}
 use borrow.Author.Tests.{ne_eqb}
-use Rattle.base.specs.Choose.{choose}
 use Rattle.base.specs.Bytes.{b}
 use Rattle.base.specs.Lists.{is_empty}
-use Rattle.wire.specs.Records.{part}
 use Rattle.descriptor.specs.Descriptor.{FieldDescriptor}
 use Rattle.descriptor.specs.Decode.{entries, parts, decode_field, decode_enum, decode_oneof, decode_message, decode_messages}
-use Rattle.descriptor.specs.Views.{field_of, field_in}
-use Rattle.descriptor.specs.declared.FieldView.{FieldView}
 use Rattle.name_rules.specs.Rules.{is_text, is_number, key_type, key_good, value_field_good, key_and_value, none_nested, entry_good}
-use Rattle.name_rules.proofs.ViewedLaws.{field_is}
 use Rattle.file_names.specs.Walks.{is_optional}
 
 three_and : (x y z w : Bool) → (x && (y && (z && w))) ≡ ((x && (y && z)) && w)
@@ -24,21 +18,13 @@ three_and true true z w = refl
 three_and true false z w = refl
 three_and false y z w = refl
 
-key_is : (f : FieldDescriptor) → key_good f ≡ (is_optional (b "key") 1 f && key_type f.type)
+pub key_is : (f : FieldDescriptor) → key_good f ≡ (is_optional (b "key") 1 f && key_type f.type)
 unfolding key_good is_optional
 key_is f = three_and (is_text (b "key") f.name) (is_number 1 f.number) (is_number 1 f.label) (key_type f.type)
 
-value_is : (f : FieldDescriptor) → value_field_good f ≡ (is_optional (b "value") 2 f && not (is_number 10 f.type))
+pub value_is : (f : FieldDescriptor) → value_field_good f ≡ (is_optional (b "value") 2 f && not (is_number 10 f.type))
 unfolding value_field_good is_optional
 value_is f = three_and (is_text (b "value") f.name) (is_number 2 f.number) (is_number 1 f.label) (not (is_number 10 f.type))
-
--- a field of an entry, by its view
-module _ (s : List ℕ) (v : FieldView) (e : v ≡ field_in 0 (part s 0 (length s - 0))) where
-  pub key_field_is : key_good (decode_field s) ≡ (is_optional (b "key") 1 (field_of s v) && key_type (field_of s v).type)
-  key_field_is = ap key_good (sym (field_is s v e)) ∙ key_is (field_of s v)
-
-  pub value_field_is : value_field_good (decode_field s) ≡ (is_optional (b "value") 2 (field_of s v) && not (is_number 10 (field_of s v).type))
-  value_field_is = ap value_field_good (sym (field_is s v e)) ∙ value_is (field_of s v)
 
 not_none : (n : ℕ) → eqb (suc n) 0 ≡ false
 not_none n = ne_eqb (suc n) 0 (λ e. omega arith)
@@ -48,8 +34,8 @@ none_mapped f [] = refl
 none_mapped f (x ∷ xs) = refl
 
 -- at the deepest level nothing is nested
-none_decoded : (left : ℕ) (ps : List (List ℕ)) → none_nested (decode_messages left ps) ≡ choose (eqb left 0) true (is_empty ps)
-unfolding decode_messages choose
+none_decoded : (left : ℕ) (ps : List (List ℕ)) → none_nested (decode_messages left ps) ≡ (eqb left 0 || is_empty ps)
+unfolding decode_messages
 none_decoded zero ps = refl
 none_decoded (suc n) [] = rw (not_none n)
 none_decoded (suc n) (p ∷ ps) = rw (not_none n)
@@ -57,7 +43,7 @@ none_decoded (suc n) (p ∷ ps) = rw (not_none n)
 pub entry_is : (s : List ℕ) (left : ℕ)
     → entry_good (decode_message s) (decode_messages left (parts 3 (entries s)))
     ≡ (key_and_value (map decode_field (parts 2 (entries s)))
-    && (is_empty (parts 4 (entries s)) && (is_empty (parts 8 (entries s)) && choose (eqb left 0) true (is_empty (parts 3 (entries s))))))
+    && (is_empty (parts 4 (entries s)) && (is_empty (parts 8 (entries s)) && (eqb left 0 || is_empty (parts 3 (entries s))))))
 unfolding entry_good decode_message
 entry_is s left =
     ap (λ (u : Bool). key_and_value (map decode_field (parts 2 (entries s))) && u)

@@ -6,9 +6,11 @@ ghost use Rattle.descriptor.specs.Decode.{entries, parts};
 ghost use Rattle.base.specs.Lists.{all};
 ghost use Rattle.file_rules.specs.Walks.{field_part_good, value_part_good, oneof_part_good, enum_part_good, message_part_good};
 
+use descriptor::name_of;
+use name_rules::rules::has_name;
 use parts::Parts;
 
-// The fields of a message with so many oneofs.
+/// The fields of a message with so many oneofs.
 #[tactic(auto, unfolding(base::specs::Lists::all))]
 fn fields_good(s: &[u8], oneofs: usize) -> bool
     ensures { result ≡ all (field_part_good oneofs) (parts 2 (entries s.now)) }
@@ -16,7 +18,7 @@ fn fields_good(s: &[u8], oneofs: usize) -> bool
     Parts::new(s, 2).all(|field| name_rules::field_good(field, oneofs))
 }
 
-// The values of an enum.
+/// The values of an enum.
 #[tactic(auto, unfolding(base::specs::Lists::all))]
 fn values_good(s: &[u8]) -> bool
     ensures { result ≡ all value_part_good (parts 2 (entries s.now)) }
@@ -24,7 +26,7 @@ fn values_good(s: &[u8]) -> bool
     Parts::new(s, 2).all(name_rules::value_good)
 }
 
-// The oneofs of a message.
+/// The oneofs of a message.
 #[tactic(auto, unfolding(base::specs::Lists::all))]
 fn oneofs_good(s: &[u8]) -> bool
     ensures { result ≡ all oneof_part_good (parts 8 (entries s.now)) }
@@ -33,11 +35,11 @@ fn oneofs_good(s: &[u8]) -> bool
 }
 
 /// An enum's own name and its values.
+#[tactic(auto, using(crate::proofs::DeclarationLaws::enum_is))]
 pub fn enum_good(s: &[u8]) -> bool
     ensures { result ≡ enum_part_good s.now }
 {
-    let name = descriptor::name_view(s, 0, s.len());
-    name_rules::has_name(s, name) && values_good(s)
+    has_name(name_of(s)) && values_good(s)
 }
 
 /// The enums of a message (field number 4) or of a file (5).
@@ -49,19 +51,10 @@ pub fn enums_good(s: &[u8], number: u64) -> bool
 }
 
 /// A message's own name, fields, enums and oneofs.
+#[tactic(auto, using(crate::proofs::DeclarationLaws::message_is))]
 pub fn message_good(s: &[u8]) -> bool
     ensures { result ≡ message_part_good s.now }
 {
-    let name = descriptor::name_view(s, 0, s.len());
     let oneofs = parts::count_parts(s, 8);
-    if !name_rules::has_name(s, name) {
-        return false;
-    }
-    if !fields_good(s, oneofs) {
-        return false;
-    }
-    if !enums_good(s, 4) {
-        return false;
-    }
-    oneofs_good(s)
+    has_name(name_of(s)) && fields_good(s, oneofs) && enums_good(s, 4) && oneofs_good(s)
 }

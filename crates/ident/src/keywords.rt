@@ -88,6 +88,7 @@ fn number_of(first: u8, middle: u8, length: usize) -> usize
     usize::from(NUMBERS[place])
 }
 
+/// A listed word.
 fn word(number: usize) -> &'static [u8]
     requires { number < 53 }
     ensures { result.now ≡ word number }
@@ -105,6 +106,7 @@ fn word_number(name: &[u8]) -> Option<usize>
         return None;
     }
     let number = number_of(name[0], name[length / 2], length);
+    // `same_bytes`, which the laws of the words speak of: with `==` the proof did not close
     if number < 53 && base::same_bytes(name, word(number)) {
         Some(number)
     } else {

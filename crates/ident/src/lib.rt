@@ -96,6 +96,7 @@ pub fn convert(name: &[u8]) -> Converted
 }
 
 // The writers of `text`, for callers that write from a place in a buffer on and go on behind what is written.
+
 /// The place behind a written name.
 #[derive(Drop)]
 pub struct Named {

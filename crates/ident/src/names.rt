@@ -1,9 +1,10 @@
-// What is a name: `[A-Za-z_][A-Za-z0-9_]*`, and has a letter or digit.
+//! What is a name: `[A-Za-z_][A-Za-z0-9_]*`, and has a letter or digit.
 ghost use Rattle.std.specs.Prelude.{◌≡◌};
 ghost use Rattle.std.specs.Char.{is_ascii_alphanumeric};
 ghost use Rattle.std.specs.List.{list_any, list_all};
 ghost use Rattle.ident.specs.Name.{name_start, name_part, is_name, has_word};
 
+/// Can a name begin with the byte?
 #[tactic(auto, using(crate::proofs::NameLaws::start_is))]
 fn is_name_start(byte: u8) -> bool
     ensures { result ≡ name_start byte }
@@ -11,6 +12,7 @@ fn is_name_start(byte: u8) -> bool
     byte.is_ascii_alphabetic() || byte == b'_'
 }
 
+/// Can it stand in a name?
 #[tactic(auto, unfolding(crate::specs::Name::name_part, heck::specs::Case::between))]
 fn is_name_part(byte: u8) -> bool
     ensures { result ≡ name_part byte }
@@ -25,6 +27,7 @@ fn are_name_parts(bytes: &[u8]) -> bool
     bytes.iter().all(|&byte| is_name_part(byte))
 }
 
+/// Is it an identifier?
 #[tactic(auto, using(crate::proofs::NameLaws::every_is), unfolding(crate::specs::Name::is_name))]
 pub fn is_name(s: &[u8]) -> bool
     ensures { result ≡ is_name s.now }

@@ -86,10 +86,10 @@ fn is_kept(name: &Cased<'_>) -> bool
     ensures { result ≡ is_trailing (addition name.now) }
 {
     // Few names begin as one that does.
-    let Some(first) = name.again().next() else {
-        return false;
-    };
-    begins_kept(first) && addition_to(name.again()) == Addition::Trailing
+    match name.again().next() {
+        Some(first) => begins_kept(first) && addition_to(name.again()) == Addition::Trailing,
+        None => false,
+    }
 }
 
 /// The camel name of an enum's value, without the enum's own written name in front.

@@ -15,7 +15,7 @@ use Rattle.wire.specs.Message.{Entry, records_at, fields_in}
 use Rattle.wire.specs.declared.records.record.Fault.{Fault}
 use Rattle.descriptor.specs.Descriptor.{Bytes}
 use Rattle.descriptor.specs.Decode.{entries, bytes_in, parts}
-use Rattle.parts.proofs.Fields.{fields_of_part}
+use Rattle.descriptor.proofs.EntriesLaws.{entries_read}
 use Rattle.limits.specs.Sums.{sum, bit}
 use Rattle.limits.specs.Weights.{text_bytes, text_length, long_segment, long_name, long_full_name, sort_below, counts, around_below, holds_none, tally, most, passes}
 use Rattle.limits.specs.Fits.{no_totals, with_name, counted, one_of, Held, Adds, Joined}
@@ -59,7 +59,7 @@ lengths_same n (f ∷ fs) b =
     ∙ lengths_same n fs (choose (eqb f.number n) (bytes_in f.value) b)
 
 pub name_start : (s : Bytes) → length_of_fields 1 (fields_in (records_at 0 s)) 0 ≡ text_length 1 s
-name_start s = rw (fields_of_part 0 s) (lengths_same 1 (entries s) [] ∙ ap length (bytes_all 1 s))
+name_start s = rw (entries_read 0 s) (lengths_same 1 (entries s) [] ∙ ap length (bytes_all 1 s))
 
 -- ---- a declaration alone
 record Clean (sort : Sort) (around : ℕ) (s : Bytes) : Type 0 where

@@ -13,11 +13,9 @@ use Rattle.wire.specs.Encoding.{Field}
 use Rattle.wire.specs.Contents.{field_of, value_of}
 use Rattle.wire.specs.Records.{on_step, scan, records, part}
 use Rattle.wire.specs.Step.{step_at, payload, sized, scalar, delimited}
-use Rattle.wire.specs.Varint.{varint, on_varint}
+use Rattle.wire.specs.Varint.{Varint, varint, on_varint}
 use Rattle.wire.proofs.StepLaws.{Lies, lies}
 use Rattle.wire.proofs.VarintLaws.{Known, known_varint}
-use Rattle.wire.specs.declared.Varint.{Varint}
-use Rattle.wire.specs.declared.Varint.TheVariants.{Fault as NoVarint, Value}
 use Rattle.wire.specs.declared.Record.{Record}
 use Rattle.wire.specs.declared.Step.{Step}
 use Rattle.wire.specs.declared.Step.TheVariants.{End, Fault, Found}
@@ -28,6 +26,7 @@ use Rattle.descriptor.proofs.ViewLaws.{bytes_of}
 use Rattle.limits.specs.Sums.{sum}
 use Rattle.limits.proofs.SumLaws.{sum_plus, sum_append, sum_below, sum_map, sum_all_of}
 use Rattle.limits.proofs.PartTallies.{at_number, sum_parts}
+use Rattle.std.specs.Prelude.{Some, None}
 
 -- ---- a record takes a byte for its key, and one more before or in its payload
 abbrev Long : ℕ → Step → Type 0
@@ -40,13 +39,13 @@ sized_long n at number wiretype value start len h g = choose_case (Long at) (leb
 
 scalar_long : (s : Bytes) (at number wiretype start : ℕ) (w : Varint) → at < start → wiretype ≡ 0 → Known 10 s start w → Long at (scalar at number wiretype start w)
 unfolding on_varint
-scalar_long s at number wiretype start NoVarint h z k = tt
-scalar_long s at number wiretype start (Value v next) h z k = (omega arith, λ e. absurd (omega arith))
+scalar_long s at number wiretype start None h z k = tt
+scalar_long s at number wiretype start (Some y) h z k = (omega arith, λ e. absurd (omega arith))
 
 delimited_long : (s : Bytes) (at number wiretype start : ℕ) (w : Varint) → at < start → Known 10 s start w → Long at (delimited (length s) at number wiretype w)
 unfolding on_varint
-delimited_long s at number wiretype start NoVarint h k = tt
-delimited_long s at number wiretype start (Value v next) h k = sized_long (length s) at number wiretype v next v (omega arith) (λ _. omega arith)
+delimited_long s at number wiretype start None h k = tt
+delimited_long s at number wiretype start (Some y) h k = sized_long (length s) at number wiretype y.0 y.1 y.0 (omega arith) (λ _. omega arith)
 
 payload_long : (s : Bytes) (at number wiretype start : ℕ) → at < start → Long at (payload s at number wiretype start)
 unfolding payload
@@ -62,8 +61,8 @@ payload_long s at number wiretype start h =
 
 keyed_long : (s : Bytes) (at : ℕ) (w : Varint) → Known 10 s at w → Long at (on_varint w (Fault at) (λ key start. payload s at (key / 8) (key % 8) start))
 unfolding on_varint
-keyed_long s at NoVarint k = tt
-keyed_long s at (Value key start) k = payload_long s at (key / 8) (key % 8) start k.1
+keyed_long s at None k = tt
+keyed_long s at (Some y) k = payload_long s at (y.0 / 8) (y.0 % 8) y.1 k.1
 
 step_long : (s : Bytes) (at : ℕ) → Long at (step_at s at)
 unfolding step_at

@@ -14,7 +14,7 @@ use Rattle.wire.specs.Message.{Entry, records_at, fields_in}
 use Rattle.wire.specs.declared.records.record.Fault.{Fault}
 use Rattle.descriptor.specs.Descriptor.{Bytes}
 use Rattle.descriptor.specs.Decode.{bytes_in}
-use Rattle.parts.proofs.Fields.{fields_of_part}
+use Rattle.descriptor.proofs.EntriesLaws.{entries_read}
 use Rattle.limits.specs.declared.limit.Limit.{Limit}
 use Rattle.limits.specs.declared.sort.Sort.{Sort}
 use Rattle.limits.specs.Sums.{sum, bit}
@@ -29,7 +29,7 @@ tally_of limit left sort around fs = sum (field_weight limit (tally limit (left 
 pub tally_start : (limit : Limit) (left : ℕ) (sort : Sort) (around : ℕ) (s : Bytes) → (left ≡ 0 → ⊥) → tally_of limit left sort around (fields_in (records_at 0 s)) ≡ tally limit left sort around s
 unfolding tally
 tally_start limit zero sort around s some = absurd (some refl)
-tally_start limit (suc k) sort around s some = ap (tally_of limit (suc k) sort around) (fields_of_part 0 s) ∙ rw sub-one
+tally_start limit (suc k) sort around s some = ap (tally_of limit (suc k) sort around) (entries_read 0 s) ∙ rw sub-one
 
 pub tally_no_level : (limit : Limit) (sort : Sort) (around : ℕ) (s : Bytes) → tally limit 0 sort around s ≡ 0
 unfolding tally
@@ -64,7 +64,7 @@ module _ (rs : List (Result Entry Fault)) where
   room_record e = refl
 
 pub room_start : (s : Bytes) → sum room (fields_in (records_at 0 s)) ≤ length s
-room_start s = rw (fields_of_part 0 s) (entries_room s)
+room_start s = rw (entries_read 0 s) (entries_room s)
 
 pub bit_is : (t : Bool) → from_bool t ≡ bit t
 unfolding choose

@@ -9,9 +9,9 @@ ghost use Rattle.limits.specs.Weights.{tally, passes, all_limits};
 ghost use Rattle.std.specs.List.{find};
 
 use base::refusal::Refusal;
+use descriptor::bytes_in;
 use field_number::{NAME, SET_FILE};
 use limit::{LIMITS, Limit, MAX_FILES, MAX_SET};
-use parts::value_bytes;
 use sort::Sort;
 use totals::Totals;
 use wire::records::Records;
@@ -41,7 +41,7 @@ fn count_below(part: &[u8], limit: Limit, sort: Sort, around: usize, left: usize
         if let Ok(record) = record
             && let Some(below) = sort.below(left, record.number)
         {
-            let bytes = value_bytes(record.value);
+            let bytes = bytes_in(record.value);
             count += usize::from(below.counts(limit, around, bytes));
             let around = below.around_below(around, bytes);
             count += count_below(bytes, limit, below, around, left - 1);
@@ -72,7 +72,7 @@ fn totals_below(part: &[u8], sort: Sort, left: usize) -> Option<Totals>
     let mut name = 0;
     for record in Records::new(part, 0) {
         if let Ok(record) = record {
-            let bytes = value_bytes(record.value);
+            let bytes = bytes_in(record.value);
             if record.number == NAME {
                 name = bytes.len();
             }
@@ -107,7 +107,8 @@ fn first_passed(set: &[u8]) -> Option<Limit>
 }
 
 /// The lowest limit that a set passes, of those that document 01 numbers 1 to 10; 0 where none is passed.
-// 0 in place of an Option: the definition is a number, which document 01's table returns as it is.
+// 0 in place of an `Option`: the definition is a number, and 0 where no limit is passed. Document 01's table has no 0: of it
+// `read_set` makes that the set is accepted.
 #[tactic(auto, using(crate::proofs::AnswerLaws::answers))]
 pub fn limit_passed(set: &[u8]) -> usize
     ensures { result ≡ limit_passed set.now }

@@ -66,7 +66,7 @@ impl Sort {
 
     /// Does it count for a limit? Around it stands a full name of a length.
     #[tactic(auto, unfolding(crate::specs::Weights::counts))]
-    pub fn counts(self, limit: Limit, around: usize, part: &[u8]) -> bool
+    pub(crate) fn counts(self, limit: Limit, around: usize, part: &[u8]) -> bool
         requires { (length part.now ≤ 32768) × (around ≤ 655380) }
         ensures { result ≡ counts limit self around part.now }
     {
@@ -109,7 +109,7 @@ impl Sort {
 
     /// The length of the full name around what it holds.
     #[tactic(auto, unfolding(crate::specs::Weights::around_below, base::specs::Choose::choose))]
-    pub fn around_below(self, around: usize, part: &[u8]) -> usize
+    pub(crate) fn around_below(self, around: usize, part: &[u8]) -> usize
         requires { (length part.now ≤ 32768) × (around ≤ 655380) }
         ensures length { result ≡ around_below self around part.now }
         ensures bound { result ≤ around + 1 + length part.now }

@@ -60,7 +60,7 @@ impl Totals {
     /// With one more declaration, which adds so much to the full name around it, and what it holds; none where a limit
     /// is passed.
     #[tactic(auto, using(crate::proofs::FitLaws::joined_is))]
-    pub fn joined(self, sort: Sort, added: usize, inner: Totals) -> Option<Totals>
+    pub(crate) fn joined(self, sort: Sort, added: usize, inner: Totals) -> Option<Totals>
         requires { added ≤ 256 }
         ensures { IfSome result (Joined self sort added inner) }
     {

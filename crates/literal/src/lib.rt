@@ -15,11 +15,13 @@ use writer::Text;
 fn hex_digit(n: u32) -> u8
     ensures { result ≡ hex_digit n }
 {
+    // a cast: what is below 16 fits, and `try_from` would ask for a digit where it doesn't
     let d = (n % 16) as u8;
     if d < 10 { b'0' + d } else { b'a' - 10 + d }
 }
 
 /// The last `k` hexadecimal digits of `n` at most, and no leading zero.
+// A recursion, as its definition is one: the digits come last to first.
 fn put_hex(text: &mut Text, n: u32, k: usize)
     ensures { text.new ≡ text.old ▻ hex_digits k n }
 {
@@ -32,6 +34,7 @@ fn put_hex(text: &mut Text, n: u32, k: usize)
     text.put_byte(hex_digit(n));
 }
 
+/// `char::escape_unicode`
 fn escape_unicode(text: &mut Text, c: u32)
     ensures { text.new ≡ text.old ▻ unicode_escape c }
 {
@@ -48,18 +51,23 @@ enum Form {
     Long,
 }
 
+/// The form of a character.
+// Its letters are of Rust's escapes. Those of C's, which c_escaping's `letter` reads, are others.
 #[tactic(auto, unfolding(crate::specs::Escape::escape, crate::specs::Escape::letter, base::specs::Choose::choose))]
 fn form_of(c: u32) -> Form
     ensures { (long : List ℕ) → escape c long ≡ form_text result long }
 {
-    match c {
+    let Ok(byte) = u8::try_from(c) else {
+        return Form::Long;
+    };
+    match byte {
         0x09 => Form::Letter(b't'),
         0x0D => Form::Letter(b'r'),
         0x0A => Form::Letter(b'n'),
         0x27 => Form::Letter(b'\''),
         0x22 => Form::Letter(b'"'),
         0x5C => Form::Letter(b'\\'),
-        0x20..=0x7E => Form::Plain(c as u8),
+        0x20..=0x7E => Form::Plain(byte),
         _ => Form::Long,
     }
 }

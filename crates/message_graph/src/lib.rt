@@ -19,6 +19,7 @@ pub type Index = u8;
 pub const MESSAGES: usize = 256;
 
 /// A message's number as a place in a table with a row for each message.
+// Kept beside `usize::from`: of a struct's field the check doesn't know that it fits a byte, and so not that the place is in the table.
 #[tactic(auto, using(crate::proofs::RowLaws::message_of_is))]
 pub fn place_of(message: Index) -> usize
     ensures message { result ≡ message_of message }
@@ -35,8 +36,8 @@ pub const TYPE_MESSAGE: u8 = 11;
 pub const LABEL_REPEATED: u8 = 3;
 
 /// A field of a set: its message, the message that is its type (0 where its type is none), its type and label by
-/// descriptor.proto's numbers, and whether it has a boxed setting at `.M.f`. Type and label are as a set gives them, which
-/// may be numbers that descriptor.proto doesn't have.
+/// descriptor.proto's numbers, and whether it has a boxed setting at `.M.f`. Type and label may be numbers that
+/// descriptor.proto doesn't have: where a set gives one over 255 it is 0 here, and where it gives none, 1.
 #[derive(Clone, Copy)]
 pub struct Field {
     pub owner: Index,
@@ -97,6 +98,9 @@ struct Range {
     end: usize,
 }
 
+// Of no field.
+const NO_RANGE: Range = Range { first: 0, end: 0 };
+
 impl Range {
     // The range and the field i, which stands behind it.
     fn with_field(self, i: usize) -> Range
@@ -134,7 +138,7 @@ impl<'a> Graph<'a> {
     pub fn new(fields: &'a [Field]) -> Self
         ensures { result ≡ fields.now }
     {
-        let mut ranges = [Range { first: 0, end: 0 }; MESSAGES];
+        let mut ranges = [NO_RANGE; MESSAGES];
         for (i, field) in fields.iter().enumerate() {
             let owner = place_of(field.owner);
             ranges[owner] = ranges[owner].with_field(i);
@@ -149,12 +153,11 @@ impl<'a> Graph<'a> {
         self.fields
     }
 
-    /// A part of the fields that has all of the message's, and maybe others.
+    /// A part of the fields that has all of the message's, and maybe others; none of a number that no message can have.
     pub fn fields_of(&self, message: usize) -> &'a [Field]
-        requires { message < messages }
         ensures { Part self.now result.now message }
     {
-        let range = self.ranges[message];
+        let range = self.ranges.get(message).copied().unwrap_or(NO_RANGE);
         &self.fields[range.first..range.end]
     }
 

@@ -1,5 +1,5 @@
-pub mod Tests
 pub mod ViewedLaws
 pub mod SegmentLaws
 pub mod WellFormedLaws
 pub mod NamesLaws
+pub mod SyntaxLaws

@@ -6,7 +6,6 @@ use mathlib.Core.List.{List, [], ◌∷◌}
 use mathlib.Core.Logic.{◌⊎◌, inl, inr}
 use mathlib.Core.Option.{Option, some, none}
 use Prim.Native.Nat.{ℕ, ◌<◌, ◌^◌}
-use native.Mathlib.Omega.{arith}
 use lib.Dec.{eqb, ltb, leb}
 use lib.ListN.{length}
 use borrow.Author.Tests.{ltb-true, ltb-false, leb-true, eqb-true, not-true}
@@ -25,7 +24,7 @@ use Rattle.name_rules.specs.Accessors.{or_else}
 use Rattle.name_rules.specs.Rules.{good_name, has_name, segments, package_good, is_known, syntax_good, within, is_given, is_number, type_name_good, oneof_index_good, default_good, field_good, value_good, enum_good, message_good, is_text, key_type, key_good, value_field_good, key_and_value, none_nested, entry_good, messages_good, file_good}
 use Rattle.name_rules.specs.FullNames.{set_fields}
 use Rattle.name_rules.specs.MapEntries.{map_entries_named}
-use Rattle.name_rules.specs.Answer.{file_named, first_six, first_seven, names}
+use Rattle.name_rules.specs.Answer.{file_named, first_six, names}
 use Rattle.name_rules.proofs.NamesLaws.{no_refusals}
 use Rattle.name_rules.specs.WellFormed.{Name, Named, Given, Between, GoodField, GoodValue, GoodEnum, GoodMessage, EntryField, GoodEntry, EveryNode, WellFormed}
 

@@ -15,8 +15,7 @@ use Rattle.descriptor.specs.Descriptor.{Bytes, Forest, done, node, FieldDescript
 unfoldable pub use Rattle.descriptor.specs.Limits.{segments}
 pub use Rattle.descriptor.specs.Limits.{on_first as onto}
 use Rattle.base.specs.Lists.{all, is_empty}
-use Rattle.name_rules.specs.declared.rules.Refusal.{Refusal}
-use Rattle.name_rules.specs.declared.rules.Refusal.TheVariants.{IllFormed}
+use Rattle.name_rules.specs.declared.rules.IllFormed.{IllFormed}
 
 -- a name: `[A-Za-z_][A-Za-z0-9_]*`, and not of underscores only
 unfoldable pub good_name : Bytes → Bool
@@ -69,12 +68,12 @@ default_good type none = true
 default_good type (some d) = is_utf8 d && (not (is_number 14 type) || good_name d)
 
 -- what is made of that test, and document 01's number of the refusal
-abbrev pub judged : Bool → Result Unit Refusal
+abbrev pub judged : Bool → Result Unit IllFormed
 judged true = Ok tt
-judged false = Err IllFormed
+judged false = Err (record {})
 
-abbrev pub refusal_number : Refusal → ℕ
-refusal_number IllFormed = 6
+abbrev pub refusal_number : IllFormed → ℕ
+refusal_number x = 6
 
 -- a field of a message with so many oneofs
 unfoldable pub field_good : ℕ → FieldDescriptor → Bool

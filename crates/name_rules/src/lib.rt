@@ -4,11 +4,9 @@
 ghost use Rattle.std.specs.Prelude.{◌≡◌};
 ghost use Rattle.wire.specs.Records.{part};
 ghost use Rattle.descriptor.specs.Decode.{decode_field, decode_value, decode_oneof};
-ghost use Rattle.descriptor.specs.Seen.{text_seen};
-ghost use Rattle.descriptor.specs.Views.{text_of, number_of};
-ghost use Rattle.name_rules.specs.Rules.{has_name, package_good, syntax_good, is_number, field_good, value_good};
+ghost use Rattle.name_rules.specs.Rules.{has_name, field_good, value_good};
 
-use descriptor::{EnumValueDescriptor, FieldDescriptor, Number, Text};
+use descriptor::{EnumValueDescriptor, FieldDescriptor, Text};
 
 pub mod rules;
 
@@ -33,9 +31,7 @@ pub fn oneof_good(part: &[u8]) -> bool
     rules::has_name(descriptor::name_of(part))
 }
 
-// For callers that hold a set and the places of its texts: the same rules of a text by its place.
-
-// The bytes of a text.
+/// The bytes of a text, for callers that hold a set and the places of its texts.
 pub fn text_bytes(s: &[u8], t: Text) -> &[u8]
     ensures { result.now ≡ part s.now t.start t.len }
 {
@@ -50,41 +46,4 @@ pub fn text_bytes(s: &[u8], t: Text) -> &[u8]
     }
     let end = start + len;
     &s[start..end]
-}
-
-#[tactic(auto, unfolding(base::specs::Choose::choose))]
-fn text_of(s: &[u8], t: Text) -> Option<&[u8]>
-    ensures { text_seen result ≡ text_of s.now t }
-{
-    if t.given {
-        Some(text_bytes(s, t))
-    } else {
-        None
-    }
-}
-
-pub fn has_name(s: &[u8], t: Text) -> bool
-    ensures { result ≡ has_name (text_of s.now t) }
-{
-    rules::has_name(text_of(s, t))
-}
-
-pub fn package_good(s: &[u8], t: Text) -> bool
-    ensures { result ≡ package_good (text_of s.now t) }
-{
-    rules::package_good(text_of(s, t))
-}
-
-pub fn syntax_good(s: &[u8], t: Text) -> bool
-    ensures { result ≡ syntax_good (text_of s.now t) }
-{
-    rules::syntax_good(text_of(s, t))
-}
-
-// Is a number given, and this one?
-#[tactic(auto, unfolding(base::specs::Choose::choose))]
-pub fn number_is(x: u32, n: Number) -> bool
-    ensures { result ≡ is_number x (number_of n) }
-{
-    n.given && n.value == x
 }

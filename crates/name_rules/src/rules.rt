@@ -8,7 +8,7 @@ ghost use Rattle.name_rules.specs.Rules.{good_name, has_name, segments, package_
 use descriptor::{
     EnumValueDescriptor, FieldDescriptor, LABEL_OPTIONAL, TYPE_ENUM, TYPE_GROUP, TYPE_MESSAGE,
 };
-use syntax::Syntax;
+use syntax::known::Syntax;
 use utf8::Decoded;
 
 // The highest field number.
@@ -19,22 +19,21 @@ const MAX_LABEL: u32 = 3;
 
 const MAX_TYPE: u32 = 18;
 
-/// Why a declaration is refused.
-#[derive(Clone, Copy, Debug, PartialEq, Eq)]
-pub enum Refusal {
-    /// Refusal 6.
-    IllFormed,
-}
+// Document 01's number of what is refused here.
+const REFUSAL: u32 = 6;
 
-impl Refusal {
+/// A declaration breaks a rule of refusal 6.
+#[derive(Clone, Copy, Debug, PartialEq, Eq)]
+pub struct IllFormed;
+
+impl IllFormed {
     ghost use Rattle.name_rules.specs.Rules.{refusal_number};
 
+    /// The number of the refusal.
     pub fn number(self) -> u32
         ensures { result ≡ refusal_number self }
     {
-        match self {
-            Refusal::IllFormed => 6,
-        }
+        REFUSAL
     }
 }
 
@@ -72,16 +71,14 @@ pub fn package_good(name: Option<&[u8]>) -> bool
 }
 
 /// A syntax is missing, or proto2 or proto3.
-#[tactic(auto, unfolding(syntax::specs::Syntax::syntax_of))]
+#[tactic(auto, using(crate::proofs::SyntaxLaws::known_good))]
 pub fn syntax_good(syntax: Option<&[u8]>) -> bool
     ensures { result ≡ syntax_good (text_seen syntax.entry) }
 {
-    match syntax {
-        Some(syntax) => !matches!(syntax::syntax_from(true, syntax), Syntax::Unknown),
-        None => true,
-    }
+    Syntax::try_from(syntax).is_ok()
 }
 
+/// Is a number given, from `low` to `high`?
 fn within(low: u32, high: u32, number: Option<u32>) -> bool
     ensures { result ≡ within low high (option_seen number) }
 {
@@ -95,6 +92,7 @@ pub fn is_number(number: Option<u32>, wanted: u32) -> bool
     number == Some(wanted)
 }
 
+/// A group, a message and an enum need the name of their type.
 fn type_name_good(kind: Option<u32>, name: Option<&[u8]>) -> bool
     ensures { result ≡ type_name_good (option_seen kind) (text_seen name.entry) }
 {
@@ -104,10 +102,12 @@ fn type_name_good(kind: Option<u32>, name: Option<&[u8]>) -> bool
             || is_number(kind, TYPE_ENUM))
 }
 
+/// A oneof index is missing, or one of an optional field and below the count of oneofs.
 fn oneof_index_good(oneofs: usize, label: Option<u32>, index: Option<u32>) -> bool
     ensures { result ≡ oneof_index_good oneofs (option_seen label) (option_seen index) }
 {
     match index {
+        // a cast: a `usize` has no `From` of a `u32`
         Some(index) => index < 1 << 31
             && (index as usize) < oneofs
             && is_number(label, LABEL_OPTIONAL),
@@ -116,19 +116,21 @@ fn oneof_index_good(oneofs: usize, label: Option<u32>, index: Option<u32>) -> bo
 }
 
 /// A character that doesn't decode ends in refusal 6.
-fn judge_default(default: &[u8]) -> Result<(), Refusal>
+fn judge_default(default: &[u8]) -> Result<(), IllFormed>
     ensures { result ≡ judged (is_utf8 default.now) }
 {
     let mut at = 0;
+    // no `for` over `Chars`: document 01 asks for `let .. else` over the enum of UTF-8's step
     while at < default.len() {
         let Decoded::Character(_, next) = utf8::char_at(default, at) else {
-            return Err(Refusal::IllFormed);
+            return Err(IllFormed);
         };
         at = next;
     }
     Ok(())
 }
 
+/// A default is missing, or UTF-8, and of an enum field a name.
 fn default_good(kind: Option<u32>, default: Option<&[u8]>) -> bool
     ensures { result ≡ default_good (option_seen kind) (text_seen default.entry) }
 {
@@ -153,6 +155,7 @@ pub fn field_good(field: &FieldDescriptor<'_>, oneofs: usize) -> bool
         && default_good(field.kind, field.default_value)
 }
 
+/// A value of an enum has a name and a number.
 #[tactic(auto, unfolding(crate::specs::Rules::value_good))]
 pub fn value_good(value: &EnumValueDescriptor<'_>) -> bool
     ensures { result ≡ value_good value.now }

@@ -62,6 +62,14 @@ row_read o i at h path value e p v =
     let behind : drop (length path) (drop at o) ≡ drop (at + path_length o i) o = rw q (dropped (path_length o i) (drop at o) ∙ drop-drop (path_length o i) at o) in
     rw (heads, w, behind, q) refl
 
+-- a row whose body starts past the end starts at the end
+pub row_start : (o : List ℕ) (i at to : ℕ) → to ≡ min at (length o) → row_at o i to ≡ row_at o i at
+row_start o i at to e = on (dec_le at (length o))
+  where
+    on : Dec (at ≤ length o) → row_at o i to ≡ row_at o i at
+    on (yes h) = let l : to ≡ at = omega arith in rw l refl
+    on (no h) = rw (drop_of_length-le o {i = to} (omega arith), drop_of_length-le o {i = at} (omega arith), drop_of_length-le o {i = to + path_length o i} (omega arith), drop_of_length-le o {i = at + path_length o i} (omega arith)) refl
+
 row_suc : (o : List ℕ) (k i at : ℕ) → at ≤ length o → settings_from o (suc k) i at ≡ row_at o i at ∷ settings_from o k (i + 1) (at + (length (row_at o i at).path + length (row_at o i at).value))
 unfolding settings_from
 row_suc o k i at h =

@@ -1,8 +1,9 @@
 //! Refusal 1: options that break the layout.
-ghost use Rattle.std.specs.Prelude.{◌≡◌, ◌+◌, ◌*◌, ◌<◌, ◌≤◌, length};
-ghost use Rattle.std.specs.List.{list_all};
+ghost use Rattle.std.specs.Prelude.{◌≡◌, ◌+◌, ◌<◌, ◌≤◌, true, ltb, length};
+ghost use Rattle.base.specs.Choose.{choose};
 ghost use Rattle.options.specs.Kind.{kind_number};
-ghost use Rattle.options.specs.Settings.{row_count, bodies};
+ghost use Rattle.options.specs.Rows.{header};
+ghost use Rattle.options.specs.Settings.{row_count, path_length, value_length, bodies};
 ghost use Rattle.options.specs.Layout.{fits, kind_before, header_good, printable, body_good, row_good, layout_from, layout};
 
 use crate::kind::Kind;
@@ -29,19 +30,19 @@ fn fits(has: bool, length: u16) -> bool
     if has { length != 0 } else { length == 0 }
 }
 
+/// Is the head of a row good?
 #[tactic(auto, unfolding(crate::specs::Layout::header_good, crate::specs::Layout::repeated), using(crate::proofs::KindLaws::kinds))]
-fn is_header_good(bytes: &[u8], row: usize) -> bool
-    requires { (row < row_count bytes.now) × (row < MAX_ROWS) }
+fn is_header_good(bytes: &[u8], row: usize, head: Header) -> bool
+    requires { (row < row_count bytes.now) × (head ≡ header bytes.now row) }
     ensures { result ≡ header_good bytes.now row }
 {
-    let header = Header::read(bytes, row);
-    let Ok(kind) = Kind::try_from(header.kind) else {
-        return false;
-    };
-    header.zero == 0
-        && fits(kind.has_path(), header.path_length)
-        && fits(kind.has_value(), header.value_length)
-        && !(kind.stands_once() && stands_before(bytes, kind, row))
+    match Kind::try_from(head.kind) {
+        Ok(kind) => head.zero == 0
+            && fits(kind.has_path(), head.path_length)
+            && fits(kind.has_value(), head.value_length)
+            && !(kind.stands_once() && stands_before(bytes, kind, row)),
+        Err(_) => false,
+    }
 }
 
 /// Are all bytes at least `low` and at most 0x7E?
@@ -51,25 +52,26 @@ fn is_printable(low: u8, bytes: &[u8]) -> bool
     bytes.iter().all(|byte| low <= *byte && *byte <= 0x7e)
 }
 
-/// Is a row good, whose body starts at `body`? A header or a body that is cut isn't judged.
-#[tactic(auto, unfolding(crate::specs::Layout::row_good, crate::specs::Layout::body_good, base::specs::Choose::choose))]
-fn is_row_good(bytes: &[u8], row: usize, body: usize) -> bool
-    requires { (row < row_count bytes.now) × (row < MAX_ROWS) × (body < 1000000000000) }
+/// Is the body of a row good, that starts at `body`? One that is cut isn't judged.
+#[tactic(auto, unfolding(crate::specs::Layout::body_good, base::specs::Choose::choose))]
+fn is_body_good(bytes: &[u8], row: usize, head: Header, body: usize) -> bool
+    requires { (head ≡ header bytes.now row) × (body < 1000000000000) }
+    ensures { result ≡ choose (ltb (length bytes.now) (body + path_length bytes.now row + value_length bytes.now row)) true (body_good bytes.now row body) }
+{
+    let value = body + usize::from(head.path_length);
+    let end = value + usize::from(head.value_length);
+    bytes.len() < end
+        || (is_printable(b'!', &bytes[body..value]) && is_printable(b' ', &bytes[value..end]))
+}
+
+/// Is a row good, whose body starts at `body`? A head that is cut isn't judged.
+#[tactic(auto, unfolding(crate::specs::Layout::row_good, base::specs::Choose::choose))]
+fn is_row_good(bytes: &[u8], row: usize, head: Header, body: usize) -> bool
+    requires { (row < row_count bytes.now) × (row < MAX_ROWS) × (head ≡ header bytes.now row) × (body < 1000000000000) }
     ensures { result ≡ row_good bytes.now row body }
 {
-    if bytes.len() < 10 + row * 8 {
-        return true;
-    }
-    if !is_header_good(bytes, row) {
-        return false;
-    }
-    let header = Header::read(bytes, row);
-    let value = body + usize::from(header.path_length);
-    let end = value + usize::from(header.value_length);
-    if bytes.len() < end {
-        return true;
-    }
-    is_printable(b'!', &bytes[body..value]) && is_printable(b' ', &bytes[value..end])
+    bytes.len() < 10 + row * 8
+        || (is_header_good(bytes, row, head) && is_body_good(bytes, row, head, body))
 }
 
 /// All rows, in an options file of `size` bytes that begins with `bytes`.
@@ -81,11 +83,11 @@ fn check_rows(bytes: &[u8], size: usize) -> Result<(), Refusal>
     let count = usize::from(row_count(bytes));
     let mut body = bodies_at(bytes);
     for row in 0..count {
-        if !is_row_good(bytes, row, body) {
+        let head = Header::read(bytes, row);
+        if !is_row_good(bytes, row, head, body) {
             return Err(Refusal::Layout { row });
         }
-        let header = Header::read(bytes, row);
-        body += usize::from(header.path_length) + usize::from(header.value_length);
+        body += usize::from(head.path_length) + usize::from(head.value_length);
     }
     if body != size || body > MAX_BYTES {
         return Err(Refusal::Layout { row: count });

@@ -63,6 +63,7 @@ impl TryFrom<u16> for Kind {
 
 impl Kind {
     /// The number of its rows.
+    // A cast: that number is the variant's own.
     pub fn number(self) -> u16
         ensures { result ≡ kind_number self }
     {
@@ -74,10 +75,10 @@ impl Kind {
     pub fn has_path(self) -> bool
         ensures { result ≡ has_path (kind_number self) }
     {
-        match self {
-            Kind::ProstPath | Kind::RetainEnumPrefix | Kind::ProstTypes => false,
-            _ => true,
-        }
+        !matches!(
+            self,
+            Kind::ProstPath | Kind::RetainEnumPrefix | Kind::ProstTypes
+        )
     }
 
     /// Do its rows have a value?
@@ -85,6 +86,7 @@ impl Kind {
     pub fn has_value(self) -> bool
         ensures { result ≡ has_value (kind_number self) }
     {
+        // no `!matches!`: with it the proof did not close
         match self {
             Kind::Bytes | Kind::BtreeMap | Kind::Boxed | Kind::SkipDebug | Kind::RetainEnumPrefix =>
                 false,

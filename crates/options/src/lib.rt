@@ -127,6 +127,7 @@ pub fn find_kind(bytes: &[u8], kind: u16) -> Found
     ensures { result ≡ first_of_kind kind 0 (settings bytes.now) }
 {
     match Rows::new(bytes).position(|row| row.kind == kind) {
+        // a cast: there are fewer than 2 ^ 16 rows
         Some(row) => Found {
             found: true,
             number: row as u32,

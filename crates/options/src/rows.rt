@@ -27,7 +27,7 @@ impl Row<'_> {
 
 /// The head of a row: the kind's number, the lengths of path and value in bytes, and a zero.
 #[derive(Clone, Copy)]
-pub struct Header {
+pub(crate) struct Header {
     pub kind: u16,
     pub path_length: u16,
     pub value_length: u16,
@@ -36,7 +36,7 @@ pub struct Header {
 
 /// The little-endian number at a place; a byte past the end counts as 0.
 #[tactic(auto, unfolding(crate::specs::Settings::number))]
-pub fn number_at(bytes: &[u8], at: usize) -> u16
+fn number_at(bytes: &[u8], at: usize) -> u16
     requires { at < 2 ^ 63 }
     ensures { result ≡ number bytes.now at }
 {
@@ -64,7 +64,7 @@ impl Header {
     /// The head of a row.
     #[tactic(auto, unfolding(crate::specs::Settings::kind_at, crate::specs::Settings::path_length, crate::specs::Settings::value_length, crate::specs::Settings::zero_at, crate::specs::Settings::number))]
     #[inline]
-    pub fn read(bytes: &[u8], row: usize) -> Header
+    pub(crate) fn read(bytes: &[u8], row: usize) -> Header
         requires { row < 2 ^ 32 }
         ensures { result ≡ header bytes.now row }
     {
@@ -93,13 +93,13 @@ fn first_bytes(bytes: &[u8], length: u16) -> &[u8]
     &bytes[..usize::from(length).min(bytes.len())]
 }
 
-/// A row whose body starts at `body`.
-pub fn read_row(bytes: &[u8], row: usize, body: usize) -> Row<'_>
-    requires { (row < 2 ^ 32) × (body ≤ length bytes.now) }
+/// A row whose body starts at `body`; what is cut of it counts as missing.
+pub fn read_row(bytes: &[u8], row: u32, body: usize) -> Row<'_>
     ensures { row_seen result ≡ row_at bytes.now row body }
 {
-    let header = Header::read(bytes, row);
-    let rest = &bytes[body..];
+    // a cast: a `usize` has no `From` of a `u32`
+    let header = Header::read(bytes, row as usize);
+    let rest = &bytes[body.min(bytes.len())..];
     let path = first_bytes(rest, header.path_length);
     let value = first_bytes(&rest[path.len()..], header.value_length);
     Row {
@@ -113,8 +113,8 @@ pub fn read_row(bytes: &[u8], row: usize, body: usize) -> Row<'_>
 #[derive(Drop)]
 pub struct Rows<'a> {
     bytes: &'a [u8],
-    row: usize,
-    count: usize,
+    row: u32,
+    count: u32,
     body: usize,
 }
 
@@ -139,7 +139,7 @@ impl<'a> Rows<'a> {
         Rows {
             bytes,
             row: 0,
-            count: usize::from(row_count(bytes)),
+            count: u32::from(row_count(bytes)),
             body: bodies_at(bytes).min(bytes.len()),
         }
     }

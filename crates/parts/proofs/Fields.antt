@@ -1,5 +1,4 @@
--- The fields of the records of a message are the descriptor's entries.
-use mathlib.Core.Path.{◌≡◌, refl, ap, ◌∙◌}
+-- A message has no more fields than bytes, and no more embedded messages.
 use mathlib.Core.List.{List, [], ◌∷◌}
 use mathlib.Core.Bool.{true, false}
 use Prim.Native.Nat.{ℕ, ◌≤◌}
@@ -9,27 +8,11 @@ use lib.Dec.{eqb}
 use Rattle.std.specs.Prelude.{Result, Ok, Err}
 use Rattle.base.specs.Choose.{choose}
 use Rattle.wire.specs.Encoding.{Field}
-use Rattle.wire.specs.Records.{records}
-use Rattle.wire.specs.Contents.{field_of}
 use Rattle.wire.specs.Message.{Entry, records_at, fields_in}
-use Rattle.wire.proofs.SameRecords.{listed, same_records}
 use Rattle.wire.proofs.MessageLaws.{records_bound}
-use Rattle.wire.specs.declared.Step.{Step}
-use Rattle.wire.specs.declared.Step.TheVariants.{End, Fault, Found}
 use Rattle.wire.specs.declared.records.record.Fault.{Fault as FaultAt}
-use Rattle.descriptor.specs.Decode.{entries, entries_of, bytes_in, parts}
-
-listed_fields : (base : ℕ) (s : List ℕ) (rs : List Step) → fields_in (listed base s rs) ≡ entries_of s rs
-unfolding fields_in listed entries_of
-listed_fields base s [] = refl
-listed_fields base s (End ∷ rs) = refl
-listed_fields base s (Fault key ∷ rs) = refl
-listed_fields base s (Found f ∷ rs) = ap (λ (fs : List Field). field_of s f ∷ fs) (listed_fields base s rs)
-
--- wherever the bytes stand
-pub fields_of_part : (base : ℕ) (s : List ℕ) → fields_in (records_at base s) ≡ entries s
-unfolding entries
-fields_of_part base s = ap fields_in (same_records base s) ∙ listed_fields base s (records s 0)
+use Rattle.descriptor.specs.Decode.{entries, bytes_in, parts}
+use Rattle.descriptor.proofs.EntriesLaws.{entries_read}
 
 fields_bound : (rs : List (Result Entry FaultAt)) → length (fields_in rs) ≤ length rs
 unfolding fields_in
@@ -47,4 +30,4 @@ picked_bound n (f ∷ fs) =
 -- no part has more embedded messages than bytes
 pub parts_bound : (n : ℕ) (s : List ℕ) → length (parts n (entries s)) ≤ length s
 parts_bound n s =
-    rw (← fields_of_part 0 s) (omega (arith, picked_bound n (fields_in (records_at 0 s)), fields_bound (records_at 0 s), records_bound 0 s))
+    rw (← entries_read 0 s) (omega (arith, picked_bound n (fields_in (records_at 0 s)), fields_bound (records_at 0 s), records_bound 0 s))

@@ -31,7 +31,7 @@ impl<'a> Model for Parts<'a> {
 impl<'a> Parts<'a> {
     /// The embedded messages of `part` with the field number. A record with that number and another wire type counts
     /// as one without bytes.
-    #[tactic(auto, using(crate::proofs::Fields::fields_of_part, crate::proofs::Fields::parts_bound))]
+    #[tactic(auto, using(descriptor::proofs::EntriesLaws::entries_read, crate::proofs::Fields::parts_bound))]
     pub fn new(part: &'a [u8], number: u64) -> Self
         ensures parts { result ≡ parts number (entries part.now) }
         ensures bound { length result ≤ length part.now }
@@ -57,7 +57,7 @@ impl<'a> Iterator for Parts<'a> {
             if let Ok(record) = record
                 && record.number == self.number
             {
-                return Some(value_bytes(record.value));
+                return Some(descriptor::bytes_in(record.value));
             }
         }
         None
@@ -65,13 +65,11 @@ impl<'a> Iterator for Parts<'a> {
 }
 
 /// The bytes of an embedded message; a value of another wire type has none.
+// `descriptor::bytes_in` by the name under which the proofs of callers know it.
 pub fn value_bytes(value: Value<'_>) -> &[u8]
     ensures { result.now ≡ bytes_in (value_seen value.entry) }
 {
-    match value {
-        Value::Len(bytes) => bytes,
-        _ => &[],
-    }
+    descriptor::bytes_in(value)
 }
 
 /// The bytes of an embedded message, of a record by its position; one of another wire type has none.

@@ -51,11 +51,10 @@ fn is_suffix(path: &[u8], x: &[u8]) -> bool
     ensures form { result ≡ among x.now (suffixes path.now) }
     ensures shorter { IsTrue result → length x.now < length path.now }
 {
-    if x.is_empty() || path.len() <= x.len() {
-        return false;
-    }
-    let start = path.len() - x.len();
-    path[start - 1] == b'.' && x == &path[start..]
+    !x.is_empty()
+        && x.len() < path.len()
+        && path[path.len() - x.len() - 1] == b'.'
+        && x == &path[path.len() - x.len()..]
 }
 
 /// Does x stand at the start of the path, right before a `.`?
@@ -64,10 +63,7 @@ fn is_prefix(path: &[u8], x: &[u8]) -> bool
     ensures form { result ≡ among x.now (prefixes path.now) }
     ensures shorter { IsTrue result → length x.now < length path.now }
 {
-    if x.is_empty() || path.len() <= x.len() {
-        return false;
-    }
-    path[x.len()] == b'.' && x == &path[..x.len()]
+    !x.is_empty() && x.len() < path.len() && path[x.len()] == b'.' && x == &path[..x.len()]
 }
 
 /// What x is worth as a form of the path: the better form the more, 0 if it is none. Without `all`, only the path itself and
@@ -130,6 +126,7 @@ pub fn find_first(bytes: &[u8], kind: u16, path: &[u8]) -> Found
     ensures { result ≡ get_first kind path.now (settings bytes.now) }
 {
     let best = best_row(&Options::new(bytes), kind, path, true);
+    // a cast: there are fewer than 2 ^ 16 rows
     Found {
         found: best.worth != 0,
         number: best.number as u32,
@@ -151,7 +148,7 @@ pub fn next_match(bytes: &[u8], kind: u16, path: &[u8], i: u32, at: usize) -> Ma
 {
     let mut body = at.min(bytes.len());
     for number in i..u32::from(row_count(bytes)) {
-        let row = read_row(bytes, number as usize, body);
+        let row = read_row(bytes, number, body);
         let value = body + row.path.len();
         let end = value + row.value.len();
         if row_worth(&row, kind, path, true) != 0 {

@@ -48,6 +48,7 @@ impl<'a> Iterator for Values<'a> {
 
     #[tactic(auto, using(crate::proofs::MatchLaws::gets))]
     fn next(&mut self) -> Option<&'a [u8]> {
+        // no `find`: its law says which row was found, and not which are left
         while let Some(row) = self.rows.next() {
             if crate::row_worth(&row, self.kind, self.path, true) != 0 {
                 return Some(row.value);

@@ -1,6 +1,14 @@
 -- Rust's `split`: the parts of a text between the places where a separator stands.
 use Rattle.std.specs.Prelude.{Bool, true, false, ◌&&◌, List, [], ◌∷◌, ℕ, zero, suc, ◌-◌, eqb, length, Option, Some, None}
+use Rattle.base.specs.Bytes.{b}
 use Rattle.base.specs.Choose.{choose}
+use Rattle.split.specs.declared.Separator.{Separator}
+use Rattle.split.specs.declared.Separator.TheVariants.{Dot, Colons, Blank}
+
+abbrev pub separator_bytes : Separator → List ℕ
+separator_bytes Dot = b "."
+separator_bytes Colons = b "::"
+separator_bytes Blank = b " "
 
 -- does s begin with the separator?
 unfoldable pub begins : List ℕ → List ℕ → Bool

@@ -6,9 +6,34 @@ ghost use Rattle.std.specs.Iterator.{item_count, YieldsFirstRef};
 ghost use Rattle.std.specs.Option.{option_copied};
 ghost use Rattle.base.specs.Bytes.{b};
 ghost use Rattle.path.specs.Forms.{among};
-ghost use Rattle.split.specs.Split.{first_part, split};
+ghost use Rattle.split.specs.Split.{first_part, split, separator_bytes};
 
 use std::marker::Model;
+
+/// What stands between two parts.
+#[derive(Clone, Copy, PartialEq, Eq)]
+pub enum Separator {
+    /// `.`, as in a full name.
+    Dot,
+    /// `::`, as in a Rust path.
+    Colons,
+    /// A blank, as in a list of words.
+    Blank,
+}
+
+impl Separator {
+    /// Its bytes.
+    fn bytes(self) -> &'static [u8]
+        ensures bytes { result.now ≡ separator_bytes self }
+        ensures some { 0 < length result.now }
+    {
+        match self {
+            Separator::Dot => b".",
+            Separator::Colons => b"::",
+            Separator::Blank => b" ",
+        }
+    }
+}
 
 /// Where the part that starts at a place ends.
 #[tactic(auto, using(crate::proofs::SplitLaws::part_ends_here))]
@@ -43,16 +68,15 @@ impl<'a> Model for Parts<'a> {
 }
 
 impl<'a> Parts<'a> {
-    /// All parts of a text. The separator isn't empty.
+    /// All parts of a text.
     #[tactic(auto, using(crate::proofs::SplitLaws::split_length))]
-    pub fn new(s: &'a [u8], separator: &'a [u8]) -> Self
-        requires { 0 < length separator.now }
-        ensures parts { result ≡ split separator.now s.now }
+    pub fn new(s: &'a [u8], separator: Separator) -> Self
+        ensures parts { result ≡ split (separator_bytes separator) s.now }
         ensures bound { length result ≤ length s.now + 1 }
     {
         Parts {
             rest: Some(s),
-            separator,
+            separator: separator.bytes(),
         }
     }
 }
@@ -77,12 +101,12 @@ impl<'a> Iterator for Parts<'a> {
 pub fn is_word(s: &[u8], x: &[u8]) -> bool
     ensures { result ≡ among x.now (split (b " ") s.now) }
 {
-    Parts::new(s, b" ").any(|word| x == word)
+    Parts::new(s, Separator::Blank).any(|word| x == word)
 }
 
 /// Word j of s.
 pub fn word(s: &[u8], j: usize) -> Option<&[u8]>
     ensures { option_copied result ≡ slice_get (split (b " ") s.now) j }
 {
-    Parts::new(s, b" ").nth(j)
+    Parts::new(s, Separator::Blank).nth(j)
 }

@@ -31,6 +31,8 @@ pub fn between(low: u32, high: u32, x: u32) -> bool
     (low..=high).contains(&x)
 }
 
+// The two functions of a second byte's ends are two tables, as their definitions are.
+
 /// The least second byte behind the first byte `a`.
 #[tactic(auto, unfolding(crate::specs::Utf8::second_low, base::specs::Choose::choose))]
 fn second_low(a: u32) -> u32

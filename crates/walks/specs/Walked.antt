@@ -3,6 +3,9 @@ use Rattle.std.specs.Prelude.{◌≡◌, ℕ, ◌<◌, ◌^◌, length}
 use Rattle.std.proofs.Common.{sym, ◌∙◌}
 use Rattle.std.proofs.Math.Path.{ap}
 use mathlib.Core.List.{List, [], ◌∷◌, ◌++◌, append_assoc, append-nil}
+use Rattle.writer.specs.declared.text.Text.{Text}
+use Rattle.writer.specs.Writing.{◌▻◌}
+use Rattle.writer.proofs.TextLaws.{put-append, put-nothing}
 use Rattle.writer.specs.Wrote.{Wrote, none, ◌►◌, named, kept}
 use Rattle.wire.specs.Step.{step_at}
 use Rattle.wire.specs.Contents.{value_of}
@@ -68,3 +71,18 @@ module _ (g : ℕ → Bytes → Bytes) (next : ℕ → Bytes → ℕ) (x₀ n : 
                   ∙ ap (λ (l : List Bytes). h.so_far ++ walked g next x l) (sym (parts_found n s at r e f is q))
                   ∙ h.rest;
             }
+
+-- ---- the same in a text
+module _ (g : ℕ → Bytes → Bytes) (next : ℕ → Bytes → ℕ) (t : Text) (x : ℕ) (ps : List Bytes) (goal : Text) (h : t ▻ walked g next x ps ≡ goal) where
+  -- one part on
+  pub written_on : (t₁ : Text) (p : Bytes) (rest : List Bytes) (x₁ : ℕ) → ps ≡ p ∷ rest → x₁ ≡ next x p → t₁ ≡ t ▻ g x p → t₁ ▻ walked g next x₁ rest ≡ goal
+  unfolding walked
+  written_on t₁ p rest x₁ first e w =
+      ap (λ (u : Text). u ▻ walked g next x₁ rest) w ∙ put-append t (g x p) (walked g next x₁ rest)
+      ∙ ap (λ (k : ℕ). t ▻ (g x p ++ walked g next k rest)) e
+      ∙ ap (λ (l : List Bytes). t ▻ walked g next x l) (sym first)
+      ∙ h
+
+  pub written_all : ps ≡ [] → t ≡ goal
+  unfolding walked
+  written_all ends = sym (put-nothing t) ∙ ap (λ (l : List Bytes). t ▻ walked g next x l) (sym ends) ∙ h

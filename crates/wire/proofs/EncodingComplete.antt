@@ -9,7 +9,7 @@ use lib.ListN.{length, get_or, take, drop, length-drop, length-append}
 use lib.Seq.{drop-drop, drop_at, take_at, get_or-drop}
 use borrow.Author.Tests.{ne_eqb, lt-leb, le-leb}
 use Rattle.base.specs.Choose.{choose, choices}
-use Rattle.wire.specs.Varint.{varint, groups, on_varint, cap}
+use Rattle.wire.specs.Varint.{value_at, varint, groups, on_varint, cap}
 use Rattle.wire.specs.Step.{step_at, payload, sized}
 use Rattle.wire.specs.Records.{records}
 use Rattle.wire.specs.Encoding.{Base128, EncodesVarint, EncodesField, EncodesValue, Encodes, Value, varint_value, i64_value, len_value, i32_value, Field, wire_type, little_endian}
@@ -18,7 +18,6 @@ use Rattle.wire.specs.Encoding.Encodes.{none as no_fields, more as more_fields}
 use Rattle.wire.specs.Contents.{value_of, field_of, fields_of, contents}
 use Rattle.wire.proofs.VarintLaws.{tenth, final, goes_value}
 use Rattle.wire.proofs.RecordsLaws.{records_end, records_found}
-use Rattle.wire.specs.declared.Varint.TheVariants.{Value as Is}
 use Rattle.wire.specs.declared.Record.{Record}
 use Rattle.wire.specs.declared.Step.TheVariants.{End, Found}
 
@@ -33,7 +32,7 @@ module _ (s : List ℕ) where
   first : (at b : ℕ) (rest : List ℕ) → drop at s ≡ b ∷ rest → b ≡ get_or s at 0
   first at b rest e = sym (ap (λ (l : List ℕ). get_or l 0 0) e) ∙ get_or-drop at s 0 0 ∙ ap (λ (i : ℕ). get_or s i 0) (omega arith)
 
-  last_read : (left at n : ℕ) → 1 ≤ left → n < cap left → n < 128 → at < length s → n ≡ get_or s at 0 → Is n (at + 1) ≡ groups left s at
+  last_read : (left at n : ℕ) → 1 ≤ left → n < cap left → n < 128 → at < length s → n ≡ get_or s at 0 → value_at n (at + 1) ≡ groups left s at
   unfolding cap
   last_read zero at n pos low small h is = absurd (omega arith)
   last_read (suc zero) at n pos low small h is = tenth 1 s at (λ z. omega arith) h n is small refl low
@@ -45,14 +44,14 @@ module _ (s : List ℕ) where
   some_bytes {bs} (more g h tail small on is sum) = let l : length bs ≡ suc (length tail) = ap length is in omega arith
 
   more_read : (left at n g h : ℕ) (tail : List ℕ) → g < 128 → n ≡ g + 128 * h → at < length s → 128 + g ≡ get_or s at 0
-      → Is h (at + 1 + length tail) ≡ groups left s (at + 1) → Is n (at + suc (length tail)) ≡ groups (suc left) s at
+      → value_at h (at + 1 + length tail) ≡ groups left s (at + 1) → value_at n (at + suc (length tail)) ≡ groups (suc left) s at
   more_read left at n g h tail small sum there is on =
       let value : n ≡ h * 128 + (128 + g) % 128 = omega arith in
       let next : at + suc (length tail) ≡ at + 1 + length tail = omega arith in
-      ap (λ (x : ℕ). Is x (at + suc (length tail))) value ∙ ap (λ (x : ℕ). Is (h * 128 + (128 + g) % 128) x) next
-      ∙ goes_value (suc left) s at (λ z. omega arith) there (128 + g) is (Is h (at + 1 + length tail)) h (at + 1 + length tail) (omega arith) (rw sub-one on) refl
+      ap (λ (x : ℕ). value_at x (at + suc (length tail))) value ∙ ap (λ (x : ℕ). value_at (h * 128 + (128 + g) % 128) x) next
+      ∙ goes_value (suc left) s at (λ z. omega arith) there (128 + g) is (value_at h (at + 1 + length tail)) h (at + 1 + length tail) (omega arith) (rw sub-one on) refl
 
-  groups_read : (left at n : ℕ) (bs rest : List ℕ) → Base128 bs n → length bs ≤ left → n < cap left → drop at s ≡ bs ++ rest → Is n (at + length bs) ≡ groups left s at
+  groups_read : (left at n : ℕ) (bs rest : List ℕ) → Base128 bs n → length bs ≤ left → n < cap left → drop at s ≡ bs ++ rest → value_at n (at + length bs) ≡ groups left s at
   unfolding cap
   groups_read left at n bs rest (last small is) few low e =
       let l : length bs ≡ 1 = ap length is in
@@ -71,7 +70,7 @@ module _ (s : List ℕ) where
       (more_read (suc m) at n g h tail small sum (omega arith) (first at (128 + g) (tail ++ rest) there)
       (groups_read (suc m) (at + 1) h tail rest on (omega arith) (omega arith) (behind at ((128 + g) ∷ []) (tail ++ rest) there)))
 
-  varint_read : (at n : ℕ) (bs rest : List ℕ) → EncodesVarint bs n → drop at s ≡ bs ++ rest → Is n (at + length bs) ≡ varint s at
+  varint_read : (at n : ℕ) (bs rest : List ℕ) → EncodesVarint bs n → drop at s ≡ bs ++ rest → value_at n (at + length bs) ≡ varint s at
   unfolding varint cap
   varint_read at n bs rest w e = groups_read 10 at n bs rest w.base128 w.at_most_ten (let l : n < 2 ^ 64 = w.in_64_bits in omega arith) e
 
@@ -146,7 +145,7 @@ module _ (s : List ℕ) where
   wire_type_below (len_value q) = omega arith
   wire_type_below (i32_value n) = omega arith
 
-  step_is : (at key start : ℕ) → at < length s → Is key start ≡ varint s at → payload s at (key / 8) (key % 8) start ≡ step_at s at
+  step_is : (at key start : ℕ) → at < length s → value_at key start ≡ varint s at → payload s at (key / 8) (key % 8) start ≡ step_at s at
   unfolding step_at choose on_varint
   step_is at key start h e = rw (lt-leb (length s) at h, ← e)
 

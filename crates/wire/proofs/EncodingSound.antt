@@ -10,7 +10,7 @@ use lib.Seq.{drop-cons, drop-drop, length-take-le}
 use lib.Dec.{ltb, leb, eqb}
 use borrow.Author.Tests.{ltb-true, ltb-false, leb-true, leb-false, eqb-true, eqb-false}
 use Rattle.base.specs.Choose.{choose, choose_case}
-use Rattle.wire.specs.Varint.{varint, groups, on_varint, below, last, cap}
+use Rattle.wire.specs.Varint.{value_at, Varint, varint, groups, on_varint, below, last, cap}
 use Rattle.wire.specs.Step.{step_at, payload, sized, scalar, delimited, keyed}
 use Rattle.wire.specs.Records.{on_step, scan, records}
 use Rattle.wire.specs.Encoding.{Base128, EncodesVarint, EncodesField, EncodesValue, Encodes, Value, varint_value, i64_value, len_value, i32_value, Field, wire_type, little_endian, Bytes}
@@ -19,11 +19,10 @@ use Rattle.wire.specs.Encoding.Encodes.{none as no_fields, more as more_fields}
 use Rattle.wire.proofs.StepLaws.{Lies, lies}
 use Rattle.wire.specs.Contents.{value_of, field_of, fields_of, also, contents, payload_of}
 use Rattle.wire.proofs.VarintLaws.{Known, known, known_varint}
-use Rattle.wire.specs.declared.Varint.{Varint}
-use Rattle.wire.specs.declared.Varint.TheVariants.{Fault as NoVarint, Value as Is}
 use Rattle.wire.specs.declared.Record.{Record}
 use Rattle.wire.specs.declared.Step.{Step}
 use Rattle.wire.specs.declared.Step.TheVariants.{End, Fault, Found}
+use Rattle.std.specs.Prelude.{Some, None}
 
 -- the groups that stand from at to next
 record GroupsAt (left : ℕ) (s : List ℕ) (at v next : ℕ) : Type 0 where
@@ -33,8 +32,8 @@ record GroupsAt (left : ℕ) (s : List ℕ) (at v next : ℕ) : Type 0 where
   there : drop at s ≡ bytes ++ drop next s
 
 abbrev Right : ℕ → List ℕ → ℕ → Varint → Type 0
-Right left s at NoVarint = Unit
-Right left s at (Is v next) = GroupsAt left s at v next
+Right left s at None = Unit
+Right left s at (Some y) = GroupsAt left s at y.0 y.1
 
 module _ (s : List ℕ) (all_bytes : Bytes s) where
   next_byte : (at : ℕ) → at < length s → drop at s ≡ get_or s at 0 ∷ drop (at + 1) s
@@ -42,18 +41,18 @@ module _ (s : List ℕ) (all_bytes : Bytes s) where
 
   last_right : (n at : ℕ) → at < length s → get_or s at 0 < 128 → Right (suc n) s at (last (suc n) (get_or s at 0) at)
   last_right n at h small =
-      let is : Right (suc n) s at (Is (get_or s at 0) (at + 1)) = record { bytes = get_or s at 0 ∷ []; encoded = last_group small refl; few = omega arith; there = next_byte at h } in
+      let is : Right (suc n) s at (value_at (get_or s at 0) (at + 1)) = record { bytes = get_or s at 0 ∷ []; encoded = last_group small refl; few = omega arith; there = next_byte at h } in
       choose_case (Right (suc n) s at) (eqb (suc n) 1) (λ _. choose_case (Right (suc n) s at) (ltb (get_or s at 0) 2) (λ _. is) (λ _. tt)) (λ _. is)
 
   below_right : (n at : ℕ) (r : Varint) → at < length s → 128 ≤ get_or s at 0 → Right n s (at + 1) r → Right (suc n) s at (below (get_or s at 0 % 128) r)
   unfolding on_varint
-  below_right n at NoVarint h big k = tt
-  below_right n at (Is v next) h big k =
+  below_right n at None h big k = tt
+  below_right n at (Some y) h big k =
       let u : get_or s at 0 < 256 = all_bytes at in
       let e : get_or s at 0 ≡ 128 + get_or s at 0 % 128 = omega arith in
       record {
         bytes = get_or s at 0 ∷ k.bytes;
-        encoded = more_groups {n = v * 128 + get_or s at 0 % 128} (get_or s at 0 % 128) v k.bytes (omega arith) k.encoded (ap (λ (x : ℕ). x ∷ k.bytes) e) (omega arith);
+        encoded = more_groups {n = y.0 * 128 + get_or s at 0 % 128} (get_or s at 0 % 128) y.0 k.bytes (omega arith) k.encoded (ap (λ (x : ℕ). x ∷ k.bytes) e) (omega arith);
         few = let f : length k.bytes ≤ n = k.few in omega arith;
         there = next_byte at h ∙ ap (λ (x : List ℕ). get_or s at 0 ∷ x) k.there;
       }
@@ -73,14 +72,14 @@ module _ (s : List ℕ) (all_bytes : Bytes s) where
     there : drop at s ≡ bytes ++ drop next s
 
   abbrev Encoded : ℕ → Varint → Type 0
-  Encoded at NoVarint = Unit
-  Encoded at (Is v next) = VarintAt at v next
+  Encoded at None = Unit
+  Encoded at (Some y) = VarintAt at y.0 y.1
 
   encoded_of : (at : ℕ) (r : Varint) → Right 10 s at r → Known 10 s at r → Encoded at r
   unfolding cap
-  encoded_of at NoVarint g k = tt
-  encoded_of at (Is v next) g k =
-      let l : v < cap 10 = k.0 in
+  encoded_of at None g k = tt
+  encoded_of at (Some y) g k =
+      let l : y.0 < cap 10 = k.0 in
       record { bytes = g.bytes; encodes = record { base128 = g.encoded; at_most_ten = g.few; in_64_bits = omega arith }; there = g.there }
 
   varint_right : (at : ℕ) → Encoded at (varint s at)
@@ -129,9 +128,9 @@ module _ (s : List ℕ) (all_bytes : Bytes s) where
   module _ (at number wt start : ℕ) (k : VarintAt at (number * 8 + wt) start) (one : 1 ≤ number) (after : start ≤ length s) where
     scalar_right : wt ≡ 0 → (r : Varint) → Encoded start r → Holds at (scalar at number wt start r)
     unfolding on_varint value_of choose
-    scalar_right is NoVarint g = tt
-    scalar_right is (Is v next) g =
-        held at number wt start k one (record { key = at; number = number; wiretype = wt; value = v; start = start; next = next }) refl (varint_value v) (rw is) (sym is) g.bytes g.encodes g.there
+    scalar_right is None g = tt
+    scalar_right is (Some y) g =
+        held at number wt start k one (record { key = at; number = number; wiretype = wt; value = y.0; start = start; next = y.1 }) refl (varint_value y.0) (rw is) (sym is) g.bytes g.encodes g.there
 
     fixed_right : (n : ℕ) (x : ℕ → Value) → ((v : ℕ) → wire_type (x v) ≡ wt)
         → ((bs : List ℕ) → length bs ≡ n → EncodesValue bs (x (little_endian bs)))
@@ -150,17 +149,17 @@ module _ (s : List ℕ) (all_bytes : Bytes s) where
 
     delimited_right : wt ≡ 2 → (r : Varint) → Encoded start r → Known 10 s start r → Holds at (delimited (length s) at number wt r)
     unfolding on_varint value_of choose
-    delimited_right is NoVarint g known = tt
-    delimited_right is (Is n from) g known =
-        choose_case (Holds at) (leb n (length s - from))
+    delimited_right is None g known = tt
+    delimited_right is (Some y) g known =
+        choose_case (Holds at) (leb y.0 (length s - y.1))
         (λ e.
-        let f : Record = record { key = at; number = number; wiretype = wt; value = n; start = from; next = from + n } in
-        let len : from + n - from ≡ n = omega arith in
-        let part_is : payload_of s f ≡ take n (drop from s) = ap (λ (m : ℕ). take m (drop from s)) len in
-        let long : length (payload_of s f) ≡ n = ap length part_is ∙ sized_long from n known.2 (leb-true _ _ e) in
+        let f : Record = record { key = at; number = number; wiretype = wt; value = y.0; start = y.1; next = y.1 + y.0 } in
+        let len : y.1 + y.0 - y.1 ≡ y.0 = omega arith in
+        let part_is : payload_of s f ≡ take y.0 (drop y.1 s) = ap (λ (m : ℕ). take m (drop y.1 s)) len in
+        let long : length (payload_of s f) ≡ y.0 = ap length part_is ∙ sized_long y.1 y.0 known.2 (leb-true _ _ e) in
         held at number wt start k one f refl (len_value (payload_of s f)) (rw is) (sym is) (g.bytes ++ payload_of s f)
         (record { size = g.bytes; encodes_size = rw long g.encodes; joined = refl })
-        (g.there ∙ rw part_is (ap (λ (l : List ℕ). g.bytes ++ l) (sized_there from n) ∙ sym (append_assoc g.bytes _ _))))
+        (g.there ∙ rw part_is (ap (λ (l : List ℕ). g.bytes ++ l) (sized_there y.1 y.0) ∙ sym (append_assoc g.bytes _ _))))
         (λ _. tt)
 
   payload_right : (at number wt start : ℕ) → VarintAt at (number * 8 + wt) start → start ≤ length s → Holds at (payload s at number wt start)
@@ -178,10 +177,10 @@ module _ (s : List ℕ) (all_bytes : Bytes s) where
 
   keyed_right : (at : ℕ) (r : Varint) → Encoded at r → Known 10 s at r → Holds at (keyed s at r)
   unfolding on_varint
-  keyed_right at NoVarint g k = tt
-  keyed_right at (Is key start) g k =
-      let split : key ≡ key / 8 * 8 + key % 8 = omega arith in
-      payload_right at (key / 8) (key % 8) start (subst (λ (n : ℕ). VarintAt at n start) split g) k.2
+  keyed_right at None g k = tt
+  keyed_right at (Some y) g k =
+      let split : y.0 ≡ y.0 / 8 * 8 + y.0 % 8 = omega arith in
+      payload_right at (y.0 / 8) (y.0 % 8) y.1 (subst (λ (n : ℕ). VarintAt at n y.1) split g) k.2
 
   step_right : (at : ℕ) → Holds at (step_at s at)
   unfolding step_at

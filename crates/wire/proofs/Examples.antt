@@ -5,12 +5,12 @@ use mathlib.Core.Option.{none, some}
 use Prim.Native.Nat.{ℕ, ◌-◌, ◌^◌}
 use Rattle.base.specs.Bytes.{b}
 use Rattle.base.specs.Choose.{choose}
-use Rattle.wire.specs.Varint.{varint, groups, on_varint}
+use Rattle.wire.specs.Varint.{value_at, varint, groups, on_varint}
 use Rattle.wire.specs.Step.{step_at, payload}
 use Rattle.wire.specs.Records.{records, scan, on_step}
 use Rattle.wire.specs.Encoding.{Value, varint_value, i64_value, len_value, i32_value, Field, little_endian}
 use Rattle.wire.specs.Contents.{value_of, field_of, fields_of, contents}
-use Rattle.wire.specs.declared.Varint.TheVariants.{Fault, Value as Is}
+use Rattle.std.specs.Prelude.{None}
 
 abbrev field : ℕ → Value → Field
 field number value = record { number = number; value = value }
@@ -22,37 +22,37 @@ abbrev refuses : List ℕ → Type 0
 refuses s = contents s ≡ none
 
 -- the number 1
-one : varint (0x01 ∷ []) 0 ≡ Is 1 1
+one : varint (0x01 ∷ []) 0 ≡ value_at 1 1
 unfolding varint groups choose on_varint
 one = refl
 
 -- 150
-one_hundred_fifty : varint (0x96 ∷ 0x01 ∷ []) 0 ≡ Is 150 2
+one_hundred_fifty : varint (0x96 ∷ 0x01 ∷ []) 0 ≡ value_at 150 2
 unfolding varint groups choose on_varint
 one_hundred_fifty = refl
 
 -- 300
-three_hundred : varint (0xac ∷ 0x02 ∷ []) 0 ≡ Is 300 2
+three_hundred : varint (0xac ∷ 0x02 ∷ []) 0 ≡ value_at 300 2
 unfolding varint groups choose on_varint
 three_hundred = refl
 
 -- 0 in two bytes
-padded : varint (0x80 ∷ 0x00 ∷ []) 0 ≡ Is 0 2
+padded : varint (0x80 ∷ 0x00 ∷ []) 0 ≡ value_at 0 2
 unfolding varint groups choose on_varint
 padded = refl
 
 -- -2 as an int32 or int64: 64 bits, two's complement
-minus_two : varint (0xfe ∷ 0xff ∷ 0xff ∷ 0xff ∷ 0xff ∷ 0xff ∷ 0xff ∷ 0xff ∷ 0xff ∷ 0x01 ∷ []) 0 ≡ Is (2 ^ 64 - 2) 10
+minus_two : varint (0xfe ∷ 0xff ∷ 0xff ∷ 0xff ∷ 0xff ∷ 0xff ∷ 0xff ∷ 0xff ∷ 0xff ∷ 0x01 ∷ []) 0 ≡ value_at (2 ^ 64 - 2) 10
 unfolding varint groups choose on_varint
 minus_two = refl
 
 -- a tenth byte above 1 is over 64 bits
-tenth_byte : varint (0xff ∷ 0xff ∷ 0xff ∷ 0xff ∷ 0xff ∷ 0xff ∷ 0xff ∷ 0xff ∷ 0xff ∷ 0x02 ∷ []) 0 ≡ Fault
+tenth_byte : varint (0xff ∷ 0xff ∷ 0xff ∷ 0xff ∷ 0xff ∷ 0xff ∷ 0xff ∷ 0xff ∷ 0xff ∷ 0x02 ∷ []) 0 ≡ None
 unfolding varint groups choose on_varint
 tenth_byte = refl
 
 -- and so is an eleventh byte, though the value be 0
-eleven_bytes : varint (0x80 ∷ 0x80 ∷ 0x80 ∷ 0x80 ∷ 0x80 ∷ 0x80 ∷ 0x80 ∷ 0x80 ∷ 0x80 ∷ 0x80 ∷ 0x00 ∷ []) 0 ≡ Fault
+eleven_bytes : varint (0x80 ∷ 0x80 ∷ 0x80 ∷ 0x80 ∷ 0x80 ∷ 0x80 ∷ 0x80 ∷ 0x80 ∷ 0x80 ∷ 0x80 ∷ 0x00 ∷ []) 0 ≡ None
 unfolding varint groups choose on_varint
 eleven_bytes = refl
 

@@ -12,7 +12,7 @@ use borrow.Author.Tests.{ltb-true, ltb-false, leb-true, leb-false, eqb-true, eqb
 use Rattle.std.specs.Prelude.{Option, Some, None, Result, Ok, Err}
 use Rattle.std.specs.Option.{option_map}
 use Rattle.base.specs.Choose.{choose, choose_case}
-use Rattle.wire.specs.Varint.{varint, groups, on_varint, below, last}
+use Rattle.wire.specs.Varint.{value_at, Varint, varint, groups, on_varint, below, last}
 use Rattle.wire.specs.Step.{step_at, payload, sized, scalar, delimited, keyed}
 use Rattle.wire.specs.Records.{on_step, scan, records}
 use Rattle.wire.specs.Contents.{value_of, field_of, fields_of, also, contents, all_fields, payload_of}
@@ -23,8 +23,6 @@ use Rattle.wire.proofs.StepLaws.{Lies, lies, fault_lies}
 use Rattle.wire.proofs.VarintLaws.{Known, known_varint}
 use Rattle.wire.proofs.ShortLaws.{stands}
 use Rattle.wire.proofs.RecordsLaws.{past}
-use Rattle.wire.specs.declared.Varint.{Varint}
-use Rattle.wire.specs.declared.Varint.TheVariants.{Fault as NoVarint, Value as Is}
 use Rattle.wire.specs.declared.Record.{Record}
 use Rattle.wire.specs.declared.Step.{Step}
 use Rattle.wire.specs.declared.Step.TheVariants.{End, Fault, Found}
@@ -51,12 +49,12 @@ module _ (s : List ℕ) where
   next_byte at h = rw (add-one, drop-cons s at 0 h)
 
   abbrev SameVarint : Varint → Option (ℕ × List ℕ) → Type 0
-  SameVarint NoVarint None = Unit
-  SameVarint NoVarint (Some x) = ⊥
-  SameVarint (Is v next) None = ⊥
-  SameVarint (Is v next) (Some x) = (x.0 ≡ v) × (x.1 ≡ drop next s)
+  SameVarint None None = Unit
+  SameVarint None (Some x) = ⊥
+  SameVarint (Some y) None = ⊥
+  SameVarint (Some y) (Some x) = (x.0 ≡ y.0) × (x.1 ≡ drop y.1 s)
 
-  tenth_same : (at b : ℕ) (t u : Bool) → ltb b 2 ≡ t → ltb 1 b ≡ u → SameVarint (choose t (Is b (at + 1)) NoVarint) (cond u None (Some (b, drop (at + 1) s)))
+  tenth_same : (at b : ℕ) (t u : Bool) → ltb b 2 ≡ t → ltb 1 b ≡ u → SameVarint (choose t (value_at b (at + 1)) None) (cond u None (Some (b, drop (at + 1) s)))
   unfolding choose
   tenth_same at b true true e f = absurd (omega (arith, ltb-true b 2 e, ltb-true 1 b f))
   tenth_same at b true false e f = (refl, refl)
@@ -73,10 +71,10 @@ module _ (s : List ℕ) where
 
   below_same : (b : ℕ) (r : Varint) (o : Option (ℕ × List ℕ)) → SameVarint r o → SameVarint (below (b % 128) r) (option_map (λ v. (v.0 * 128 + b % 128, v.1)) o)
   unfolding on_varint
-  below_same b NoVarint None h = tt
-  below_same b NoVarint (Some x) h = absurd h
-  below_same b (Is v next) None h = absurd h
-  below_same b (Is v next) (Some x) h = (rw (h.0), h.1)
+  below_same b None None h = tt
+  below_same b None (Some x) h = absurd h
+  below_same b (Some y) None h = absurd h
+  below_same b (Some y) (Some x) h = (rw (h.0), h.1)
 
   groups_same : (left at : ℕ) → SameVarint (groups left s at) (front_groups left (drop at s))
   unfolding groups front_groups
@@ -107,10 +105,10 @@ module _ (s : List ℕ) where
     scalar_same : wt ≡ 0 → (r : Varint) (o : Option (ℕ × List ℕ)) → SameVarint r o
         → SamePayload number (scalar at number wt start r) (o >>= λ v. Some ((varint_value v.0, drop start s), v.1))
     unfolding on_varint value_of choose
-    scalar_same e NoVarint None h = tt
-    scalar_same e NoVarint (Some x) h = absurd h
-    scalar_same e (Is v next) None h = absurd h
-    scalar_same e (Is v next) (Some x) h = (refl, rw (e, h.0), refl, h.1)
+    scalar_same e None None h = tt
+    scalar_same e None (Some x) h = absurd h
+    scalar_same e (Some y) None h = absurd h
+    scalar_same e (Some y) (Some x) h = (refl, rw (e, h.0), refl, h.1)
 
     sized_same : (v from len : ℕ) (x : List ℕ → Value) (inside : from ≤ length s)
         → ((f : Record) → f.wiretype ≡ wt → value_of s f ≡ x (payload_of s f))
@@ -130,10 +128,10 @@ module _ (s : List ℕ) where
     delimited_same : wt ≡ 2 → (r : Varint) (o : Option (ℕ × List ℕ)) → SameVarint r o → Known 10 s start r
         → SamePayload number (delimited (length s) at number wt r) (o >>= λ len. cut len.0 len.1 >>= λ v. Some ((len_value v.0, len.1), v.1))
     unfolding on_varint value_of choose
-    delimited_same e NoVarint None h k = tt
-    delimited_same e NoVarint (Some x) h k = absurd h
-    delimited_same e (Is v next) None h k = absurd h
-    delimited_same e (Is v next) (Some x) h k = rw (h.0, h.1) (sized_same v next v len_value k.2 (λ f w. rw (w ∙ e)))
+    delimited_same e None None h k = tt
+    delimited_same e None (Some x) h k = absurd h
+    delimited_same e (Some y) None h k = absurd h
+    delimited_same e (Some y) (Some x) h k = rw (h.0, h.1) (sized_same y.0 y.1 y.0 len_value k.2 (λ f w. rw (w ∙ e)))
 
     payload_same : start ≤ length s → (number ≡ 0 → ⊥) → SamePayload number (payload s at number wt start) (front_payload wt (drop start s))
     unfolding payload front_payload value_of choose
@@ -169,17 +167,17 @@ module _ (s : List ℕ) where
         → SameRecord (keyed s at r) (o >>= λ tag. cond (eqb (tag.0 / 8) 0) None
         (front_payload (tag.0 % 8) tag.1 >>= λ v. Some (record { key = base + at; field = record { number = tag.0 / 8; value = v.0.0 }; start = base + at + (length (drop at s) - length v.0.1) }, v.1)))
     unfolding on_varint payload choose
-    keyed_same at NoVarint None l h k = tt
-    keyed_same at NoVarint (Some x) l h k = absurd h
-    keyed_same at (Is key start) None l h k = absurd h
-    keyed_same at (Is key start) (Some x) l h k =
-        rw (h.0, h.1) (by_number (eqb (key / 8) 0) refl)
+    keyed_same at None None l h k = tt
+    keyed_same at None (Some x) l h k = absurd h
+    keyed_same at (Some y) None l h k = absurd h
+    keyed_same at (Some y) (Some x) l h k =
+        rw (h.0, h.1) (by_number (eqb (y.0 / 8) 0) refl)
       where
-        by_number : (t : Bool) → eqb (key / 8) 0 ≡ t → SameRecord (payload s at (key / 8) (key % 8) start) (cond t None
-            (front_payload (key % 8) (drop start s) >>= λ v. Some (record { key = base + at; field = record { number = key / 8; value = v.0.0 }; start = base + at + (length (drop at s) - length v.0.1) }, v.1)))
+        by_number : (t : Bool) → eqb (y.0 / 8) 0 ≡ t → SameRecord (payload s at (y.0 / 8) (y.0 % 8) y.1) (cond t None
+            (front_payload (y.0 % 8) (drop y.1 s) >>= λ v. Some (record { key = base + at; field = record { number = y.0 / 8; value = v.0.0 }; start = base + at + (length (drop at s) - length v.0.1) }, v.1)))
         by_number true e = rw e tt
-        by_number false e = framed_same at (key / 8) (payload s at (key / 8) (key % 8) start) (front_payload (key % 8) (drop start s)) l
-            (payload_same at (key / 8) (key % 8) start k.2 (eqb-false _ _ e))
+        by_number false e = framed_same at (y.0 / 8) (payload s at (y.0 / 8) (y.0 % 8) y.1) (front_payload (y.0 % 8) (drop y.1 s)) l
+            (payload_same at (y.0 / 8) (y.0 % 8) y.1 k.2 (eqb-false _ _ e))
 
     pub step_same : (at : ℕ) → at < length s → SameRecord (step_at s at) (record_at (base + at) (drop at s))
     unfolding step_at record_at

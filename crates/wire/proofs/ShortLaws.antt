@@ -6,19 +6,18 @@ use native.Mathlib.Omega.{arith}
 use lib.ListN.{length, get_or}
 use borrow.Author.Tests.{lt-leb, ne_eqb}
 use Rattle.base.specs.Choose.{choose}
-use Rattle.wire.specs.Varint.{varint, on_varint}
+use Rattle.wire.specs.Varint.{value_at, varint, on_varint}
 use Rattle.wire.specs.Step.{step_at, payload, keyed, sized}
 use Rattle.wire.proofs.VarintLaws.{final, goes_value}
-use Rattle.wire.specs.declared.Varint.TheVariants.{Value}
 use Rattle.wire.specs.declared.Step.{Step}
 use Rattle.wire.specs.declared.Step.TheVariants.{Found}
 
 module _ (s : List ℕ) (at : ℕ) (b : ℕ) (is_b : b ≡ get_or s at 0) where
-  pub one_byte : at < length s → b < 128 → Value b (at + 1) ≡ varint s at
+  pub one_byte : at < length s → b < 128 → value_at b (at + 1) ≡ varint s at
   unfolding varint
   one_byte h small = final 10 s at (λ e. omega arith) h b is_b small (λ e. omega arith)
 
-  pub two_bytes : 128 ≤ b → at + 1 < length s → (c : ℕ) → c ≡ get_or s (at + 1) 0 → c < 128 → Value (c * 128 + b % 128) (at + 1 + 1) ≡ varint s at
+  pub two_bytes : 128 ≤ b → at + 1 < length s → (c : ℕ) → c ≡ get_or s (at + 1) 0 → c < 128 → value_at (c * 128 + b % 128) (at + 1 + 1) ≡ varint s at
   unfolding varint
   two_bytes big h c is_c small =
       goes_value 10 s at (λ e. omega arith) (omega arith) b is_b _ c (at + 1 + 1) big refl (sym (final 9 s (at + 1) (λ e. omega arith) h c is_c small (λ e. omega arith)))
@@ -29,10 +28,10 @@ module _ (s : List ℕ) (at : ℕ) (b : ℕ) (is_b : b ≡ get_or s at 0) where
   stands h r e = rw (lt-leb (length s) at h) e
 
   module _ (h : at + 1 < length s) (small : b < 128) (v : ℕ) (is_v : v ≡ get_or s (at + 1) 0) (small_v : v < 128) (some : b / 8 ≡ 0 → ⊥) (r : Step) where
-    first : varint s at ≡ Value b (at + 1)
+    first : varint s at ≡ value_at b (at + 1)
     first = sym (one_byte (omega arith) small)
 
-    second : varint s (at + 1) ≡ Value v (at + 1 + 1)
+    second : varint s (at + 1) ≡ value_at v (at + 1 + 1)
     unfolding varint
     second = sym (final 10 s (at + 1) (λ e. omega arith) h v is_v small_v (λ e. omega arith))
 

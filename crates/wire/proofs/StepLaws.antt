@@ -7,14 +7,13 @@ use lib.ListN.{length}
 use lib.Dec.{leb, eqb}
 use borrow.Author.Tests.{leb-true, leb-false}
 use Rattle.base.specs.Choose.{choose_case}
-use Rattle.wire.specs.Varint.{varint, on_varint}
+use Rattle.wire.specs.Varint.{Varint, varint, on_varint}
 use Rattle.wire.specs.Step.{step_at, payload, sized, scalar, delimited}
 use Rattle.wire.proofs.VarintLaws.{Known, known_varint}
-use Rattle.wire.specs.declared.Varint.{Varint}
-use Rattle.wire.specs.declared.Varint.TheVariants.{Fault as NoVarint, Value}
 use Rattle.wire.specs.declared.Record.{Record}
 use Rattle.wire.specs.declared.Step.{Step}
 use Rattle.wire.specs.declared.Step.TheVariants.{End, Fault, Found}
+use Rattle.std.specs.Prelude.{Some, None}
 
 -- a record read at position at of n bytes
 pub record Lies (n at : ℕ) (f : Record) : Type 0 where
@@ -35,13 +34,13 @@ sized_fine n at number wiretype value start len h l =
 
 scalar_fine : (s : List ℕ) (at number wiretype start : ℕ) (w : Varint) → at < start → start ≤ length s → Known 10 s start w → Fine (length s) at (scalar at number wiretype start w)
 unfolding on_varint
-scalar_fine s at number wiretype start NoVarint h l k = (refl, omega arith)
-scalar_fine s at number wiretype start (Value v next) h l k = record { key = refl; after = h; from = omega arith; to = k.2 }
+scalar_fine s at number wiretype start None h l k = (refl, omega arith)
+scalar_fine s at number wiretype start (Some y) h l k = record { key = refl; after = h; from = omega arith; to = k.2 }
 
 delimited_fine : (s : List ℕ) (at number wiretype start : ℕ) (w : Varint) → at < start → start ≤ length s → Known 10 s start w → Fine (length s) at (delimited (length s) at number wiretype w)
 unfolding on_varint
-delimited_fine s at number wiretype start NoVarint h l k = (refl, omega arith)
-delimited_fine s at number wiretype start (Value v next) h l k = sized_fine (length s) at number wiretype v next v (omega arith) k.2
+delimited_fine s at number wiretype start None h l k = (refl, omega arith)
+delimited_fine s at number wiretype start (Some y) h l k = sized_fine (length s) at number wiretype y.0 y.1 y.0 (omega arith) k.2
 
 payload_fine : (s : List ℕ) (at number wiretype start : ℕ) → at < start → start ≤ length s → Fine (length s) at (payload s at number wiretype start)
 unfolding payload
@@ -56,8 +55,8 @@ payload_fine s at number wiretype start h l =
 
 keyed_fine : (s : List ℕ) (at : ℕ) (w : Varint) → at < length s → Known 10 s at w → Fine (length s) at (on_varint w (Fault at) (λ key start. payload s at (key / 8) (key % 8) start))
 unfolding on_varint
-keyed_fine s at NoVarint h k = (refl, h)
-keyed_fine s at (Value key start) h k = payload_fine s at (key / 8) (key % 8) start k.1 k.2
+keyed_fine s at None h k = (refl, h)
+keyed_fine s at (Some y) h k = payload_fine s at (y.0 / 8) (y.0 % 8) y.1 k.1 k.2
 
 step_fine : (s : List ℕ) (at : ℕ) → Fine (length s) at (step_at s at)
 unfolding step_at

@@ -2,8 +2,7 @@
 -- Every fault is placed at the record's key.
 use Rattle.std.specs.Prelude.{ℕ, ◌+◌, ◌-◌, ◌/◌, ◌%◌, List, length, leb, eqb}
 use Rattle.base.specs.Choose.{choose}
-use Rattle.wire.specs.Varint.{varint, on_varint}
-use Rattle.wire.specs.declared.Varint.{Varint}
+use Rattle.wire.specs.Varint.{Varint, varint, on_varint}
 use Rattle.wire.specs.declared.Step.{Step}
 use Rattle.wire.specs.declared.Step.TheVariants.{End, Fault, Found}
 

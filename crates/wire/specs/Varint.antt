@@ -1,21 +1,26 @@
 -- A varint at a position: groups of seven bits, the lowest first, each in a byte that is 128 or more where another follows.
 -- It takes at most ten bytes, and its value is below 2 ^ 64.
-use Rattle.std.specs.Prelude.{ℕ, zero, suc, ◌+◌, ◌*◌, ◌%◌, ◌≡◌, List, length, get_or, ltb, leb, eqb}
+use Rattle.std.specs.Prelude.{ℕ, zero, suc, ◌+◌, ◌*◌, ◌%◌, ◌≡◌, List, Option, Some, None, length, get_or, ltb, leb, eqb}
 use Rattle.base.specs.Choose.{choose}
-use Rattle.wire.specs.declared.Varint.{Varint}
-use Rattle.wire.specs.declared.Varint.TheVariants.{Fault, Value}
+
+-- a varint: its value, and the position after it; none where it is cut or over 64 bits
+abbrev pub Varint : Type 0
+Varint = Option (ℕ × ℕ)
+
+abbrev pub value_at : ℕ → ℕ → Varint
+value_at v next = Some (v, next)
 
 -- what becomes of a varint: one thing at a fault, another of its value and the position after it
 unfoldable pub on_varint {ℓ} : {A : Type ℓ} → Varint → A → (ℕ → ℕ → A) → A
-on_varint Fault x f = x
-on_varint (Value v next) x f = f v next
+on_varint None x f = x
+on_varint (Some y) x f = f y.0 y.1
 
 module _ {ℓ} {A : Type ℓ} (x z : A) (f : ℕ → ℕ → A) (r w : Varint) where
-  pub on_fault : r ≡ w → r ≡ Fault → z ≡ x → z ≡ on_varint w x f
+  pub on_fault : r ≡ w → r ≡ None → z ≡ x → z ≡ on_varint w x f
   unfolding on_varint
   on_fault e is h = rw (← e, is) h
 
-  pub on_value : (v next : ℕ) → r ≡ w → r ≡ Value v next → z ≡ f v next → z ≡ on_varint w x f
+  pub on_value : (v next : ℕ) → r ≡ w → r ≡ value_at v next → z ≡ f v next → z ≡ on_varint w x f
   unfolding on_varint
   on_value v next e is h = rw (← e, is) h
 
@@ -23,17 +28,17 @@ pub ruleset on_varint_laws = (on_fault, on_value)
 
 -- the group g below the others
 abbrev pub below : ℕ → Varint → Varint
-below g r = on_varint r Fault (λ v next. Value (v * 128 + g) next)
+below g r = on_varint r None (λ v next. value_at (v * 128 + g) next)
 
 -- the last group g, at position at: the tenth holds one bit only
 abbrev pub last : ℕ → ℕ → ℕ → Varint
-last left g at = choose (eqb left 1) (choose (ltb g 2) (Value g (at + 1)) Fault) (Value g (at + 1))
+last left g at = choose (eqb left 1) (choose (ltb g 2) (value_at g (at + 1)) None) (value_at g (at + 1))
 
 -- the groups from position at on, of which at most so many may follow
 unfoldable pub groups : ℕ → List ℕ → ℕ → Varint
-groups zero s at = Fault
+groups zero s at = None
 groups (suc n) s at =
-    choose (leb (length s) at) Fault
+    choose (leb (length s) at) None
     (choose (ltb (get_or s at 0) 128) (last (suc n) (get_or s at 0) at) (below (get_or s at 0 % 128) (groups n s (at + 1))))
 
 -- the varint at position at

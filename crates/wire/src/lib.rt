@@ -1,4 +1,4 @@
-// The Protocol Buffers encoding: varints, and the records (key and payload) of a message. A message is its bytes.
+//! The Protocol Buffers encoding: varints, and the records (key and payload) of a message. A message is its bytes.
 #![tactic(auto)]
 
 ghost use Rattle.std.specs.Prelude.{◌≡◌, ℕ, ◌+◌, ◌≤◌, ◌<◌, ◌^◌, length, get_or};
@@ -9,13 +9,6 @@ mod read;
 pub mod records;
 
 // What follows reads by positions, for callers that loop over positions; `records` gives the same records one after the other.
-
-// A varint: its value, and the position after it. A fault is one that is cut or over 64 bits.
-#[derive(Drop)]
-pub enum Varint {
-    Fault,
-    Value(u64, usize),
-}
 
 // A record of a message: where its key starts, its field number, its wire type (0, 1, 2 or 5), its value (of wire type
 // 0) or its payload's length (of wire type 2; otherwise 0), where its payload starts, and the position after it.
@@ -29,7 +22,8 @@ pub struct Record {
     pub next: usize,
 }
 
-// What stands at a position: nothing more, a fault in the record whose key starts there, or a record.
+// What stands at a position: nothing more, a fault in the record whose key starts there, or a record. It stays an enum of its
+// own as long as callers match on what `read_step` returns.
 #[derive(Drop)]
 pub enum Step {
     End,
@@ -44,52 +38,48 @@ fn wide(x: u8) -> u64
 }
 
 // The groups of a varint from `at` on, of which at most `left` may follow; of ten, the last holds one bit.
-fn read_groups(s: &[u8], at: usize, left: usize) -> Varint
+fn read_groups(s: &[u8], at: usize, left: usize) -> Option<(u64, usize)>
     requires { cap left ≤ 2 ^ 64 }
     ensures { result ≡ groups left s.now at }
 {
     if left == 0 {
-        return Varint::Fault;
+        return None;
     }
     if s.len() <= at {
-        return Varint::Fault;
+        return None;
     }
     let b = wide(s[at]);
     if b < 128 {
         if left == 1 {
             if b < 2 {
                 let end = at + 1;
-                return Varint::Value(b, end);
+                return Some((b, end));
             }
-            return Varint::Fault;
+            return None;
         }
         let end = at + 1;
-        return Varint::Value(b, end);
+        return Some((b, end));
     }
     let after = at + 1;
     let fewer = left - 1;
-    match read_groups(s, after, fewer) {
-        Varint::Fault => Varint::Fault,
-        Varint::Value(v, next) => {
-            let high = v * 128;
-            let low = b % 128;
-            let value = high + low;
-            Varint::Value(value, next)
-        }
-    }
+    let (v, next) = read_groups(s, after, fewer)?;
+    let high = v * 128;
+    let low = b % 128;
+    let value = high + low;
+    Some((value, next))
 }
 
-// The varint at `at`. Most have one byte or two.
-pub fn read_varint(s: &[u8], at: usize) -> Varint
+// The varint at `at`: its value, and the position after it; `None` is one that is cut or over 64 bits. Most have one byte or two.
+pub fn read_varint(s: &[u8], at: usize) -> Option<(u64, usize)>
     ensures { result ≡ varint s.now at }
 {
     if s.len() <= at {
-        return Varint::Fault;
+        return None;
     }
     let b = wide(s[at]);
     let second = at + 1;
     if b < 128 {
-        return Varint::Value(b, second);
+        return Some((b, second));
     }
     if second < s.len() {
         let c = wide(s[second]);
@@ -98,7 +88,7 @@ pub fn read_varint(s: &[u8], at: usize) -> Varint
             let low = b % 128;
             let value = high + low;
             let end = second + 1;
-            return Varint::Value(value, end);
+            return Some((value, end));
         }
     }
     read_groups(s, at, 10)
@@ -142,8 +132,8 @@ fn read_payload(s: &[u8], key: usize, number: u64, wiretype: u64, start: usize) 
     }
     if wiretype == 0 {
         return match read_varint(s, start) {
-            Varint::Fault => Step::Fault(key),
-            Varint::Value(value, next) => Step::Found(Record {
+            None => Step::Fault(key),
+            Some((value, next)) => Step::Found(Record {
                 key,
                 number,
                 wiretype,
@@ -158,8 +148,8 @@ fn read_payload(s: &[u8], key: usize, number: u64, wiretype: u64, start: usize) 
     }
     if wiretype == 2 {
         return match read_varint(s, start) {
-            Varint::Fault => Step::Fault(key),
-            Varint::Value(len, from) => read_sized(s, key, number, wiretype, len, from, len),
+            None => Step::Fault(key),
+            Some((len, from)) => read_sized(s, key, number, wiretype, len, from, len),
         };
     }
     if wiretype == 5 {
@@ -184,8 +174,8 @@ fn read_record(s: &[u8], at: usize) -> Step
     ensures { result ≡ keyed s.now at (varint s.now at) }
 {
     match read_varint(s, at) {
-        Varint::Fault => Step::Fault(at),
-        Varint::Value(key, from) => {
+        None => Step::Fault(at),
+        Some((key, from)) => {
             let number = key / 8;
             let wiretype = key % 8;
             read_payload(s, at, number, wiretype, from)

@@ -1,15 +1,16 @@
 //! Reads one record.
-ghost use Rattle.std.specs.Prelude.{◌≡◌, ℕ, ◌+◌, ◌≤◌, ◌<◌, ◌^◌, length, IfSome};
+ghost use Rattle.std.specs.Prelude.{◌≡◌, ℕ, ◌+◌, ◌≤◌, ◌<◌, ◌^◌, List, length, IfSome};
 ghost use Rattle.std.specs.Option.{option_map};
 ghost use Rattle.wire.specs.Readers.{groups, varint, cap, cut, payload};
+ghost use Rattle.wire.specs.Encoding.{len_value};
 ghost use Rattle.wire.specs.Value.{value_seen, size_of};
-ghost use Rattle.wire.specs.Message.{record_at, record_seen};
+ghost use Rattle.wire.specs.Message.{Entry, record_at, record_seen};
 
 use crate::records::{Record, Value};
 
 /// The record at the front, whose key stands at `key`, and the bytes after it.
 #[inline(always)]
-pub fn read_record(bytes: &[u8], key: usize) -> Option<(Record<'_>, &[u8])>
+pub(crate) fn read_record(bytes: &[u8], key: usize) -> Option<(Record<'_>, &[u8])>
     requires { key + length bytes.now < 2 ^ 64 }
     ensures { option_map (λ r. (record_seen r.0, r.1.now)) result ≡ record_at key bytes.now }
 {
@@ -33,21 +34,7 @@ fn read_short(bytes: &[u8], key: usize) -> Option<(Record<'_>, &[u8])>
         return None;
     }
     if *tag % 8 == 2 {
-        let len = usize::from(*next);
-        if len > rest.len() {
-            return None;
-        }
-        let value = Value::Len(&rest[..len]);
-        let start = key + 2;
-        Some((
-            Record {
-                key,
-                number,
-                value,
-                start,
-            },
-            &rest[len..],
-        ))
+        short_bytes(key, number, *next, rest)
     } else if *tag % 8 == 0 {
         let value = Value::Varint(u64::from(*next));
         let start = key + 1;
@@ -63,6 +50,27 @@ fn read_short(bytes: &[u8], key: usize) -> Option<(Record<'_>, &[u8])>
     } else {
         None
     }
+}
+
+/// The record whose key and length have one byte each, and whose bytes are the first `len`.
+#[tactic(auto, unfolding(crate::specs::Readers::cut))]
+#[inline(always)]
+fn short_bytes(key: usize, number: u64, len: u8, rest: &[u8]) -> Option<(Record<'_>, &[u8])>
+    requires { key + 2 + length rest.now < 2 ^ 64 }
+    ensures { option_map (λ r. (record_seen r.0, r.1.now)) result ≡ option_map {U = Entry × List ℕ} (λ v. (record { key = key; field = record { number = number; value = len_value v.0 }; start = key + 2 }, v.1)) (cut len rest.now) }
+{
+    let (inner, rest) = rest.split_at_checked(usize::from(len))?;
+    let value = Value::Len(inner);
+    let start = key + 2;
+    Some((
+        Record {
+            key,
+            number,
+            value,
+            start,
+        },
+        rest,
+    ))
 }
 
 /// The same, of any record.

@@ -1,5 +1,5 @@
 //! The records of a message, one after the other.
-ghost use Rattle.std.specs.Prelude.{◌≡◌, ◌+◌, ◌<◌, ◌≤◌, ◌^◌, length};
+ghost use Rattle.std.specs.Prelude.{◌≡◌, ◌+◌, ◌-◌, ◌<◌, ◌≤◌, ◌^◌, length};
 ghost use Rattle.std.specs.Iterator.{item_count, YieldsFirstBy};
 ghost use Rattle.wire.specs.Message.{records_at, seen};
 
@@ -30,14 +30,20 @@ impl<'a> Model for Records<'a> {
 }
 
 impl<'a> Records<'a> {
-    /// The records of a message whose first byte stands at `at`.
+    /// The records of a message whose first byte stands at `at`. Where the last byte's place would not fit a `usize`, the
+    /// message stands at the last place where it does.
     #[tactic(auto, using(crate::proofs::MessageLaws::records_bound))]
+    #[inline(always)]
     pub fn new(part: &'a [u8], at: usize) -> Self
-        requires { at + length part.now < 2 ^ 64 }
-        ensures records { result ≡ records_at at part.now }
+        ensures records { at + length part.now < 2 ^ 64 → result ≡ records_at at part.now }
+        ensures last { 2 ^ 64 ≤ at + length part.now → result ≡ records_at (2 ^ 64 - 1 - length part.now) part.now }
         ensures bound { length result ≤ length part.now }
     {
-        Records { rest: part, at }
+        let last = usize::MAX - part.len();
+        Records {
+            rest: part,
+            at: at.min(last),
+        }
     }
 }
 

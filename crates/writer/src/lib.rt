@@ -135,13 +135,6 @@ pub fn within(a: usize, n: usize) -> usize
     n
 }
 
-// What a text that is asked for comes to: it is written, and is so long; or it needs so much room.
-#[derive(Drop)]
-pub enum Answer {
-    Written(usize),
-    Short(usize),
-}
-
 // The n bytes of s from `from` on, as many as there are.
 pub fn put_part(t: &mut [u8], at: usize, s: &[u8], from: usize, n: usize) -> usize
     ensures { Wrote t.old at (take n (drop from s.now)) t.new result }

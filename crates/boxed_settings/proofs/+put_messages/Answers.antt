@@ -1,42 +1,28 @@
-use Rattle.boxed_settings.proofs.FlagLaws.{flags_are}
-use Rattle.joined.specs.Joined.{path_held}
-use Rattle.boxed_settings.specs.Flags.{message_flags, messages_flags, field_flags, stay}
-use Rattle.options.specs.Settings.{settings}
-use Rattle.descriptor.specs.Decode.{entries, parts}
+use Rattle.std.proofs.Common.{ap, sym, ◌∙◌, ◌-◌}
+use Rattle.writer.specs.Writing.{◌▻◌}
+use Rattle.writer.proofs.TextLaws.{appended}
 use Rattle.walks.specs.Walked.{walked}
-use Rattle.writer.specs.Wrote.{none, named, ◌►◌}
-use mathlib.Core.Path.{sym, ap, ◌∙◌}
-use mathlib.Core.List.{List}
-use native.Mathlib.Omega.{arith}
-use borrow.Author.Rules.{rules}
-use Prim.Native.Nat.{ℕ, ◌-◌}
+use Rattle.descriptor.specs.Descriptor.{Bytes}
+use Rattle.descriptor.specs.Decode.{entries, parts}
+use Rattle.boxed_settings.specs.Flags.{field_flags, message_flags, messages_flags, stay}
+use Rattle.boxed_settings.proofs.FlagLaws.{walk_on, flags_are, flags_none, path_cut}
 use Rattle.boxed_settings.proofs.+put_messages.Goals as goal
+use mathlib.Core.List.{List}
 
 pub returns-then-left-eq0 : goal.returns-then-left-eq0
-unfolding messages_flags
-returns-then-left-eq0 t c = rw c.if-left-eq0.true (none (search rules))
+returns-then-left-eq0 t c = flags_none _ _ _ _ _ c.if-left-eq0.true
 
-pub loop-p-init : goal.loop-p-init
-loop-p-init t c = (search rules, λ t' r w. named (ap (walked (message_flags (messages_flags (c.args.left - 1) (settings c.args.o.now)) (settings c.args.o.now) c.args.scope.now) stay 0) (c.into_iter-p-iterator.ensures.into_iter_gives ∙ c.new-p-items.ensures.parts) ∙ flags_are _ _ _ _ c.if-left-eq0.false) w)
+pub loop-message-init : goal.loop-message-init
+loop-message-init t c =
+    ap (λ (x : Bytes). c.args.text.now ▻ x)
+    (ap (walked (message_flags (messages_flags (c.args.left - 1) c.args.options.now) c.args.options.now c.args.scope.now) stay 0) (c.into_iter-message-iterator.ensures.into_iter_gives ∙ c.new-message-items.ensures.parts) ∙ flags_are _ _ _ _ c.if-left-eq0.false)
 
-pub slice_bounds-put_fields-end : goal.slice_bounds-put_fields-end
-slice_bounds-put_fields-end t c = omega (arith, c.path_in-n.ensures.0)
-
-pub slice_bounds-put_messages-end : goal.slice_bounds-put_messages-end
-slice_bounds-put_messages-end t c = omega (arith, c.path_in-n.ensures.0)
-
-pub put_messages-a-requires : goal.put_messages-a-requires
-put_messages-a-requires t c = omega (arith, c.if-left-eq0.false)
-
-pub loop-p-preserved : goal.loop-p-preserved
-unfolding walked
-loop-p-preserved t c =
-    let full = path_held c.path_in-n.new.t c.args.scope.now c.path_in-n.result c.path_in-n.ensures.1 c.name_of.ensures in
-    let p = c.in-Some.p.now in
-    let w = named (ap (λ (x : List ℕ). field_flags (settings c.args.o.now) x p) full) c.put_fields-a.ensures
-    ► named (ap (λ (x : List ℕ). messages_flags (c.args.left - 1) (settings c.args.o.now) x (parts 3 (entries p))) full) c.put_messages-a.ensures in
-    (search rules, λ t' r v. c.loop-p.invariant.1 t' r (named (ap (walked (message_flags (messages_flags (c.args.left - 1) (settings c.args.o.now)) (settings c.args.o.now) c.args.scope.now) stay 0) (sym c.in-Some.ensures.steps)) (w ► v)))
-
-pub returns : goal.returns
-unfolding walked
-returns t c = c.loop-p.invariant.1 _ _ (named (ap (walked (message_flags (messages_flags (c.args.left - 1) (settings c.args.o.now)) (settings c.args.o.now) c.args.scope.now) stay 0) (sym c.in-None.ensures.steps.0)) (none c.loop-p.invariant.0))
+pub loop-message-preserved : goal.loop-message-preserved
+loop-message-preserved t c =
+    let full = path_cut _ _ _ _ c.path_in-n.ensures.1 c.name_of.ensures in
+    let p = c.in-Some.message.now in
+    let own = c.put_fields.ensures ∙ ap (λ (x : Bytes). c.loop-message.text ▻ field_flags c.args.options.now x p) full in
+    let nested = c.put_messages.ensures ∙ ap (λ (x : Bytes). c.put_fields.new.text ▻ messages_flags (c.args.left - 1) c.args.options.now x (parts 3 (entries p))) full in
+    walk_on (message_flags (messages_flags (c.args.left - 1) c.args.options.now) c.args.options.now c.args.scope.now) _ _ _ _ (appended _ _ _ _ _ own nested)
+    ∙ ap (λ (x : List Bytes). c.loop-message.text ▻ walked (message_flags (messages_flags (c.args.left - 1) c.args.options.now) c.args.options.now c.args.scope.now) stay 0 x) (sym c.in-Some.ensures.steps)
+    ∙ c.loop-message.invariant

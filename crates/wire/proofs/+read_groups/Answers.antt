@@ -1,3 +1,4 @@
+use mathlib.Core.Path.{◌∙◌}
 use Prim.Native.Nat.{◌<◌, ◌+◌, ◌*◌, ◌^◌}
 use native.Mathlib.Nat.{lt_of_le_of_lt, le-add_right}
 use Rattle.wire.proofs.VarintLaws.{none, past, wrong_tenth, tenth, final, goes_fault, goes_value, cap_less, room}
@@ -24,14 +25,17 @@ pub read_groups-requires : goal.read_groups-requires
 read_groups-requires t c = (omega arith, search cap_less)
 
 pub overflow_mul-high : goal.overflow_mul-high
-overflow_mul-high t c = record { fits = lt_of_le_of_lt (le-add_right _ 127) (search room) }
+overflow_mul-high t c =
+    record { fits = lt_of_le_of_lt (le-add_right _ 127) (room _ _ _ _ _ c.in_ok-v.next c.if-left-eq0.false c.requires c.read_groups.ensures c.in_ok-v.was) }
 
 pub overflow_add-value : goal.overflow_add-value
-overflow_add-value t c = let l : c.in-Value.v * 128 + 127 < 2 ^ 64 = search room in
+overflow_add-value t c =
+    let l : c.in_ok-v.v * 128 + 127 < 2 ^ 64 = room _ _ _ _ _ c.in_ok-v.next c.if-left-eq0.false c.requires c.read_groups.ensures c.in_ok-v.was in
     omega arith
 
-pub returns-in-Fault : goal.returns-in-Fault
-returns-in-Fault t c = search goes_fault
+pub returns-in_err-v : goal.returns-in_err-v
+returns-in_err-v t c =
+    c.from_residual.ensures ∙ goes_fault _ _ _ c.if-left-eq0.false c.if-s-at.false _ c.wide-b.ensures _ c.if-b-lt128.false c.read_groups.ensures c.in_err-v.was
 
-pub returns-in-Value : goal.returns-in-Value
-returns-in-Value t c = search goes_value
+pub returns : goal.returns
+returns t c = goes_value _ _ _ c.if-left-eq0.false c.if-s-at.false _ c.wide-b.ensures _ _ _ c.if-b-lt128.false c.read_groups.ensures c.in_ok-v.was

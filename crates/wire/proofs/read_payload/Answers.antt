@@ -8,28 +8,28 @@ pub returns-then-number-eq0 : goal.returns-then-number-eq0
 unfolding payload
 returns-then-number-eq0 c = search (choices, on_varint_laws) depth 12
 
-pub returns-in-Fault : goal.returns-in-Fault
+pub returns-in-None : goal.returns-in-None
 unfolding payload
-returns-in-Fault c = search (choices, on_varint_laws) depth 12
+returns-in-None c = search (choices, on_varint_laws) depth 12
 
-pub returns-in-Value : goal.returns-in-Value
+pub returns-in-Some : goal.returns-in-Some
 unfolding payload
-returns-in-Value c = search (choices, on_varint_laws) depth 12
+returns-in-Some c = search (choices, on_varint_laws) depth 12
 
 pub returns-then-wiretype-eq1 : goal.returns-then-wiretype-eq1
 unfolding payload
 returns-then-wiretype-eq1 c = search (choices, on_varint_laws) depth 12
 
-pub read_sized-requires-in-Value-read_varint : goal.read_sized-requires-in-Value-read_varint
-read_sized-requires-in-Value-read_varint c = search in_part
+pub read_sized-requires-in-Some-read_varint : goal.read_sized-requires-in-Some-read_varint
+read_sized-requires-in-Some-read_varint c = search in_part
 
-pub returns-in-Fault-read_varint : goal.returns-in-Fault-read_varint
+pub returns-in-None-read_varint : goal.returns-in-None-read_varint
 unfolding payload
-returns-in-Fault-read_varint c = search (choices, on_varint_laws) depth 12
+returns-in-None-read_varint c = search (choices, on_varint_laws) depth 12
 
-pub returns-in-Value-read_varint : goal.returns-in-Value-read_varint
+pub returns-in-Some-read_varint : goal.returns-in-Some-read_varint
 unfolding payload
-returns-in-Value-read_varint c = search (choices, on_varint_laws) depth 12
+returns-in-Some-read_varint c = search (choices, on_varint_laws) depth 12
 
 pub returns-then-wiretype-eq5 : goal.returns-then-wiretype-eq5
 unfolding payload
