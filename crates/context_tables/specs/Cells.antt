@@ -3,7 +3,7 @@ use Rattle.std.specs.Prelude.{ℕ, suc, ◌+◌, ◌/◌, ◌%◌, ◌<◌, min,
 use Rattle.std.proofs.Math.Option.{Option, some, none}
 use Rattle.base.specs.Choose.{choose}
 use Rattle.descriptor.specs.Decode.{decode_field, decode_message}
-use Rattle.index.specs.Tree.{row_at, row_bytes}
+use Rattle.index.specs.Tree.{no_row, row_at, row_bytes}
 use Rattle.index.specs.declared.Row.{Row}
 use Rattle.message_graph.specs.Limit.{messages}
 use Rattle.message_graph.specs.Fields.{Fields, fields, message_at, type_message, label_repeated}
@@ -16,14 +16,10 @@ use Rattle.derives.specs.Can.{can_message_derive}
 use Rattle.field_columns.specs.Columns.{start_at}
 use Rattle.code_generator.specs.Oneofs.{oneof_of}
 
--- where t has what f gives below from, u has it below to
-pub record Fills (f : ℕ → ℕ) (from to : ℕ) (t u : List ℕ) : Type 0 where
-  pub further : (old : List ℕ) → Filled f old t from → Filled f old u to
-
--- a row's eight numbers from at on, as far as t goes, make u of it: where t has what f gives below at, u has it below next
+-- a row's numbers from at on, as far as t goes, make u of it: where t has what f gives below at, u has it below next
 pub record Laid (row : List ℕ) (at : ℕ) (t u : List ℕ) (next : ℕ) : Type 0 where
-  pub behind : next ≡ min (at + 8) (length t)
-  pub further : (f : ℕ → ℕ) (old : List ℕ) → ((j : ℕ) → j < 8 → get_or row j 0 ≡ f (at + j)) → Filled f old t at → Filled f old u next
+  pub behind : next ≡ min (at + length row) (length t)
+  pub further : (f : ℕ → ℕ) (old : List ℕ) → ((j : ℕ) → j < length row → get_or row j 0 ≡ f (at + j)) → Filled f old t at → Filled f old u next
 
 unfoldable pub bit : Bool → ℕ
 bit b = choose b 1 0
@@ -33,19 +29,19 @@ unfoldable pub is_set_at : List ℕ → ℕ → Bool
 is_set_at bytes i = not (eqb (get_or bytes i 0) 0)
 
 -- is message i a map entry?
-unfoldable pub entry_at : List ℕ → List ℕ → ℕ → Bool
+unfoldable pub entry_at : List ℕ → List Row → ℕ → Bool
 entry_at set rows i = (decode_message (row_bytes set (row_at rows i))).map_entry
 
 -- ---- messages: Copy, Eq, the first field, the message behind those nested in it
 
-unfoldable pub message_number : List ℕ → List ℕ → List Bool → List Bool → ℕ → ℕ → ℕ
+unfoldable pub message_number : List Row → List ℕ → List Bool → List Bool → ℕ → ℕ → ℕ
 message_number rows first copy eq i column =
     choose (eqb column 0) (bit (get_or copy i false))
     (choose (eqb column 1) (bit (get_or eq i false))
     (choose (eqb column 2) (get_or first i 0)
     (row_at rows i).after))
 
-unfoldable pub message_cell : List ℕ → List ℕ → List Bool → List Bool → ℕ → ℕ
+unfoldable pub message_cell : List Row → List ℕ → List Bool → List Bool → ℕ → ℕ
 message_cell rows first copy eq at = message_number rows first copy eq (at / 4) (at % 4)
 
 -- ---- fields: boxed by a loop, Copy, Eq; where the field's part starts and ends, and where its map entry does; its oneof
@@ -61,9 +57,9 @@ names_entry target kind label entries k =
     (choose (eqb (get_or label k 0) label_repeated) (get_or entries (message_at target k) false) false)
     false
 
-unfoldable pub entry_row : List ℕ → List ℕ → List ℕ → List ℕ → List Bool → ℕ → Row
+unfoldable pub entry_row : List Row → List ℕ → List ℕ → List ℕ → List Bool → ℕ → Row
 entry_row rows target kind label entries k =
-    choose (names_entry target kind label entries k) (row_at rows (message_at target k)) (record { start = 0; end = 0; file = 0; up = 0; after = 0 })
+    choose (names_entry target kind label entries k) (row_at rows (message_at target k)) no_row
 
 -- one more than the index of a oneof, or 0 for none; 0 where a table has no room for the number
 unfoldable pub oneof_cell : Option ℕ → ℕ
@@ -71,10 +67,10 @@ oneof_cell none = 0
 oneof_cell (some i) = choose (ltb i 65535) (suc i) 0
 
 -- that of field k, by the table of fields
-unfoldable pub oneof_at : List ℕ → List ℕ → ℕ → ℕ
+unfoldable pub oneof_at : List ℕ → List Row → ℕ → ℕ
 oneof_at set table k = oneof_cell (oneof_of (decode_field (row_bytes set (row_at table k))))
 
-module _ (set rows table target kind label : List ℕ) where
+module _ (set : List ℕ) (rows table : List Row) (target kind label : List ℕ) where
   -- the columns from 3 on
   unfoldable pub place_number : List Bool → ℕ → ℕ → ℕ
   place_number entries k column =
@@ -103,10 +99,10 @@ abbrev pub can : Derive → Fields → List Bool → List Bool
 can d f settings = tab messages (can_message_derive d f settings)
 
 -- size numbers; n is how many rows the table of fields has
-unfoldable pub message_table : ℕ → List ℕ → List ℕ → ℕ → Fields → List Bool → List ℕ
+unfoldable pub message_table : ℕ → List Row → List Row → ℕ → Fields → List Bool → List ℕ
 message_table size rows table n f settings = tab size (message_cell rows (tab messages (start_at table n)) (can Copy f settings) (can Eq f settings))
 
 -- size numbers; m is how far the table of boxes goes
-unfoldable pub field_table : ℕ → ℕ → List ℕ → List ℕ → List ℕ → Fields → List Bool → List Bool → List ℕ
+unfoldable pub field_table : ℕ → ℕ → List ℕ → List Row → List Row → Fields → List Bool → List Bool → List ℕ
 field_table size m set rows table f settings entries =
     tab size (field_cell set rows table f.target f.kind f.label (tab m (boxed_by_loop f)) settings (can Copy f settings) (can Eq f settings) entries)

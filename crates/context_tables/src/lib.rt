@@ -1,62 +1,44 @@
 //! The two tables that the text's writers read: four numbers for each message of a set, and eight for each field.
 #![tactic(auto)]
 
-ghost use Rattle.std.specs.Prelude.{◌≡◌, false, ◌+◌, ◌*◌, ◌/◌, ◌%◌, ◌<◌, ◌≤◌, length, get_or};
+ghost use Rattle.std.specs.Prelude.{◌≡◌, false, ◌<◌, ◌≤◌, length, get_or};
 ghost use Rattle.message_graph.specs.Rows.{fields_of, settings_of};
 ghost use Rattle.message_graph.specs.Boxes.{boxed_by_loop};
-ghost use Rattle.message_graph.specs.Tab.{tab, Filled};
-ghost use Rattle.descriptor.specs.Views.{number_of};
-ghost use Rattle.context_tables.specs.Cells.{Fills, Laid, bit, entry_at, oneof_cell, oneof_at, message_table, field_table};
+ghost use Rattle.message_graph.specs.Tab.{tab};
+ghost use Rattle.descriptor.specs.Seen.{option_seen};
+ghost use Rattle.context_tables.specs.Cells.{Laid, entry_at, oneof_cell, oneof_at, message_table, field_table};
 ghost use Rattle.context_tables.specs.Sources.{number_in, cell_of_message, can_at, names_entry_at, entry_row_at, number_at, cell_of_field};
 
 use derives::{Derive, Derives};
-use descriptor::Number;
-use index::Row;
+use descriptor::{FieldDescriptor, MessageHeader};
+use index::{NO_ROW, Row};
 use message_graph::{Field, LABEL_REPEATED, MESSAGES, TYPE_MESSAGE};
-
-#[tactic(auto, unfolding(crate::specs::Cells::bit, base::specs::Choose::choose))]
-fn bit(b: bool) -> u16
-    ensures { result ≡ bit b }
-{
-    if b { 1 } else { 0 }
-}
 
 // The flag that a table has at i, and false past its end.
 fn flag_at(flags: &[bool], i: usize) -> bool
     ensures { result ≡ get_or flags.now i false }
 {
-    match flags.get(i) {
-        Some(flag) => *flag,
-        None => false,
-    }
+    flags.get(i).copied().unwrap_or(false)
 }
 
 // The number that a table has at i, and 0 past its end.
 fn word_at(words: &[u16], i: usize) -> u16
     ensures { result ≡ get_or words.now i 0 }
 {
-    match words.get(i) {
-        Some(word) => *word,
-        None => 0,
-    }
+    words.get(i).copied().unwrap_or(0)
 }
 
-// Is message `i` a map entry? A row without bytes is none.
-fn entry_at(set: &[u8], rows: &[u16], i: usize) -> bool
+// Is message `i` a map entry?
+#[tactic(auto, unfolding(crate::specs::Cells::entry_at))]
+fn entry_at(set: &[u8], rows: &[Row], i: usize) -> bool
     ensures { result ≡ entry_at set.now rows.now i }
 {
-    let row = index::row_of(rows, i);
-    let start = usize::from(row.start);
-    let end = usize::from(row.end);
-    if end <= start {
-        return false;
-    }
-    descriptor::message_view(set, start, end).entry
+    MessageHeader::new(index::bytes_of(set, index::row_of(rows, i))).map_entry
 }
 
 /// For each place of `out`, whether the message with that number is a map entry.
 #[tactic(auto, using(message_graph::specs::Tab::filled_none, message_graph::specs::Tab::filled_all))]
-pub fn fill_entries(set: &[u8], rows: &[u16], out: &mut [bool])
+pub fn fill_entries(set: &[u8], rows: &[Row], out: &mut [bool])
     ensures { out.new ≡ tab (length out.old) (entry_at set.now rows.now) }
 {
     for (i, entry) in out.iter_mut().enumerate() {
@@ -65,69 +47,44 @@ pub fn fill_entries(set: &[u8], rows: &[u16], out: &mut [bool])
 }
 
 // The number for a oneof with this index: one more than that, and 0 for none.
-fn oneof_cell(index: Number) -> u16
-    ensures { result ≡ oneof_cell (number_of index) }
+#[tactic(auto, unfolding(crate::specs::Cells::oneof_cell, base::specs::Choose::choose))]
+fn oneof_cell(index: Option<u32>) -> u16
+    ensures { result ≡ oneof_cell (option_seen index) }
 {
-    if index.given && index.value < 65535 {
-        return index.value as u16 + 1;
+    match index {
+        Some(index) if index < 65535 => index as u16 + 1,
+        _ => 0,
     }
-    0
 }
 
 // What the numbers of the messages are made from: the rows of their places, the first field of each, and what each can derive.
 #[derive(Drop)]
 struct Messages<'a> {
-    rows: &'a [u16],
+    rows: &'a [Row],
     first: &'a [u16],
     can: &'a Derives,
 }
 
 impl Messages<'_> {
-    #[tactic(auto, unfolding(crate::specs::Cells::message_number, base::specs::Choose::choose))]
-    // The number in a column of message `i`: can it derive Copy, Eq; its first field; the message behind those nested in it.
-    fn number(&self, i: usize, column: usize) -> u16
-        ensures { result ≡ number_in self.now i column }
+    // The four numbers of message `i`: can it derive Copy, Eq; its first field; the message behind those nested in it.
+    fn row(&self, i: usize) -> [u16; 4]
+        ensures { result ≡ tab 4 (number_in self.now i) }
     {
-        match column {
-            0 => bit(flag_at(&self.can.copy, i)),
-            1 => bit(flag_at(&self.can.eq, i)),
-            2 => word_at(self.first, i),
-            _ => index::row_of(self.rows, i).after,
-        }
+        let copy = u16::from(flag_at(&self.can.copy, i));
+        let eq = u16::from(flag_at(&self.can.eq, i));
+        let first = word_at(self.first, i);
+        let after = index::row_of(self.rows, i).after;
+        [copy, eq, first, after]
     }
 
-    // The four numbers of message `i`, in their place.
-    fn put(&self, t: &mut [u16], i: usize)
-        requires { (i + 1) * 4 ≤ length t.old }
-        ensures { Fills (cell_of_message self.now) (i * 4) ((i + 1) * 4) t.old t.new }
-    {
-        let at = i * 4;
-        t[at] = bit(flag_at(&self.can.copy, i));
-        t[at + 1] = bit(flag_at(&self.can.eq, i));
-        t[at + 2] = word_at(self.first, i);
-        t[at + 3] = index::row_of(self.rows, i).after;
-    }
-
-    // The numbers from the place `from` on, one by one.
-    fn fill_from(&self, t: &mut [u16], from: usize)
-        requires { Filled (cell_of_message self.now) t.old t.old from }
-        ensures { t.new ≡ tab (length t.old) (cell_of_message self.now) }
-    {
-        for i in from..t.len() {
-            t[i] = self.number(i / 4, i % 4);
-        }
-    }
-
-    #[tactic(auto, using(message_graph::specs::Tab::filled_none))]
-    // The rows of the messages, by whole rows as far as the table has them.
+    // The rows of the messages.
     fn fill(&self, t: &mut [u16])
         ensures { t.new ≡ tab (length t.old) (cell_of_message self.now) }
     {
-        let whole = t.len() / 4;
-        for i in 0..whole {
-            self.put(t, i);
+        let mut at = 0;
+        while at < t.len() {
+            at = put_row(t, at, &self.row(at / 4));
         }
-        self.fill_from(t, whole * 4);
     }
 }
 
@@ -136,8 +93,8 @@ impl Messages<'_> {
 #[derive(Drop)]
 struct Fields<'a> {
     set: &'a [u8],
-    rows: &'a [u16],
-    places: &'a [u16],
+    rows: &'a [Row],
+    places: &'a [Row],
     fields: &'a [Field],
     boxed: &'a [bool],
     entries: &'a [bool],
@@ -174,36 +131,29 @@ impl Fields<'_> {
             let field = message_graph::field_at(self.fields, k);
             return index::row_of(self.rows, message_graph::place_of(field.target));
         }
-        Row {
-            start: 0,
-            end: 0,
-            file: 0,
-            up: 0,
-            after: 0,
-        }
+        NO_ROW
     }
 
+    #[tactic(auto, unfolding(crate::specs::Cells::oneof_at, crate::specs::Cells::oneof_cell, base::specs::Choose::choose))]
     // The number for the oneof of field `k`; proto3_optional takes it out of its oneof.
     fn oneof(&self, k: usize) -> u16
         ensures { result ≡ oneof_at self.now.set.now self.now.places.now k }
     {
         let row = index::row_of(self.places, k);
-        let from = usize::from(row.start);
-        let to = usize::from(row.end);
-        let view = descriptor::field_view(self.set, from, to);
-        if view.optional {
+        let field = FieldDescriptor::new(index::bytes_of(self.set, row));
+        if field.proto3_optional {
             return 0;
         }
-        oneof_cell(view.oneof)
+        oneof_cell(field.oneof_index)
     }
 
     // The eight numbers of field `k`.
     fn row(&self, k: usize) -> [u16; 8]
         ensures { result ≡ tab 8 (number_at self.now k) }
     {
-        let looped = bit(flag_at(self.boxed, k));
-        let copy = bit(self.can(Derive::Copy, &self.can.copy, k));
-        let eq = bit(self.can(Derive::Eq, &self.can.eq, k));
+        let looped = u16::from(flag_at(self.boxed, k));
+        let copy = u16::from(self.can(Derive::Copy, &self.can.copy, k));
+        let eq = u16::from(self.can(Derive::Eq, &self.can.eq, k));
         let row = index::row_of(self.places, k);
         let entry = self.entry_row(k);
         let oneof = self.oneof(k);
@@ -231,11 +181,11 @@ impl Fields<'_> {
 }
 
 // Stores a row at `at`, as far as the table goes, and answers the place behind it.
-fn put_row(t: &mut [u16], at: usize, row: &[u16; 8]) -> usize
-    requires { at < length t.old }
+fn put_row(t: &mut [u16], at: usize, row: &[u16]) -> usize
+    requires { (at < length t.old) × (length row.now ≤ 8) }
     ensures { Laid row.now at t.old t.new result }
 {
-    let behind = (at + 8).min(t.len());
+    let behind = (at + row.len()).min(t.len());
     for i in at..behind {
         t[i] = row[i - at];
     }
@@ -249,8 +199,8 @@ pub fn fill_rows(
     t: &mut [u16],
     boxed: &mut [bool],
     set: &[u8],
-    rows: &[u16],
-    places: &[u16],
+    rows: &[Row],
+    places: &[Row],
     n: usize,
     fields: &[Field],
     entries: &[bool],

@@ -4,17 +4,18 @@ use mathlib.Core.Bool.{true, false}
 use mathlib.Core.List.{List, [], ◌∷◌, ◌++◌, map, append_assoc}
 use Prim.Native.Nat.{ℕ, zero, suc, ◌+◌, ◌-◌, ◌≤◌, ◌<◌}
 use native.Mathlib.Omega.{arith}
-use lib.ListN.{length, length-append}
+use lib.ListN.{length, set, length-append}
 use borrow.Author.Tests.{ne_eqb}
 use Rattle.base.specs.Choose.{choose}
 use Rattle.descriptor.specs.Descriptor.{Bytes}
 use Rattle.descriptor.specs.Decode.{decode_message, decode_messages, decode_enum}
-use Rattle.index.specs.Tree.{Place}
+use Rattle.declarations.specs.declared.places.Place.{Place}
 use Rattle.name_rules.specs.Accessors.{text}
 use Rattle.name_rules.specs.FullNames.{◌·◌, Entry, entries}
-use Rattle.declarations.specs.Rows.{State, put, bytes_at, places, push, push_message, declaration_row, declare_enums, declare_messages}
+use Rattle.declarations.specs.Rows.{State, kind_number, bytes_at, places, push, push_message, declaration_row, declare_enums, declare_messages}
 use Rattle.declarations.specs.Listed.{name_of, full, Listed, listed_row, listed_enums, listed_entries}
-use Rattle.declarations.specs.declared.Row.{Row}
+use Rattle.declarations.specs.declared.Declaration.{Declaration as Row}
+use Rattle.declarations.specs.declared.Kind.TheVariants.{Enum, Message}
 use Rattle.declarations.proofs.PartLaws.{places_are, message_name, enum_name}
 use Rattle.declarations.proofs.GrownLaws.{Wide, Grown, grown_none, grown_more, grown_as, has, pushed, pushed_full}
 
@@ -30,32 +31,32 @@ entries_append file m (e ∷ es) fs =
 module _ (bytes : Bytes) (cap file : ℕ) where
   -- one row, its scope known
   row_pushed : (r : Row) (x : State) (scope : Bytes) (m messages : ℕ) → Wide cap x → x.rows < cap → full bytes x.table r.up ≡ scope → r.up ≤ x.rows → messages ≡ x.messages + m
-      → Grown bytes cap x (record { table = put x.table x.rows r; rows = x.rows + 1; messages = messages }) (listed_row bytes (scope · name_of bytes r) r) 1 m
+      → Grown bytes cap x (record { table = set x.table x.rows r; rows = x.rows + 1; messages = messages }) (listed_row bytes (scope · name_of bytes r) r) 1 m
   row_pushed r x scope m messages w free e h messages_is =
       grown_as bytes cap x _ _ _ 1 1 m m (pushed bytes cap x w free r h m messages messages_is) (ap (λ (s : Bytes). listed_row bytes (s · name_of bytes r) r) e) refl refl
 
   enum_shown : (up : ℕ) (p : Place) (full : Bytes)
-      → listed_row bytes full (declaration_row bytes file up 1 p) ≡ record { full = full; is_enumeration = true; number = 0; file = file; fields = [] } ∷ []
-  unfolding listed_row declaration_row choose
+      → listed_row bytes full (declaration_row bytes file up Enum p) ≡ record { full = full; is_enumeration = true; number = 0; file = file; fields = [] } ∷ []
+  unfolding listed_row declaration_row kind_number choose
   enum_shown up p full = refl
 
   enum_listed : (up : ℕ) (p : Place) (scope : Bytes)
-      → listed_row bytes (scope · name_of bytes (declaration_row bytes file up 1 p)) (declaration_row bytes file up 1 p)
+      → listed_row bytes (scope · name_of bytes (declaration_row bytes file up Enum p)) (declaration_row bytes file up Enum p)
       ≡ record { full = scope · text (decode_enum (bytes_at bytes p)).name; is_enumeration = true; number = 0; file = file; fields = [] } ∷ []
-  enum_listed up p scope = rw (enum_name bytes p file up 1) (enum_shown up p (scope · text (decode_enum (bytes_at bytes p)).name))
+  enum_listed up p scope = rw (enum_name bytes p file up Enum) (enum_shown up p (scope · text (decode_enum (bytes_at bytes p)).name))
 
   message_shown : (up m : ℕ) (p : Place) (full : Bytes)
-      → listed_row bytes full (declaration_row bytes file up (m + 2) p)
+      → listed_row bytes full (declaration_row bytes file up (Message m) p)
       ≡ record { full = full; is_enumeration = false; number = m; file = file; fields = (decode_message (bytes_at bytes p)).fields } ∷ []
-  unfolding listed_row declaration_row choose
+  unfolding listed_row declaration_row kind_number choose
   message_shown up m p full =
       let z : m + 2 - 2 ≡ m = omega arith in
       rw (ne_eqb (m + 2) 0 (λ e. omega arith), ne_eqb (m + 2) 1 (λ e. omega arith), z)
 
   message_listed : (up m : ℕ) (p : Place) (scope : Bytes)
-      → listed_row bytes (scope · name_of bytes (declaration_row bytes file up (m + 2) p)) (declaration_row bytes file up (m + 2) p)
+      → listed_row bytes (scope · name_of bytes (declaration_row bytes file up (Message m) p)) (declaration_row bytes file up (Message m) p)
       ≡ record { full = scope · text (decode_message (bytes_at bytes p)).name; is_enumeration = false; number = m; file = file; fields = (decode_message (bytes_at bytes p)).fields } ∷ []
-  message_listed up m p scope = rw (message_name bytes p file up (m + 2)) (message_shown up m p (scope · text (decode_message (bytes_at bytes p)).name))
+  message_listed up m p scope = rw (message_name bytes p file up (Message m)) (message_shown up m p (scope · text (decode_message (bytes_at bytes p)).name))
 
   pub enums_listed : (up : ℕ) (ps : List Place) (x : State) (scope : Bytes) → Wide cap x → full bytes x.table up ≡ scope → up ≤ x.rows
       → x.rows + length (listed_enums file scope (map decode_enum (map (bytes_at bytes) ps))) ≤ cap
@@ -64,7 +65,7 @@ module _ (bytes : Bytes) (cap file : ℕ) where
   unfolding declare_enums listed_enums choose declaration_row
   enums_listed up [] x scope w e h room = grown_none bytes cap x w
   enums_listed up (p ∷ ps) x scope w e h room =
-      let r : Row = declaration_row bytes file up 1 p in
+      let r : Row = declaration_row bytes file up Enum p in
       let ls : List Listed = listed_enums file scope (map decode_enum (map (bytes_at bytes) ps)) in
       let one : Grown bytes cap x (push r x) (listed_row bytes (scope · name_of bytes r) r) 1 0 = row_pushed r x scope 0 x.messages w (omega arith) e h (omega arith) in
       let rest : Grown bytes cap (push r x) (declare_enums bytes file up ps (push r x)) ls (length ls) 0 =
@@ -109,7 +110,7 @@ module _ (bytes : Bytes) (cap file : ℕ) where
 
   module _ (n up : ℕ) (p : Place) (ps : List Place) (x : State) (scope : Bytes) (w : Wide cap x) (e : full bytes x.table up ≡ scope) (h : up ≤ x.rows) where
     abbrev r : Row
-    r = declaration_row bytes file up (x.messages + 2) p
+    r = declaration_row bytes file up (Message x.messages) p
 
     abbrev scope₁ : Bytes
     scope₁ = scope · text (decode_message (bytes_at bytes p)).name
@@ -167,7 +168,7 @@ module _ (bytes : Bytes) (cap file : ℕ) where
         let free : x.rows < cap = omega arith in
         let g₁ : Grown bytes cap x x₁ a 1 1 = row_pushed r x scope 1 (x.messages + 1) w free e h refl in
         let full₁ : full bytes x₁.table (x.rows + 1) ≡ scope₁ =
-        pushed_full bytes cap x w free r h ∙ ap (λ (s : Bytes). s · name_of bytes r) e ∙ ap (λ (s : Bytes). scope · s) (message_name bytes p file up (x.messages + 2)) in
+        pushed_full bytes cap x w free r h ∙ ap (λ (s : Bytes). s · name_of bytes r) e ∙ ap (λ (s : Bytes). scope · s) (message_name bytes p file up (Message x.messages)) in
         let g₂ : Grown bytes cap x₁ x₂ b (length b) 0 = enums_listed (x.rows + 1) (places bytes 4 p) x₁ scope₁ g₁.room full₁ (omega arith) (omega arith) in
         let i = g₂.rows in
         let j = g₂.messages in

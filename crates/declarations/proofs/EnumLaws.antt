@@ -1,61 +1,47 @@
--- The loop of `declare_enums`: what holds before each record. Assumes nothing.
+-- The loop of `declare_enums`: what holds before each place. Assumes nothing.
 use mathlib.Core.Path.{◌≡◌, refl, sym, ap, ◌∙◌}
-use mathlib.Core.Bool.{Bool, true, false, not}
+use mathlib.Core.Bool.{Bool, true, false}
 use mathlib.Core.List.{List, [], ◌∷◌}
-use Prim.Native.Nat.{ℕ, ◌+◌, ◌-◌, ◌≤◌}
+use Prim.Native.Nat.{ℕ, ◌+◌, ◌≤◌}
 use native.Mathlib.Omega.{arith}
-use lib.ListN.{length}
-use borrow.Author.Tests.{not-true, not-false}
+use lib.ListN.{length, set, length-set}
 use Rattle.base.specs.Choose.{choose}
-use Rattle.wire.specs.Records.{records, part}
-use Rattle.index.specs.Tree.{Place}
-use Rattle.declarations.specs.Rows.{State, state, Became, has_room, put, push, places_of, places, declaration_row, declare_enums}
-use Rattle.declarations.specs.declared.Row.{Row}
+use Rattle.declarations.specs.Rows.{State, state, Became, has_room, declaration_row, declare_enums}
+use Rattle.declarations.specs.declared.Kind.TheVariants.{Enum}
+use Rattle.declarations.specs.declared.places.Place.{Place}
+use Rattle.declarations.specs.declared.Declaration.{Declaration as Row}
 use Rattle.declarations.specs.declared.Count.{Count}
-use Rattle.declarations.proofs.PlaceLaws.{places_all}
-use Rattle.declarations.proofs.RoomLaws.{put_length}
 
-abbrev pub held : List ℕ → ℕ → ℕ → State
-held t k messages = record { table = t; rows = k; messages = messages }
+module _ (bytes : List ℕ) (file up : ℕ) (all : State) where
+  pub record Going (size : ℕ) (ps : List Place) (t : List Row) (c : Count) : Type 0 where
+    pub long : length t ≡ size
+    pub fewer : c.messages ≤ c.rows
+    pub left : declare_enums bytes file up ps (state t c) ≡ all
 
-module _ (bytes : List ℕ) (from to number file up : ℕ) (s t₀ : List ℕ) (c : Count) where
-  abbrev all : State
-  all = declare_enums bytes file up (places bytes number (record { start = from; end = to })) (state t₀ c)
-
-  pub record Going (t : List ℕ) (at k messages : ℕ) : Type 0 where
-    pub long : length t ≡ length t₀
-    pub fewer : messages ≤ k
-    pub left : declare_enums bytes file up (places_of number from (records s at)) (held t k messages) ≡ all
-
-  pub going_start : s ≡ part bytes from (to - from) → c.messages ≤ c.rows → Going t₀ 0 c.rows c.messages
-  going_start e h = record { long = refl; fewer = h; left = ap (λ (ps : List Place). declare_enums bytes file up ps (state t₀ c)) (places_all number bytes (record { start = from; end = to }) s e) }
-
-  module _ (t : List ℕ) (at k messages : ℕ) (going : Going t at k messages) where
-    pub going_end : places_of number from (records s at) ≡ [] → Became all t (record { rows = k; messages = messages })
+  module _ (size : ℕ) (ps : List Place) (t : List Row) (c : Count) (going : Going size ps t c) where
+    pub going_end : ps ≡ [] → Became all t c
     unfolding declare_enums
-    going_end e = record { is = sym (ap (λ (ps : List Place). declare_enums bytes file up ps (held t k messages)) e) ∙ going.left; fewer = going.fewer }
+    going_end e = record { is = sym (ap (λ (ps : List Place). declare_enums bytes file up ps (state t c)) e) ∙ going.left; fewer = going.fewer }
 
-    pub going_skip : (next : ℕ) → places_of number from (records s at) ≡ places_of number from (records s next) → Going t next k messages
-    going_skip next e = record { long = going.long; fewer = going.fewer; left = sym (ap (λ (ps : List Place). declare_enums bytes file up ps (held t k messages)) e) ∙ going.left }
+    module _ (p : Place) (qs : List Place) (e : ps ≡ p ∷ qs) (r : Bool) (r_is : r ≡ has_room t c.rows) where
+      abbrev row : Row
+      row = declaration_row bytes file up Enum p
 
-    module _ (p : Place) (ps : List Place) (e : places_of number from (records s at) ≡ p ∷ ps) (r : Bool) (r_is : r ≡ has_room t k) where
-      opened : choose (has_room t k) (declare_enums bytes file up ps (push (declaration_row bytes file up 1 p) (held t k messages))) (held t k messages) ≡ all
+      opened : choose (has_room t c.rows) (declare_enums bytes file up qs (state (set t c.rows row) (record { rows = c.rows + 1; messages = c.messages }))) (state t c) ≡ all
       unfolding declare_enums
-      opened = sym (ap (λ (ps : List Place). declare_enums bytes file up ps (held t k messages)) e) ∙ going.left
+      opened = sym (ap (λ (ps : List Place). declare_enums bytes file up ps (state t c)) e) ∙ going.left
 
-      pub going_full : not r ≡ true → Became all t (record { rows = k; messages = messages })
+      pub going_full : r ≡ false → Became all t c
       unfolding choose
-      going_full h = record { is = (let z : has_room t k ≡ false = sym r_is ∙ not-true r h in rw z at opened); fewer = going.fewer }
+      going_full h = record { is = (let z : has_room t c.rows ≡ false = sym r_is ∙ h in rw z at opened); fewer = going.fewer }
 
-      pub going_more : not r ≡ false → (row : Row) → row ≡ declaration_row bytes file up 1 p → (w : List ℕ) → w ≡ put t k row
-          → (next : ℕ) → ps ≡ places_of number from (records s next) → Going w next (k + 1) messages
+      pub going_more : r ≡ true → (x : Row) → x ≡ row → Going size qs (set t c.rows x) (record { rows = c.rows + 1; messages = c.messages })
       unfolding choose
-      going_more h row row_is w w_is next ps_is =
-          let z : has_room t k ≡ true = sym r_is ∙ not-false r h in
+      going_more h x x_is =
+          let z : has_room t c.rows ≡ true = sym r_is ∙ h in
           let f = going.fewer in
-          let w_as : w ≡ put t k (declaration_row bytes file up 1 p) = w_is ∙ ap (put t k) row_is in
           record {
-            long = ap length w_is ∙ put_length t k row ∙ going.long;
+            long = length-set t c.rows x ∙ going.long;
             fewer = omega arith;
-            left = rw (w_as, ← ps_is) (rw z at opened);
+            left = rw x_is (rw z at opened);
           }

@@ -7,9 +7,10 @@ use lib.Dec.{ltb}
 use borrow.Author.Tests.{ltb-false, le-ltb}
 use Rattle.base.specs.Choose.{choose, choose_case}
 use Rattle.name_rules.specs.FullNames.{◌·◌}
-use Rattle.declarations.specs.Rows.{row_at, put}
+use lib.ListN.{set}
+use Rattle.declarations.specs.Rows.{row_at}
 use Rattle.declarations.specs.Listed.{name_of, above, full_by, full, listed_row, listed, Listed}
-use Rattle.declarations.specs.declared.Row.{Row}
+use Rattle.declarations.specs.declared.Declaration.{Declaration as Row}
 use Rattle.declarations.proofs.TableLaws.{row_before}
 
 pub above_before : (i : ℕ) (r : Row) → above i r ≤ i
@@ -19,7 +20,7 @@ pub above_is : (i : ℕ) (r : Row) → r.up ≤ i → above i r ≡ r.up
 unfolding choose
 above_is i r h = rw (le-ltb i r.up h)
 
-module _ (bytes t : List ℕ) where
+module _ (bytes : List ℕ) (t : List Row) where
   enough : (n m k : ℕ) → k ≤ n → k ≤ m → full_by bytes t n k ≡ full_by bytes t m k
   unfolding full_by
   enough zero zero k a b = refl
@@ -43,8 +44,8 @@ module _ (bytes t : List ℕ) where
       ap (λ (scope : List ℕ). scope · name_of bytes (row_at t i)) (enough i (above i (row_at t i)) (above i (row_at t i)) l (omega arith))
 
 -- one row more
-module _ (bytes t : List ℕ) (b : ℕ) (r : Row) where
-  full_by_put : (n k : ℕ) → k ≤ b → full_by bytes (put t b r) n k ≡ full_by bytes t n k
+module _ (bytes : List ℕ) (t : List Row) (b : ℕ) (r : Row) where
+  full_by_put : (n k : ℕ) → k ≤ b → full_by bytes (set t b r) n k ≡ full_by bytes t n k
   unfolding full_by
   full_by_put zero k h = refl
   full_by_put (suc n) zero h = refl
@@ -52,11 +53,11 @@ module _ (bytes t : List ℕ) (b : ℕ) (r : Row) where
       let l = above_before i (row_at t i) in
       rw (row_before t b r i (omega arith)) (ap (λ (scope : List ℕ). scope · name_of bytes (row_at t i)) (full_by_put n (above i (row_at t i)) (omega arith)))
 
-  pub full_put : (k : ℕ) → k ≤ b → full bytes (put t b r) k ≡ full bytes t k
+  pub full_put : (k : ℕ) → k ≤ b → full bytes (set t b r) k ≡ full bytes t k
   unfolding full
   full_put k h = full_by_put k k h
 
-  pub listed_put : (n : ℕ) → n ≤ b → listed bytes (put t b r) n ≡ listed bytes t n
+  pub listed_put : (n : ℕ) → n ≤ b → listed bytes (set t b r) n ≡ listed bytes t n
   unfolding listed
   listed_put zero h = refl
   listed_put (suc n) h = rw (row_before t b r n (omega arith), full_put (suc n) h) (ap (λ (l : List Listed). l ++ listed_row bytes (full bytes t (suc n)) (row_at t n)) (listed_put n (omega arith)))

@@ -2,23 +2,23 @@
 use mathlib.Core.Path.{◌≡◌, refl, sym, ap, ◌∙◌}
 use mathlib.Core.Bool.{true}
 use mathlib.Core.List.{List, [], ◌++◌, append-nil, append_assoc}
-use Prim.Native.Nat.{ℕ, suc, ◌+◌, ◌*◌, ◌≤◌, ◌<◌}
+use Prim.Native.Nat.{ℕ, suc, ◌+◌, ◌≤◌, ◌<◌}
 use native.Mathlib.Numerals.{add-one}
 use native.Mathlib.Omega.{arith}
-use lib.ListN.{length}
+use lib.ListN.{length, set, length-set}
 use Rattle.descriptor.specs.Descriptor.{Bytes}
 use Rattle.name_rules.specs.FullNames.{◌·◌}
-use Rattle.declarations.specs.Rows.{State, row_at, has_room, put}
+use Rattle.declarations.specs.Rows.{State, row_at, has_room}
 use Rattle.declarations.specs.Listed.{name_of, full, Listed, listed_row, listed}
-use Rattle.declarations.specs.declared.Row.{Row}
-use Rattle.declarations.proofs.RoomLaws.{room_there, put_length}
+use Rattle.declarations.specs.declared.Declaration.{Declaration as Row}
+use Rattle.declarations.proofs.RoomLaws.{room_there}
 use Rattle.declarations.proofs.TableLaws.{row_here}
 use Rattle.declarations.proofs.FullLaws.{above_is, full_step, full_put, listed_put}
 
 -- room for cap rows in all
 pub record Wide (cap : ℕ) (x : State) : Type 0 where
   pub small : cap ≤ 65536
-  pub wide : cap * 7 ≤ length x.table
+  pub wide : cap ≤ length x.table
 
 -- y has n rows more than x, which list ls, and m messages more
 pub record Grown (bytes : Bytes) (cap : ℕ) (x y : State) (ls : List Listed) (n m : ℕ) : Type 0 where
@@ -49,25 +49,25 @@ module _ (bytes : Bytes) (cap : ℕ) (x : State) (w : Wide cap x) (free : x.rows
   pub has : has_room x.table x.rows ≡ true
   has = let a = w.small in let b = w.wide in room_there x.table x.rows (omega arith) (omega arith)
 
-  there : row_at (put x.table x.rows r) x.rows ≡ r
+  there : row_at (set x.table x.rows r) x.rows ≡ r
   there = let a = w.small in let b = w.wide in row_here x.table x.rows r (omega arith) (omega arith)
 
-  pub pushed_full : full bytes (put x.table x.rows r) (x.rows + 1) ≡ full bytes x.table r.up · name_of bytes r
+  pub pushed_full : full bytes (set x.table x.rows r) (x.rows + 1) ≡ full bytes x.table r.up · name_of bytes r
   pushed_full =
       rw add-one
-      (full_step bytes (put x.table x.rows r) x.rows
+      (full_step bytes (set x.table x.rows r) x.rows
       ∙ rw (there, above_is x.rows r up) (ap (λ (scope : Bytes). scope · name_of bytes r) (full_put bytes x.table x.rows r r.up up)))
 
-  pub pushed_lists : listed bytes (put x.table x.rows r) (x.rows + 1) ≡ listed bytes x.table x.rows ++ listed_row bytes (full bytes x.table r.up · name_of bytes r) r
+  pub pushed_lists : listed bytes (set x.table x.rows r) (x.rows + 1) ≡ listed bytes x.table x.rows ++ listed_row bytes (full bytes x.table r.up · name_of bytes r) r
   unfolding listed
   pushed_lists =
-      let e : full bytes (put x.table x.rows r) (suc x.rows) ≡ full bytes x.table r.up · name_of bytes r = rw add-one at pushed_full in
+      let e : full bytes (set x.table x.rows r) (suc x.rows) ≡ full bytes x.table r.up · name_of bytes r = rw add-one at pushed_full in
       rw (add-one, e, there, listed_put bytes x.table x.rows r x.rows (omega arith))
 
   pub pushed : (m messages : ℕ) → messages ≡ x.messages + m
-      → Grown bytes cap x (record { table = put x.table x.rows r; rows = x.rows + 1; messages = messages }) (listed_row bytes (full bytes x.table r.up · name_of bytes r) r) 1 m
+      → Grown bytes cap x (record { table = set x.table x.rows r; rows = x.rows + 1; messages = messages }) (listed_row bytes (full bytes x.table r.up · name_of bytes r) r) 1 m
   pushed m messages e =
-      let l = put_length x.table x.rows r in
+      let l = length-set x.table x.rows r in
       let b = w.wide in
       record {
         room = record { small = w.small; wide = omega arith };

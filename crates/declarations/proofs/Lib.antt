@@ -1,3 +1,4 @@
+pub mod PartLaws
 pub mod PlaceLaws
 pub mod RoomLaws
 pub mod LengthLaws
@@ -6,7 +7,6 @@ pub mod MessageLaws
 pub mod FileLaws
 pub mod TableLaws
 pub mod FullLaws
-pub mod PartLaws
 pub mod GrownLaws
 pub mod DecodedLaws
 pub mod SetLaws

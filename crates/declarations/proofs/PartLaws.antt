@@ -9,7 +9,7 @@ use lib.Dec.{eqb}
 use Rattle.base.specs.Choose.{choose, choose_case}
 use Rattle.wire.specs.Records.{records, part}
 use Rattle.wire.specs.Contents.{field_of, value_of, payload_of}
-use Rattle.wire.proofs.RecordsLaws.{In, AllIn, records_in}
+use Rattle.wire.proofs.RecordsLaws.{In, AllIn, records_in, length_part}
 use Rattle.wire.specs.declared.Record.{Record}
 use Rattle.wire.specs.declared.Step.{Step}
 use Rattle.wire.specs.declared.Step.TheVariants.{End, Fault, Found}
@@ -20,13 +20,16 @@ use Rattle.descriptor.proofs.ViewLaws.{bytes_of}
 use Rattle.descriptor.proofs.ViewTheorems.{part_part, message_name_is, enum_name_is, file_package_is}
 use Rattle.descriptor.specs.declared.Latest.{Latest}
 use Rattle.descriptor.specs.declared.Text.{Text}
-use Rattle.index.specs.Places.{end_in, inside}
-use Rattle.index.specs.Tree.{Place, place}
+use Rattle.declarations.specs.declared.places.Place.{Place}
 use Rattle.name_rules.specs.Accessors.{text}
-use Rattle.declarations.specs.Rows.{bytes_at, places_of, places, package_of, declaration_row}
+use Rattle.declarations.specs.Rows.{bytes_at, end_in, place, places_of, places, package_of, declaration_row}
+use Rattle.declarations.specs.declared.Kind.{Kind}
 use Rattle.declarations.specs.Listed.{name_of}
 
 -- the bytes inside a record
+abbrev inside : List ℕ → Record → List ℕ
+inside s f = part s f.start (end_in f - f.start)
+
 inside_is : (s : List ℕ) (f : Record) → inside s f ≡ bytes_in (value_of s f)
 unfolding end_in choose
 inside_is s f =
@@ -40,6 +43,14 @@ inside_is s f =
 end_before : (n : ℕ) (f : Record) → In n f → (f.start ≤ end_in f) × (end_in f ≤ n)
 unfolding end_in
 end_before n f l = choose_case (λ (e : ℕ). (f.start ≤ e) × (e ≤ n)) (eqb f.wiretype 2) (λ _. (l.from, l.to)) (λ _. let a = l.from in let c = l.to in (omega arith, omega arith))
+
+-- an embedded message ends behind its bytes
+pub inside_length : (s : List ℕ) (f : Record) → In (length s) f → f.start + length (bytes_in (value_of s f)) ≡ end_in f
+inside_length s f l =
+    let e = end_before (length s) f l in
+    let a : f.start ≤ end_in f = e.0 in
+    let n : length (bytes_in (value_of s f)) ≡ end_in f - f.start = ap length (sym (inside_is s f)) ∙ length_part s f.start (end_in f) e.1 in
+    omega arith
 
 by_number : (bytes : List ℕ) (b : Bool) (p : Place) (ps : List Place) (x : List ℕ) (xs : List (List ℕ)) → bytes_at bytes p ≡ x → map (bytes_at bytes) ps ≡ xs
     → map (bytes_at bytes) (choose b (p ∷ ps) ps) ≡ choose b (x ∷ xs) xs
@@ -84,7 +95,7 @@ text_there bytes base x n = go (given_at x n)
     go true = refl
     go false = refl
 
-module _ (bytes : List ℕ) (p : Place) (file up kind : ℕ) where
+module _ (bytes : List ℕ) (p : Place) (file up : ℕ) (kind : Kind) where
   pub message_name : name_of bytes (declaration_row bytes file up kind p) ≡ text (decode_message (bytes_at bytes p)).name
   unfolding declaration_row name_in message_in
   message_name = text_there bytes p.start (latest_of (bytes_at bytes p)) 1 ∙ ap text (message_name_is bytes p.start (p.end - p.start))

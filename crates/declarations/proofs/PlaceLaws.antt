@@ -1,51 +1,75 @@
--- The embedded messages from a position on, one record on. Assumes nothing.
-use mathlib.Core.Path.{◌≡◌, ap, ◌∙◌}
+-- The places that the records of a message give, one after the other, are those by their positions. Assumes nothing.
+use mathlib.Core.Path.{◌≡◌, refl, ap, ◌∙◌}
+use mathlib.Core.Bool.{Bool, true, false}
 use mathlib.Core.List.{List, [], ◌∷◌}
-use Prim.Native.Nat.{ℕ, ◌+◌, ◌-◌, ◌≤◌}
+use Prim.Native.Nat.{ℕ, ◌+◌, ◌-◌, ◌≤◌, ◌^◌, ◌<◌}
+use native.Mathlib.Nat.{min-le_right}
 use native.Mathlib.Omega.{arith}
-use lib.ListN.{length}
-use borrow.Author.Tests.{eq-eqb, ne_eqb}
+use lib.ListN.{length, drop, length-take, length-drop}
+use lib.Dec.{eqb}
 use Rattle.base.specs.Choose.{choose}
-use Rattle.wire.specs.Step.{step_at}
 use Rattle.wire.specs.Records.{records, part}
-use Rattle.wire.proofs.StepLaws.{Lies, lies}
-use Rattle.wire.proofs.RecordsLaws.{records_end, records_fault, records_found, length_part}
+use Rattle.wire.specs.Contents.{value_of, field_of}
+use Rattle.std.specs.Prelude.{Result, Ok, Err}
+use Rattle.wire.specs.Message.{Entry, records_at}
+use Rattle.wire.proofs.MessageLaws.{records_bound}
+use Rattle.wire.specs.declared.records.record.Fault.{Fault as FaultAt}
+use Rattle.wire.proofs.RecordsLaws.{In, AllIn, records_in}
+use Rattle.wire.proofs.SameRecords.{listed, same_records}
 use Rattle.wire.specs.declared.Record.{Record}
 use Rattle.wire.specs.declared.Step.{Step}
 use Rattle.wire.specs.declared.Step.TheVariants.{End, Fault, Found}
-use Rattle.index.specs.Tree.{Place}
-use Rattle.index.specs.Places.{end_in}
-use Rattle.declarations.specs.Rows.{places_of, places}
+use Rattle.descriptor.specs.Decode.{bytes_in}
+use Rattle.declarations.specs.Rows.{bytes_at, place, places_of, places}
+use Rattle.declarations.specs.Places.{place_in, places_in}
+use Rattle.declarations.specs.declared.places.Place.{Place}
+use Rattle.declarations.proofs.PartLaws.{inside_length}
 
-module _ (number base : ℕ) (s : List ℕ) (at : ℕ) (r : Step) (e : r ≡ step_at s at) where
-  pub places_end : r ≡ End → places_of number base (records s at) ≡ []
-  unfolding places_of
-  places_end is = rw (records_end s at r e is)
+by_number : (b : Bool) (p q : Place) (ps qs : List Place) → p ≡ q → ps ≡ qs → choose b (p ∷ ps) ps ≡ choose b (q ∷ qs) qs
+by_number b p q ps qs e f = rw (e, f) refl
 
-  pub places_fault : (key : ℕ) → r ≡ Fault key → places_of number base (records s at) ≡ []
-  unfolding places_of
-  places_fault key is = rw (records_fault s at r e key is)
+module _ (number base : ℕ) (s : List ℕ) where
+  same_place : (f : Record) → In (length s) f → ◌≡◌ {A = Place} (record { start = base + f.start; end = base + f.start + length (bytes_in (value_of s f)) }) (place base f)
+  same_place f l =
+      let e = inside_length s f l in
+      ap (λ (n : ℕ). record { start = base + f.start; end = n }) (omega arith)
 
-  module _ (f : Record) (is : r ≡ Found f) where
-    pub places_skip : (f.number ≡ number → ⊥) → places_of number base (records s at) ≡ places_of number base (records s f.next)
-    unfolding places_of choose
-    places_skip ne = rw (records_found s at r e f is, ne_eqb f.number number ne)
+  listed_places : (rs : List Step) → AllIn (length s) rs → places_in number (listed base s rs) ≡ places_of number base rs
+  unfolding places_in places_of listed field_of
+  listed_places [] h = refl
+  listed_places (End ∷ rs) h = refl
+  listed_places (Fault key ∷ rs) h = refl
+  listed_places (Found f ∷ rs) h = by_number (eqb f.number number) _ _ _ _ (same_place f h.0) (listed_places rs h.1)
 
-    pub places_found : f.number ≡ number → (end : ℕ) → end ≡ end_in f
-        → places_of number base (records s at) ≡ record { start = base + f.start; end = base + end } ∷ places_of number base (records s f.next)
-    unfolding places_of choose
-    places_found q end end_is = rw (records_found s at r e f is, eq-eqb f.number number q, end_is)
-
--- those of a place, where its bytes are s
-pub places_all : (number : ℕ) (bytes : List ℕ) (p : Place) (s : List ℕ) → s ≡ part bytes p.start (p.end - p.start) → places_of number p.start (records s 0) ≡ places bytes number p
+pub places_read : (number : ℕ) (bytes : List ℕ) (p : Place) → places_in number (records_at p.start (bytes_at bytes p)) ≡ places bytes number p
 unfolding places
-places_all number bytes p s e = ap (λ (x : List ℕ). places_of number p.start (records x 0)) e
+places_read number bytes p =
+    let s : List ℕ = bytes_at bytes p in
+    ap (places_in number) (same_records p.start s) ∙ listed_places number p.start s (records s 0) (records_in s 0)
 
--- a record of a part of the set lies in the set
-module _ (bytes : List ℕ) (from to : ℕ) (s : List ℕ) (s_is : s ≡ part bytes from (to - from)) (a : from ≤ to) (b : to ≤ length bytes)
-    (at : ℕ) (r : Step) (f : Record) (e : r ≡ step_at s at) (is : r ≡ Found f) (end : ℕ) (c : end ≤ f.next) where
-  pub inside_set : from + end ≤ length bytes
-  inside_set =
-      let l : Lies (length s) at f = lies s at r f e is in
-      let n : length s ≡ to - from = ap length s_is ∙ length_part bytes from to b in
-      omega arith
+picked_bound : (number : ℕ) (rs : List (Result Entry FaultAt)) → length (places_in number rs) ≤ length rs
+unfolding places_in choose
+picked_bound number [] = omega arith
+picked_bound number (Ok e ∷ rs) =
+    elim (eqb e.field.number number) as (λ t. length (choose t (place_in e ∷ places_in number rs) (places_in number rs)) ≤ length (Ok e ∷ rs))
+    [ true ↦ omega (arith, picked_bound number rs) | false ↦ omega (arith, picked_bound number rs) ]
+picked_bound number (Err f ∷ rs) = omega (arith, picked_bound number rs)
+
+-- a set has no more of them than bytes
+pub places_bound : (number : ℕ) (bytes : List ℕ) (p : Place) → length (places bytes number p) ≤ length bytes
+places_bound number bytes p =
+    let s : List ℕ = bytes_at bytes p in
+    let few = picked_bound number (records_at p.start s) in
+    let short = records_bound p.start s in
+    let e = length-take (p.end - p.start) (drop p.start bytes) in
+    let l = length-drop p.start bytes in
+    let m = min-le_right (p.end - p.start) (length (drop p.start bytes)) in
+    rw (← places_read number bytes p) (omega arith)
+
+-- a part ends within the bytes, where it has any
+pub part_within : (bytes : List ℕ) (a n : ℕ) → a < 2 ^ 64 → length bytes < 2 ^ 64 → a + length (part bytes a n) < 2 ^ 64
+part_within bytes a n small short =
+    let e = length-take n (drop a bytes) in
+    let l = length-drop a bytes in
+    let m = min-le_right n (length (drop a bytes)) in
+    omega arith

@@ -3,7 +3,7 @@ use mathlib.Core.Path.{◌≡◌, refl, sym, ap, ◌∙◌}
 use mathlib.Core.Bool.{Bool, true, false}
 use mathlib.Core.List.{List, [], ◌∷◌, ◌++◌, map, append-nil, append_assoc}
 use mathlib.Core.Option.{some, none}
-use Prim.Native.Nat.{ℕ, ◌+◌, ◌*◌, ◌≤◌, ◌<◌}
+use Prim.Native.Nat.{ℕ, ◌+◌, ◌≤◌, ◌<◌}
 use native.Mathlib.Omega.{arith}
 use lib.ListN.{length, length-append}
 use Rattle.base.specs.Choose.{choose}
@@ -12,12 +12,12 @@ use Rattle.wire.specs.Records.{part}
 use Rattle.descriptor.specs.Descriptor.{Bytes, FileDescriptor}
 use Rattle.descriptor.specs.Decode.{parts, decode_messages, decode_enum, decode_file, decode_set}
 use Rattle.descriptor.specs.Decode as decode
-use Rattle.index.specs.Tree.{Place}
+use Rattle.declarations.specs.declared.places.Place.{Place}
 use Rattle.name_rules.specs.FullNames.{◌·◌, package_scope}
 use Rattle.name_rules.proofs.ViewedLaws.{whole_part}
-use Rattle.declarations.specs.Rows.{State, has_room, bytes_at, places, push, package_of, package_row, declare_enums, declare_messages, declare_members, declare_file, declare_files, declared, no_rows}
+use Rattle.declarations.specs.Rows.{State, kind_number, has_room, bytes_at, places, push, package_of, package_row, declare_enums, declare_messages, declare_members, declare_file, declare_files, declared, no_rows}
 use Rattle.declarations.specs.Listed.{name_of, full, Listed, listed_row, listed, listed_enums, listed_entries, file_entries, listed_file, listed_files}
-use Rattle.declarations.specs.declared.Row.{Row}
+use Rattle.declarations.specs.declared.Declaration.{Declaration as Row}
 use Rattle.declarations.proofs.RoomLaws.{room_there}
 use Rattle.declarations.proofs.FullLaws.{full_none}
 use Rattle.declarations.proofs.PartLaws.{places_are, package_is}
@@ -64,7 +64,7 @@ module _ (bytes : Bytes) (cap file : ℕ) (p : Place) where
         (grown_more bytes cap x x₁ _ a b (length a) (length (file_entries f)) (length b) 0 g₁ g₂) refl (sym sizes) (omega arith)
 
   package_listed : (full : Bytes) → listed_row bytes full (package_row bytes file p) ≡ []
-  unfolding listed_row package_row choose
+  unfolding listed_row package_row kind_number choose
   package_listed full = refl
 
   abbrev L : ℕ → List Listed
@@ -130,7 +130,7 @@ unfolding decode_set
 set_files bytes = ap (map decode_file) (places_are bytes 1 (record { start = 0; end = length bytes }) ∙ ap (λ (s : Bytes). parts 1 (decode.entries s)) (whole_part bytes))
 
 -- the law: a table with room for a row of each file and of each declaration lists them all
-pub set_listed : (bytes : Bytes) (t : List ℕ) (cap : ℕ) → cap ≤ 65536 → cap * 7 ≤ length t
+pub set_listed : (bytes : Bytes) (t : List Row) (cap : ℕ) → cap ≤ 65536 → cap ≤ length t
     → length (decode_set bytes) + length (listed_files 0 0 (decode_set bytes)) ≤ cap
     → listed bytes (declared bytes t).table (declared bytes t).rows ≡ listed_files 0 0 (decode_set bytes)
 unfolding declared listed
@@ -164,7 +164,7 @@ module _ (bytes : Bytes) (cap : ℕ) where
       (rest.0, (let r = rest.1 in omega arith))
 
 -- a table with one row more has room for it in the end
-pub set_room : (bytes : Bytes) (t : List ℕ) (n : ℕ) → n + 1 ≤ 65536 → (n + 1) * 7 ≤ length t → length (decode_set bytes) + length (listed_files 0 0 (decode_set bytes)) ≤ n
+pub set_room : (bytes : Bytes) (t : List Row) (n : ℕ) → n + 1 ≤ 65536 → n + 1 ≤ length t → length (decode_set bytes) + length (listed_files 0 0 (decode_set bytes)) ≤ n
     → (has_room (declared bytes t).table (declared bytes t).rows ≡ true) × ((declared bytes t).rows ≤ n)
 unfolding declared
 set_room bytes t n small wide room =

@@ -7,8 +7,8 @@ use Rattle.descriptor.specs.Decode.{decode_message}
 use Rattle.name_rules.specs.Accessors.{text}
 use Rattle.base.specs.Bytes.{same}
 use Rattle.name_rules.specs.FullNames.{◌·◌, package_scope, Entry, entries, Declaration}
-use Rattle.declarations.specs.Rows.{row_at}
-use Rattle.declarations.specs.declared.Row.{Row}
+use Rattle.declarations.specs.Rows.{row_at, kind_number}
+use Rattle.declarations.specs.declared.Declaration.{Declaration as Row}
 
 -- a row's own name
 abbrev pub name_of : Bytes → Row → Bytes
@@ -19,12 +19,12 @@ abbrev pub above : ℕ → Row → ℕ
 above i r = choose (ltb i r.up) 0 r.up
 
 -- the full name with the code k: nothing for 0, that of row i for suc i. A chain of rows has no more than k
-unfoldable pub full_by : Bytes → List ℕ → ℕ → ℕ → Bytes
+unfoldable pub full_by : Bytes → List Row → ℕ → ℕ → Bytes
 full_by bytes t zero k = []
 full_by bytes t (suc n) zero = []
 full_by bytes t (suc n) (suc i) = full_by bytes t n (above i (row_at t i)) · name_of bytes (row_at t i)
 
-unfoldable pub full : Bytes → List ℕ → ℕ → Bytes
+unfoldable pub full : Bytes → List Row → ℕ → Bytes
 full bytes t k = full_by bytes t k k
 
 pub record Listed : Type 0 where
@@ -37,18 +37,18 @@ pub record Listed : Type 0 where
 -- a row's: none of a package, of an enum no number and no fields
 unfoldable pub listed_row : Bytes → Bytes → Row → List Listed
 listed_row bytes full r =
-    choose (eqb r.kind 0) []
-    (choose (eqb r.kind 1) (record { full = full; is_enumeration = true; number = 0; file = r.file; fields = [] } ∷ [])
+    choose (eqb (kind_number r.kind) 0) []
+    (choose (eqb (kind_number r.kind) 1) (record { full = full; is_enumeration = true; number = 0; file = r.file; fields = [] } ∷ [])
     (record {
       full = full;
       is_enumeration = false;
-      number = r.kind - 2;
+      number = kind_number r.kind - 2;
       file = r.file;
       fields = (decode_message (part bytes r.start (r.end - r.start))).fields;
     } ∷ []))
 
 -- those of the first n rows
-unfoldable pub listed : Bytes → List ℕ → ℕ → List Listed
+unfoldable pub listed : Bytes → List Row → ℕ → List Listed
 listed bytes t zero = []
 listed bytes t (suc n) = listed bytes t n ++ listed_row bytes (full bytes t (suc n)) (row_at t n)
 

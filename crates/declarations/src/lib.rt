@@ -1,303 +1,248 @@
-// The declarations of a set: a table of its messages and enums in declaration order, with what each stands in.
+//! The declarations of a set: a table of its messages and enums in declaration order, with what each stands in.
 #![tactic(auto)]
 
-ghost use Rattle.std.specs.Prelude.{◌≡◌, true, false, ℕ, ◌+◌, ◌*◌, ◌-◌, ◌<◌, ◌≤◌, length};
-ghost use Rattle.index.specs.Places.{end_in};
-ghost use Rattle.declarations.specs.Rows.{cell_at, has_room, put, push_message, state, Became, places, declaration_row, declare_enums, declare_messages, declare_members, declare_file, declared};
+ghost use Rattle.std.specs.Prelude.{◌≡◌, true, ℕ, ◌+◌, ◌<◌, ◌≤◌, length};
+ghost use Rattle.declarations.specs.Rows.{row_at, has_room, kind_number, push_message, state, Became, places, declaration_row, declare_enums, declare_messages, declare_members, declare_file, declared};
 
-use wire::{Record, Step};
+use places::{Place, Places};
 
-// A row: where its name starts in the set, and its length; what it stands in (0, or one more than the row of that); the
-// index of its file; its kind (0 for a package, 1 for an enum, 2 and its number in declaration order for a message); and
-// where its bytes lie.
-#[derive(Drop)]
-pub struct Row {
+pub mod places;
+
+/// What a row declares: a file's package, an enum, or the message with a number in declaration order. No table has room for
+/// more messages than such a number counts.
+#[derive(Clone, Copy)]
+pub enum Kind {
+    Package,
+    Enum,
+    Message(u16),
+}
+
+/// A row: what it declares; where its name starts in the set, and its length; what it stands in (0, or one more than the
+/// row of that); the index of its file; and where its bytes lie.
+#[derive(Clone, Copy)]
+pub struct Declaration {
+    pub kind: Kind,
     pub name: usize,
     pub len: usize,
     pub up: usize,
     pub file: usize,
-    pub kind: usize,
     pub start: usize,
     pub end: usize,
 }
 
-// How many rows there are, and how many of them are messages.
+/// What a table has past its end.
+pub const NO_DECLARATION: Declaration = Declaration {
+    kind: Kind::Package,
+    name: 0,
+    len: 0,
+    up: 0,
+    file: 0,
+    start: 0,
+    end: 0,
+};
+
+/// How many rows there are, and how many of them are messages.
 #[derive(Clone, Copy)]
 pub struct Count {
     pub rows: usize,
     pub messages: usize,
 }
 
-// Column `c` of row `i`, 0 where the table has none.
-pub fn cell(t: &[usize], i: usize, c: usize) -> usize
-    ensures { result ≡ cell_at t.now i c }
+impl Kind {
+    /// The number of a kind: 0 for a package, 1 for an enum, 2 and its number for a message.
+    #[tactic(auto, unfolding(crate::specs::Rows::kind_number))]
+    pub fn number(self) -> usize
+        ensures { result ≡ kind_number self }
+    {
+        match self {
+            Kind::Package => 0,
+            Kind::Enum => 1,
+            Kind::Message(number) => usize::from(number) + 2,
+        }
+    }
+}
+
+/// The row with number `i`. No table has a row past 65,535.
+#[tactic(auto, unfolding(crate::specs::Rows::row_at, base::specs::Choose::choose))]
+pub fn row_at(rows: &[Declaration], i: usize) -> Declaration
+    ensures { result ≡ row_at rows.now i }
 {
     if 65535 < i {
-        return 0;
+        return NO_DECLARATION;
     }
-    if 6 < c {
-        return 0;
+    match rows.get(i) {
+        Some(row) => *row,
+        None => NO_DECLARATION,
     }
-    let first = i * 7;
-    let at = first + c;
-    if at < t.len() {
-        return t[at];
-    }
-    0
 }
 
 // Is there room for row `i`?
-fn room_for(t: &[usize], i: usize) -> bool
-    ensures { result ≡ has_room t.now i }
+#[tactic(auto, unfolding(crate::specs::Rows::has_room, base::specs::Choose::choose))]
+fn has_room(rows: &[Declaration], i: usize) -> bool
+    ensures { result ≡ has_room rows.now i }
 {
     if 65535 < i {
         return false;
     }
-    let first = i * 7;
-    let last = first + 6;
-    last < t.len()
+    i < rows.len()
 }
 
-fn put_row(t: &mut [usize], i: usize, r: Row)
-    requires { (i < 65536) × (i * 7 + 6 < length t.old) }
-    ensures { t.new ≡ put t.old i r }
+#[tactic(auto, unfolding(crate::specs::Rows::declaration_row))]
+fn declaration_row(set: &[u8], place: Place, file: usize, up: usize, kind: Kind) -> Declaration
+    ensures { result ≡ declaration_row set.now file up kind place }
 {
-    let a = i * 7;
-    let b = a + 1;
-    let c = b + 1;
-    let d = c + 1;
-    let e = d + 1;
-    let f = e + 1;
-    let g = f + 1;
-    t[a] = r.name;
-    t[b] = r.len;
-    t[c] = r.up;
-    t[d] = r.file;
-    t[e] = r.kind;
-    t[f] = r.start;
-    t[g] = r.end;
-}
-
-// Where the bytes of an embedded message end: one of another wire type has none.
-fn end_of(f: Record) -> usize
-    requires { f.start ≤ f.next }
-    ensures { (result ≡ end_in f) × (f.start ≤ result) × (result ≤ f.next) }
-{
-    if f.wiretype == 2 {
-        return f.next;
-    }
-    f.start
-}
-
-fn declaration_row(set: &[u8], start: usize, end: usize, file: usize, up: usize, kind: usize) -> Row
-    ensures { result ≡ declaration_row set.now file up kind (record { start = start; end = end }) }
-{
-    let name = descriptor::name_view(set, start, end);
-    Row {
+    let name = descriptor::name_view(set, place.start, place.end);
+    Declaration {
+        kind,
         name: name.start,
         len: name.len,
         up,
         file,
-        kind,
-        start,
-        end,
+        start: place.start,
+        end: place.end,
     }
 }
 
-// The enums with this field number of the part from `from` to `to`.
+// The enums with this field number of the message at a place.
 fn declare_enums(
     set: &[u8],
-    from: usize,
-    to: usize,
+    part: Place,
     number: u64,
     file: usize,
     up: usize,
-    t: &mut [usize],
-    c: Count,
+    rows: &mut [Declaration],
+    counted: Count,
 ) -> Count
-    requires { (from ≤ to) × (to ≤ length set.now) × (c.messages ≤ c.rows) }
-    ensures { Became (declare_enums set.now file up (places set.now number (record { start = from; end = to })) (state t.old c)) t.new result }
+    requires { counted.messages ≤ counted.rows }
+    ensures { Became (declare_enums set.now file up (places set.now number part) (state rows.old counted)) rows.new result }
 {
-    let s = descriptor::part_of(set, from, to);
-    let messages = c.messages;
-    let mut at: usize = 0;
-    let mut k = c.rows;
-    loop {
-        match wire::read_step(s, at) {
-            Step::End => return Count { rows: k, messages },
-            Step::Fault(_) => return Count { rows: k, messages },
-            Step::Found(f) => {
-                at = f.next;
-                if f.number == number {
-                    if !room_for(t, k) {
-                        return Count { rows: k, messages };
-                    }
-                    let inner = end_of(f);
-                    let start = from + f.start;
-                    let end = from + inner;
-                    put_row(t, k, declaration_row(set, start, end, file, up, 1));
-                    k = k + 1;
-                }
-            }
+    let mut count = counted;
+    for place in Places::new(set, part, number) {
+        let row = count.rows;
+        if !has_room(rows, row) {
+            return count;
         }
+        rows[row] = declaration_row(set, place, file, up, Kind::Enum);
+        count.rows = row + 1;
     }
+    count
 }
 
 // The message at this place in the next row, and its enums.
 fn declare_message(
     set: &[u8],
-    start: usize,
-    end: usize,
+    place: Place,
     file: usize,
     up: usize,
-    t: &mut [usize],
-    c: Count,
+    rows: &mut [Declaration],
+    count: Count,
 ) -> Count
-    requires start_le_end { (start ≤ end) × (end ≤ length set.now) × (c.messages ≤ c.rows) }
-    requires rows_value { has_room t.old c.rows ≡ true }
-    ensures { Became (declare_enums set.now file (c.rows + 1) (places set.now 4 (record { start = start; end = end })) (push_message (declaration_row set.now file up (c.messages + 2) (record { start = start; end = end })) (state t.old c))) t.new result }
+    requires counted { count.messages ≤ count.rows }
+    requires room { has_room rows.old count.rows ≡ true }
+    ensures { Became (declare_enums set.now file (count.rows + 1) (places set.now 4 place) (push_message (declaration_row set.now file up (Kind.Message count.messages) place) (state rows.old count))) rows.new result }
 {
-    let k = c.rows;
-    let m = c.messages;
-    let kind = m + 2;
-    let rows = k + 1;
-    let messages = m + 1;
-    put_row(t, k, declaration_row(set, start, end, file, up, kind));
-    let first = Count { rows, messages };
-    declare_enums(set, start, end, 4, file, rows, t, first)
+    let kind = Kind::Message(count.messages as u16);
+    rows[count.rows] = declaration_row(set, place, file, up, kind);
+    let own = Count {
+        rows: count.rows + 1,
+        messages: count.messages + 1,
+    };
+    declare_enums(set, place, 4, file, own.rows, rows, own)
 }
 
-// The messages with this field number of the part from `from` to `to`, with what is nested in them in so many levels.
+// The messages with this field number of the message at a place, with what is nested in them in so many levels.
 fn declare_messages(
     set: &[u8],
-    from: usize,
-    to: usize,
+    part: Place,
     number: u64,
     left: usize,
     file: usize,
     up: usize,
-    t: &mut [usize],
-    c: Count,
+    rows: &mut [Declaration],
+    counted: Count,
 ) -> Count
-    requires { (from ≤ to) × (to ≤ length set.now) × (c.messages ≤ c.rows) }
-    ensures { Became (declare_messages set.now file left up (places set.now number (record { start = from; end = to })) (state t.old c)) t.new result }
+    requires { counted.messages ≤ counted.rows }
+    ensures { Became (declare_messages set.now file left up (places set.now number part) (state rows.old counted)) rows.new result }
 {
     if left == 0 {
-        return c;
+        return counted;
     }
-    let s = descriptor::part_of(set, from, to);
-    let mut at: usize = 0;
-    let mut d = c;
-    loop {
-        match wire::read_step(s, at) {
-            Step::End => return d,
-            Step::Fault(_) => return d,
-            Step::Found(f) => {
-                at = f.next;
-                if f.number == number {
-                    if !room_for(t, d.rows) {
-                        return d;
-                    }
-                    let start = from + f.start;
-                    let end = from + end_of(f);
-                    let own = declare_message(set, start, end, file, up, t, d);
-                    d = declare_messages(set, start, end, 3, left - 1, file, d.rows + 1, t, own);
-                }
-            }
+    let mut count = counted;
+    for place in Places::new(set, part, number) {
+        let row = count.rows;
+        if !has_room(rows, row) {
+            return count;
         }
+        let own = declare_message(set, place, file, up, rows, count);
+        count = declare_messages(set, place, 3, left - 1, file, row + 1, rows, own);
     }
+    count
 }
 
 // The messages and the enums of a file.
+#[tactic(auto, using(crate::proofs::FileLaws::members_are))]
 fn declare_members(
     set: &[u8],
-    start: usize,
-    end: usize,
+    part: Place,
     file: usize,
     up: usize,
-    t: &mut [usize],
-    c: Count,
+    rows: &mut [Declaration],
+    count: Count,
 ) -> Count
-    requires { (start ≤ end) × (end ≤ length set.now) × (c.messages ≤ c.rows) }
-    ensures { Became (declare_members set.now file up (record { start = start; end = end }) (state t.old c)) t.new result }
+    requires { count.messages ≤ count.rows }
+    ensures { Became (declare_members set.now file up part (state rows.old count)) rows.new result }
 {
-    let messages = declare_messages(set, start, end, 4, 16, file, up, t, c);
-    declare_enums(set, start, end, 5, file, up, t, messages)
+    let messages = declare_messages(set, part, 4, 16, file, up, rows, count);
+    declare_enums(set, part, 5, file, up, rows, messages)
 }
 
 fn declare_file(
     set: &[u8],
-    start: usize,
-    end: usize,
+    part: Place,
     file: usize,
-    t: &mut [usize],
-    c: Count,
+    rows: &mut [Declaration],
+    count: Count,
 ) -> Count
-    requires { (start ≤ end) × (end ≤ length set.now) × (c.messages ≤ c.rows) }
-    ensures { Became (declare_file set.now file (record { start = start; end = end }) (state t.old c)) t.new result }
+    requires { count.messages ≤ count.rows }
+    ensures { Became (declare_file set.now file part (state rows.old count)) rows.new result }
 {
-    let package = descriptor::file_view(set, start, end).package;
-    if package.given {
-        let k = c.rows;
-        if !room_for(t, k) {
-            return c;
-        }
-        let row = Row {
-            name: package.start,
-            len: package.len,
-            up: 0,
-            file,
-            kind: 0,
-            start,
-            end,
-        };
-        let rows = k + 1;
-        put_row(t, k, row);
-        let first = Count {
-            rows,
-            messages: c.messages,
-        };
-        return declare_members(set, start, end, file, rows, t, first);
+    let package = descriptor::file_view(set, part.start, part.end).package;
+    if !package.given {
+        return declare_members(set, part, file, 0, rows, count);
     }
-    declare_members(set, start, end, file, 0, t, c)
+    if !has_room(rows, count.rows) {
+        return count;
+    }
+    rows[count.rows] = Declaration {
+        kind: Kind::Package,
+        name: package.start,
+        len: package.len,
+        up: 0,
+        file,
+        start: part.start,
+        end: part.end,
+    };
+    let own = Count {
+        rows: count.rows + 1,
+        messages: count.messages,
+    };
+    declare_members(set, part, file, own.rows, rows, own)
 }
 
-// The table of a set's declarations. Where it is too short, the rows from there on are left out.
-pub fn declare_set(set: &[u8], t: &mut [usize]) -> Count
-    ensures { Became (declared set.now t.old) t.new result }
+/// The table of a set's declarations. Where it is too short, the rows from there on are left out.
+pub fn declare_set(set: &[u8], rows: &mut [Declaration]) -> Count
+    ensures { Became (declared set.now rows.old) rows.new result }
 {
-    let mut at: usize = 0;
-    let mut file: usize = 0;
-    let mut k: usize = 0;
-    let mut m: usize = 0;
-    loop {
-        match wire::read_step(set, at) {
-            Step::End => {
-                return Count {
-                    rows: k,
-                    messages: m,
-                };
-            }
-            Step::Fault(_) => {
-                return Count {
-                    rows: k,
-                    messages: m,
-                };
-            }
-            Step::Found(f) => {
-                at = f.next;
-                if f.number == 1 {
-                    let end = end_of(f);
-                    let before = Count {
-                        rows: k,
-                        messages: m,
-                    };
-                    let next = declare_file(set, f.start, end, file, t, before);
-                    k = next.rows;
-                    m = next.messages;
-                    file = file + 1;
-                }
-            }
-        }
+    let whole = Place {
+        start: 0,
+        end: set.len(),
+    };
+    let mut count = Count {
+        rows: 0,
+        messages: 0,
+    };
+    for (file, part) in Places::new(set, whole, 1).enumerate() {
+        count = declare_file(set, part, file, rows, count);
     }
+    count
 }

@@ -1,5 +1,5 @@
 -- A field's view and its type, and the loop of `undeclared_by`. Assumes nothing.
-use mathlib.Core.Path.{◌≡◌, ap, ◌∙◌}
+use mathlib.Core.Path.{◌≡◌, refl, ap, ◌∙◌}
 use mathlib.Core.Bool.{Bool, true, false, not}
 use mathlib.Core.List.{List}
 use Prim.Native.Nat.{ℕ, suc, ◌+◌, ◌-◌, ◌≤◌, ◌<◌}
@@ -16,11 +16,13 @@ use Rattle.descriptor.specs.Views as view
 use Rattle.descriptor.specs.declared.FieldView.{FieldView}
 use Rattle.name_rules.specs.Accessors.{or_else, text, type}
 use Rattle.name_rules.proofs.ViewedLaws.{field_is}
-use Rattle.declarations.specs.Rows.{cell_at}
+use Rattle.declarations.specs.Rows.{row_at, kind_number}
+use Rattle.declarations.specs.declared.Kind.TheVariants.{Package, Enum, Message}
+use Rattle.declarations.specs.declared.Declaration.{Declaration as Row}
 use Rattle.type_names.specs.LookUp.{declared_before}
 use Rattle.declared_types.specs.Undeclared.{found, type_known, row_good, undeclared_from, first_undeclared_row}
 
-module _ (bytes t : List ℕ) (count : ℕ) (s : List ℕ) (v : FieldView) (v_is : v ≡ view.field_in 0 (part s 0 (length s - 0)))
+module _ (bytes : List ℕ) (t : List Row) (count : ℕ) (s : List ℕ) (v : FieldView) (v_is : v ≡ view.field_in 0 (part s 0 (length s - 0)))
     (k : ℕ) (k_is : k ≡ or_else 1 (number_of v.kind)) (name : List ℕ) (name_is : name ≡ text (text_of s v.typename)) where
   seen : view.field_of s v ≡ decode_field s
   seen = field_is s v v_is
@@ -49,26 +51,30 @@ module _ (bytes t : List ℕ) (count : ℕ) (s : List ℕ) (v : FieldView) (v_is
   unfolding type_known choose
   known_other n m o = rw (← type_as, ne_eqb k 11 n, ne_eqb k 10 m, ne_eqb k 14 o)
 
-module _ (bytes t : List ℕ) (count i kind : ℕ) (kind_is : kind ≡ cell_at t i 4) where
-  pub good_package : kind ≡ 0 → true ≡ row_good bytes t count i
-  unfolding row_good choose
-  good_package e = rw (← kind_is, eq-eqb kind 0 e)
+module _ (bytes : List ℕ) (t : List Row) (count i : ℕ) (r : Row) (r_is : r ≡ row_at t i) where
+  pub good_package : r.kind ≡ Package → true ≡ row_good bytes t count i
+  unfolding row_good kind_number choose
+  good_package e = rw (← r_is, e)
 
-  module _ (n : kind ≡ 0 → ⊥) (b : Bool) (b_is : b ≡ declared_before bytes t i) where
-    pub good_before : b ≡ true → false ≡ row_good bytes t count i
-    unfolding row_good choose
-    good_before e = rw (← kind_is, ne_eqb kind 0 n, ← b_is, e)
+  module _ (b : Bool) (b_is : b ≡ declared_before bytes t i) where
+    pub good_enum : r.kind ≡ Enum → not b ≡ row_good bytes t count i
+    unfolding row_good kind_number choose
+    good_enum e = rw (← r_is, e, ← b_is) (by b)
+      where
+        by : (b : Bool) → not b ≡ choose b false true
+        by true = refl
+        by false = refl
 
-    pub good_enum : b ≡ false → kind ≡ 1 → true ≡ row_good bytes t count i
-    unfolding row_good choose
-    good_enum e o = rw (← kind_is, ne_eqb kind 0 n, ← b_is, e, eq-eqb kind 1 o)
+    module _ (n : ℕ) (e : r.kind ≡ Message n) where
+      pub good_before : b ≡ true → false ≡ row_good bytes t count i
+      unfolding row_good kind_number choose
+      good_before h = rw (← r_is, e, ← b_is, h, ne_eqb (n + 2) 0 (λ q. omega arith))
 
-    pub good_message : b ≡ false → (kind ≡ 1 → ⊥) → (start end : ℕ) → start ≡ cell_at t i 5 → end ≡ cell_at t i 6 → (s : List ℕ) → s ≡ part bytes start (end - start)
-        → (r : Bool) → r ≡ all (type_known bytes t count) (parts 2 (entries s)) → r ≡ row_good bytes t count i
-    unfolding row_good choose
-    good_message e o start end start_is end_is s s_is r h = rw (← kind_is, ne_eqb kind 0 n, ← b_is, e, ne_eqb kind 1 o, ← start_is, ← end_is, ← s_is) h
+      pub good_message : b ≡ false → (s : List ℕ) → s ≡ part bytes r.start (r.end - r.start) → (x : Bool) → x ≡ all (type_known bytes t count) (parts 2 (entries s)) → x ≡ row_good bytes t count i
+      unfolding row_good kind_number choose
+      good_message h s s_is x x_is = rw (← r_is, e, ← b_is, h, ne_eqb (n + 2) 0 (λ q. omega arith), ne_eqb (n + 2) 1 (λ q. omega arith), ← s_is) x_is
 
-module _ (bytes t : List ℕ) (count : ℕ) where
+module _ (bytes : List ℕ) (t : List Row) (count : ℕ) where
   pub record Going (i : ℕ) : Type 0 where
     pub inside : i ≤ count
     pub left : undeclared_from bytes t count (count - i) i ≡ first_undeclared_row bytes t count
@@ -83,11 +89,11 @@ module _ (bytes t : List ℕ) (count : ℕ) where
     going_end h files e = let z : count - i ≡ 0 = omega arith in e ∙ (rw z at going.left)
 
     module _ (h : i < count) (r : Bool) (r_is : r ≡ row_good bytes t count i) where
-      opened : choose r (undeclared_from bytes t count (count - (i + 1)) (i + 1)) (cell_at t i 3) ≡ first_undeclared_row bytes t count
+      opened : choose r (undeclared_from bytes t count (count - (i + 1)) (i + 1)) (row_at t i).file ≡ first_undeclared_row bytes t count
       unfolding undeclared_from
       opened = let z : count - i ≡ suc (count - (i + 1)) = omega arith in rw r_is (rw z at going.left)
 
-      pub going_bad : not r ≡ true → (file : ℕ) → file ≡ cell_at t i 3 → file ≡ first_undeclared_row bytes t count
+      pub going_bad : not r ≡ true → (file : ℕ) → file ≡ (row_at t i).file → file ≡ first_undeclared_row bytes t count
       unfolding choose
       going_bad e file f = let z = not-true r e in f ∙ (rw z at opened)
 

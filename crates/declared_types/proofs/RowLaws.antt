@@ -12,9 +12,9 @@ use Rattle.base.specs.Choose.{choose}
 use Rattle.descriptor.specs.Descriptor.{Bytes, FieldDescriptor}
 use Rattle.name_rules.specs.Accessors.{text, type}
 use Rattle.name_rules.specs.FullNames.{Declaration, declared, declared_as, equals, type_declared}
-use Rattle.declarations.specs.Rows.{cell_at, row_at}
+use Rattle.declarations.specs.Rows.{row_at, kind_number}
 use Rattle.declarations.specs.Listed.{full, Listed, listed_row, listed, declaration_of}
-use Rattle.declarations.specs.declared.Row.{Row}
+use Rattle.declarations.specs.declared.Declaration.{Declaration as Row}
 use Rattle.type_names.specs.LookUp.{named, wanted, fits, find_from, find_row, same_row, before_by, declared_before}
 use Rattle.type_names.proofs.FreshLaws.{declared_append}
 use Rattle.declared_types.specs.Undeclared.{found, field_known}
@@ -38,11 +38,11 @@ as_append e x (d ∷ ds) es =
     or_assoc false b c = refl
 
 -- n rows from row i on
-unfoldable pub listed_from : Bytes → List ℕ → ℕ → ℕ → List Listed
+unfoldable pub listed_from : Bytes → List Row → ℕ → ℕ → List Listed
 listed_from bytes t zero i = []
 listed_from bytes t (suc n) i = listed_row bytes (full bytes t (suc i)) (row_at t i) ++ listed_from bytes t n (i + 1)
 
-module _ (bytes t : List ℕ) where
+module _ (bytes : List ℕ) (t : List Row) where
   pub listed_split : (n i : ℕ) → listed bytes t (i + n) ≡ listed bytes t i ++ listed_from bytes t n i
   unfolding listed listed_from
   listed_split zero i = ap (listed bytes t) (let z : i + 0 ≡ i = omega arith in z) ∙ sym (append-nil (listed bytes t i))
@@ -65,20 +65,20 @@ or_false true = refl
 or_false false = refl
 
 module _ (bytes : Bytes) (name F : Bytes) (r : Row) where
-  row_none : (e : Bool) → r.kind ≡ 0 → declared_as e name (D (listed_row bytes F r)) ≡ choose (wanted (sort_of e) r.kind) (same F name) false
+  row_none : (e : Bool) → (kind_number r.kind) ≡ 0 → declared_as e name (D (listed_row bytes F r)) ≡ choose (wanted (sort_of e) (kind_number r.kind)) (same F name) false
   unfolding declared_as listed_row wanted choose
   row_none true z = rw z refl
   row_none false z = rw z refl
 
-  row_enum : (e : Bool) → r.kind ≡ 1 → declared_as e name (D (listed_row bytes F r)) ≡ choose (wanted (sort_of e) r.kind) (same F name) false
+  row_enum : (e : Bool) → (kind_number r.kind) ≡ 1 → declared_as e name (D (listed_row bytes F r)) ≡ choose (wanted (sort_of e) (kind_number r.kind)) (same F name) false
   unfolding declared_as listed_row wanted choose
   row_enum true z = rw z (or_false (same F name))
   row_enum false z = rw z refl
 
-  row_message : (e : Bool) → 2 ≤ r.kind → declared_as e name (D (listed_row bytes F r)) ≡ choose (wanted (sort_of e) r.kind) (same F name) false
+  row_message : (e : Bool) → 2 ≤ (kind_number r.kind) → declared_as e name (D (listed_row bytes F r)) ≡ choose (wanted (sort_of e) (kind_number r.kind)) (same F name) false
   unfolding declared_as listed_row wanted choose
-  row_message true z = rw (ne_eqb r.kind 0 (λ q. omega arith), ne_eqb r.kind 1 (λ q. omega arith)) refl
-  row_message false z = rw (ne_eqb r.kind 0 (λ q. omega arith), ne_eqb r.kind 1 (λ q. omega arith), le-ltb r.kind 2 z) (or_false (same F name))
+  row_message true z = rw (ne_eqb (kind_number r.kind) 0 (λ q. omega arith), ne_eqb (kind_number r.kind) 1 (λ q. omega arith)) refl
+  row_message false z = rw (ne_eqb (kind_number r.kind) 0 (λ q. omega arith), ne_eqb (kind_number r.kind) 1 (λ q. omega arith), le-ltb (kind_number r.kind) 2 z) (or_false (same F name))
 
 -- a kind is one of three
 pub by_kind {ℓ} : {A : Type ℓ} (k : ℕ) → (k ≡ 0 → A) → (k ≡ 1 → A) → (2 ≤ k → A) → A
@@ -88,19 +88,15 @@ by_kind {A = A} k f g h =
       | false ↦ (λ e. elim (eqb k 1) as (λ t. eqb k 1 ≡ t → A) [ true ↦ (λ q. g (eqb-true k 1 q)) | false ↦ (λ q. let a = eqb-false k 0 e in let b = eqb-false k 1 q in h (omega arith)) ] refl)
     ] refl
 
-row_as : (bytes : Bytes) (name F : Bytes) (r : Row) (e : Bool) → declared_as e name (D (listed_row bytes F r)) ≡ choose (wanted (sort_of e) r.kind) (same F name) false
-row_as bytes name F r e = by_kind r.kind (row_none bytes name F r e) (row_enum bytes name F r e) (row_message bytes name F r e)
+row_as : (bytes : Bytes) (name F : Bytes) (r : Row) (e : Bool) → declared_as e name (D (listed_row bytes F r)) ≡ choose (wanted (sort_of e) (kind_number r.kind)) (same F name) false
+row_as bytes name F r e = by_kind (kind_number r.kind) (row_none bytes name F r e) (row_enum bytes name F r e) (row_message bytes name F r e)
 
-module _ (bytes t : List ℕ) where
-  kind_is : (i : ℕ) → (row_at t i).kind ≡ cell_at t i 4
-  unfolding row_at
-  kind_is i = refl
-
+module _ (bytes : List ℕ) (t : List Row) where
   row_fits : (name : Bytes) (e : Bool) (i : ℕ) → i < 65536 → declared_as e name (D (listed_row bytes (full bytes t (suc i)) (row_at t i))) ≡ fits bytes t name (sort_of e) i
   unfolding fits named choose
   row_fits name e i h =
       row_as bytes name (full bytes t (suc i)) (row_at t i) e
-      ∙ rw (kind_is i, le-ltb 65535 i (omega arith), add-one)
+      ∙ rw (le-ltb 65535 i (omega arith), add-one)
 
   found_from : (name : Bytes) (e : Bool) (n i : ℕ) → i + n ≤ 65536 → declared_as e name (D (listed_from bytes t n i)) ≡ ltb (find_from bytes t name (sort_of e) n i) (i + n)
   unfolding listed_from find_from declared_as choose
@@ -136,10 +132,10 @@ module _ (bytes t : List ℕ) where
       (choose (eqb (type f) 14) (declared_as true (text f.type_name) (D (listed bytes t count))) true)))
 
   -- a full name declared before
-  row_before : (x F : Bytes) (r : Row) → declared x (D (listed_row bytes F r)) ≡ choose (eqb r.kind 0) false (same F x)
+  row_before : (x F : Bytes) (r : Row) → declared x (D (listed_row bytes F r)) ≡ choose (eqb (kind_number r.kind) 0) false (same F x)
   unfolding declared listed_row choose
-  row_before x F r = by_kind r.kind (λ z. rw z refl) (λ z. rw z (or_false (same F x)))
-      (λ z. rw (ne_eqb r.kind 0 (λ q. omega arith), ne_eqb r.kind 1 (λ q. omega arith)) (or_false (same F x)))
+  row_before x F r = by_kind (kind_number r.kind) (λ z. rw z refl) (λ z. rw z (or_false (same F x)))
+      (λ z. rw (ne_eqb (kind_number r.kind) 0 (λ q. omega arith), ne_eqb (kind_number r.kind) 1 (λ q. omega arith)) (or_false (same F x)))
 
   swapped : (a b : Bool) → choose a true b ≡ (b || a)
   unfolding choose
@@ -154,7 +150,7 @@ module _ (bytes t : List ℕ) where
   before_is i (suc n) =
       rw (before_is i n)
       (swapped (same_row bytes t i n) (declared (full bytes t (i + 1)) (D (listed bytes t n)))
-      ∙ ap (λ (b : Bool). declared (full bytes t (i + 1)) (D (listed bytes t n)) || b) (sym (row_before (full bytes t (i + 1)) (full bytes t (suc n)) (row_at t n) ∙ (let z : n + 1 ≡ suc n = omega arith in rw (kind_is n, z))))
+      ∙ ap (λ (b : Bool). declared (full bytes t (i + 1)) (D (listed bytes t n)) || b) (sym (row_before (full bytes t (i + 1)) (full bytes t (suc n)) (row_at t n) ∙ (let z : n + 1 ≡ suc n = omega arith in rw z)))
       ∙ sym (declared_append (full bytes t (i + 1)) (D (listed bytes t n)) (D (listed_row bytes (full bytes t (suc n)) (row_at t n))))
       ∙ ap (declared (full bytes t (i + 1))) (sym (D_append (listed bytes t n) (listed_row bytes (full bytes t (suc n)) (row_at t n)))))
 

@@ -13,9 +13,9 @@ use Rattle.descriptor.specs.Descriptor.{Bytes, FileDescriptor}
 use Rattle.descriptor.specs.Decode.{entries, parts, decode_field, decode_message, decode_file, decode_set}
 use Rattle.name_rules.specs.FullNames.{Declaration, declared, type_declared, set_declarations, first_undeclared}
 use Rattle.name_rules.specs.Answer.{first_seven}
-use Rattle.declarations.specs.Rows.{cell_at, row_at, declared as declared_table}
+use Rattle.declarations.specs.Rows.{row_at, kind_number, declared as declared_table}
 use Rattle.declarations.specs.Listed.{full, Listed, listed_row, listed, listed_files}
-use Rattle.declarations.specs.declared.Row.{Row}
+use Rattle.declarations.specs.declared.Declaration.{Declaration as Row}
 use Rattle.declarations.proofs.ListedLaws.{files_declared}
 use Rattle.declarations.proofs.SetLaws.{set_listed}
 use Rattle.declared_types.specs.Undeclared.{type_known, row_good, undeclared_from, first_undeclared_row}
@@ -33,7 +33,7 @@ unfolding choose
 not_and true c = refl
 not_and false c = refl
 
-module _ (bytes t : List ℕ) (count : ℕ) (few : count ≤ 65536) where
+module _ (bytes : List ℕ) (t : List Row) (count : ℕ) (few : count ≤ 65536) where
   abbrev ds : List Declaration
   ds = D (listed bytes t count)
 
@@ -59,31 +59,31 @@ module _ (bytes t : List ℕ) (count : ℕ) (few : count ≤ 65536) where
     before = D (listed bytes t i)
 
     Step : Type 0
-    Step = choose (row_good bytes t count i) (bad_file ds files (D (listed bytes t i ++ listed_row bytes F r)) ks) (cell_at t i 3) ≡ bad_file ds files before (listed_row bytes F r ++ ks)
+    Step = choose (row_good bytes t count i) (bad_file ds files (D (listed bytes t i ++ listed_row bytes F r)) ks) (row_at t i).file ≡ bad_file ds files before (listed_row bytes F r ++ ks)
 
-    package_step : r.kind ≡ 0 → Step
-    unfolding Step row_good listed_row choose row_at
+    package_step : kind_number r.kind ≡ 0 → Step
+    unfolding Step row_good listed_row choose
     package_step z = rw (z, append-nil (listed bytes t i))
 
-    enum_step : r.kind ≡ 1 → Step
-    unfolding Step row_good listed_row choose row_at bad_file all
-    enum_step z = rw (z, declared_before_is bytes t i small, not_and (declared F before) true) (ap (λ (b : List Declaration). choose (not (declared F before) && true) (bad_file ds files b ks) (cell_at t i 3)) (D_append (listed bytes t i) _))
+    enum_step : kind_number r.kind ≡ 1 → Step
+    unfolding Step row_good listed_row choose bad_file all
+    enum_step z = rw (z, declared_before_is bytes t i small, not_and (declared F before) true) (ap (λ (b : List Declaration). choose (not (declared F before) && true) (bad_file ds files b ks) (row_at t i).file) (D_append (listed bytes t i) _))
 
-    message_step : 2 ≤ r.kind → Step
-    unfolding Step row_good listed_row choose row_at bad_file
+    message_step : 2 ≤ kind_number r.kind → Step
+    unfolding Step row_good listed_row choose bad_file
     message_step z =
-        rw (ne_eqb (cell_at t i 4) 0 (λ q. omega arith), ne_eqb (cell_at t i 4) 1 (λ q. omega arith), declared_before_is bytes t i small, fields_known (part bytes (cell_at t i 5) (cell_at t i 6 - cell_at t i 5)), not_and (declared F before) (all (type_declared ds) (decode_message (part bytes (cell_at t i 5) (cell_at t i 6 - cell_at t i 5))).fields))
-        (ap (λ (b : List Declaration). choose (not (declared F before) && all (type_declared ds) (decode_message (part bytes (cell_at t i 5) (cell_at t i 6 - cell_at t i 5))).fields) (bad_file ds files b ks) (cell_at t i 3)) (D_append (listed bytes t i) _))
+        rw (ne_eqb (kind_number (row_at t i).kind) 0 (λ q. omega arith), ne_eqb (kind_number (row_at t i).kind) 1 (λ q. omega arith), declared_before_is bytes t i small, fields_known (part bytes (row_at t i).start ((row_at t i).end - (row_at t i).start)), not_and (declared F before) (all (type_declared ds) (decode_message (part bytes (row_at t i).start ((row_at t i).end - (row_at t i).start))).fields))
+        (ap (λ (b : List Declaration). choose (not (declared F before) && all (type_declared ds) (decode_message (part bytes (row_at t i).start ((row_at t i).end - (row_at t i).start))).fields) (bad_file ds files b ks) (row_at t i).file) (D_append (listed bytes t i) _))
 
     row_step : Step
-    row_step = by_kind r.kind package_step enum_step message_step
+    row_step = by_kind (kind_number r.kind) package_step enum_step message_step
 
   rows_bad : (n i : ℕ) → i + n ≤ 65536 → undeclared_from bytes t count n i ≡ bad_file ds files (D (listed bytes t i)) (listed_from bytes t n i)
   unfolding undeclared_from listed_from bad_file listed Step
   rows_bad zero i h = refl
   rows_bad (suc n) i h =
       let z : i + 1 ≡ suc i = omega arith in
-      ap (λ (x : ℕ). choose (row_good bytes t count i) x (cell_at t i 3))
+      ap (λ (x : ℕ). choose (row_good bytes t count i) x (row_at t i).file)
       (rows_bad n (i + 1) (omega arith) ∙ ap (λ (k : ℕ). bad_file ds files (D (listed bytes t k)) (listed_from bytes t n (i + 1))) z)
       ∙ row_step i (omega arith) (listed_from bytes t n (i + 1))
 
@@ -96,7 +96,7 @@ module _ (bytes t : List ℕ) (count : ℕ) (few : count ≤ 65536) where
       ∙ ap (λ (x : List Declaration). first_undeclared x [] fs) names
 
 -- refusal 7 of a set, by the table of its declarations
-pub first_undeclared_is : (bytes t : List ℕ) (cap : ℕ) → cap ≤ 65536 → cap * 7 ≤ length t
+pub first_undeclared_is : (bytes : List ℕ) (t : List Row) (cap : ℕ) → cap ≤ 65536 → cap ≤ length t
     → length (decode_set bytes) + length (listed_files 0 0 (decode_set bytes)) ≤ cap
     → first_undeclared_row bytes (declared_table bytes t).table (declared_table bytes t).rows ≡ first_seven (decode_set bytes)
 unfolding decode_set

@@ -9,6 +9,7 @@ ghost use Rattle.descriptor.specs.Decode.{entries, parts};
 ghost use Rattle.type_names.specs.LookUp.{find_row, row_sums};
 ghost use Rattle.declared_types.specs.Undeclared.{type_known, row_good, first_undeclared_row};
 
+use declarations::{Declaration, Kind};
 use descriptor::{Number, Text};
 use parts::Parts;
 
@@ -32,75 +33,81 @@ fn given_bytes(s: &[u8], x: Text) -> &[u8]
     &s[0..0]
 }
 
-fn is_found(set: &[u8], t: &[usize], count: usize, sums: &[u64], name: &[u8], sort: usize) -> bool
-    requires { sums.now ≡ row_sums set.now t.now (length sums.now) }
-    ensures { result ≡ ltb (find_row set.now t.now name.now sort count) count }
+fn is_found(
+    set: &[u8],
+    rows: &[Declaration],
+    count: usize,
+    sums: &[u64],
+    name: &[u8],
+    sort: usize,
+) -> bool
+    requires { sums.now ≡ row_sums set.now rows.now (length sums.now) }
+    ensures { result ≡ ltb (find_row set.now rows.now name.now sort count) count }
 {
-    let row = type_names::find_row(set, t, count, sums, name, sort);
+    let row = type_names::find_row(set, rows, count, sums, name, sort);
     row < count
 }
 
 // Is the type name of the field with these bytes declared, where it needs one: of a message (11) or group (10) as a message,
 // of an enum (14) as an enum?
-fn type_good(s: &[u8], set: &[u8], t: &[usize], count: usize, sums: &[u64]) -> bool
-    requires { sums.now ≡ row_sums set.now t.now (length sums.now) }
-    ensures { result ≡ type_known set.now t.now count s.now }
+fn type_good(s: &[u8], set: &[u8], rows: &[Declaration], count: usize, sums: &[u64]) -> bool
+    requires { sums.now ≡ row_sums set.now rows.now (length sums.now) }
+    ensures { result ≡ type_known set.now rows.now count s.now }
 {
     let end = s.len();
     let v = descriptor::field_view(s, 0, end);
     let kind = type_of(v.kind);
     let name = given_bytes(s, v.typename);
     if kind == 11 {
-        return is_found(set, t, count, sums, name, 2);
+        return is_found(set, rows, count, sums, name, 2);
     }
     if kind == 10 {
-        return is_found(set, t, count, sums, name, 2);
+        return is_found(set, rows, count, sums, name, 2);
     }
     if kind == 14 {
-        return is_found(set, t, count, sums, name, 1);
+        return is_found(set, rows, count, sums, name, 1);
     }
     true
 }
 
 // Those of all fields of the message with these bytes?
 #[tactic(auto, unfolding(base::specs::Lists::all))]
-fn types_good(s: &[u8], set: &[u8], t: &[usize], count: usize, sums: &[u64]) -> bool
-    requires { sums.now ≡ row_sums set.now t.now (length sums.now) }
-    ensures { result ≡ all (type_known set.now t.now count) (parts 2 (entries s.now)) }
+fn types_good(s: &[u8], set: &[u8], rows: &[Declaration], count: usize, sums: &[u64]) -> bool
+    requires { sums.now ≡ row_sums set.now rows.now (length sums.now) }
+    ensures { result ≡ all (type_known set.now rows.now count) (parts 2 (entries s.now)) }
 {
-    Parts::new(s, 2).all(|field| type_good(field, set, t, count, sums))
+    Parts::new(s, 2).all(|field| type_good(field, set, rows, count, sums))
 }
 
 // Is a row without refusal 7?
-fn is_row_good(set: &[u8], t: &[usize], count: usize, sums: &[u64], row: usize) -> bool
-    requires { sums.now ≡ row_sums set.now t.now (length sums.now) }
-    ensures { result ≡ row_good set.now t.now count row }
+fn is_row_good(set: &[u8], rows: &[Declaration], count: usize, sums: &[u64], row: usize) -> bool
+    requires { sums.now ≡ row_sums set.now rows.now (length sums.now) }
+    ensures { result ≡ row_good set.now rows.now count row }
 {
-    let kind = declarations::cell(t, row, 4);
-    if kind == 0 {
-        return true;
+    let declaration = declarations::row_at(rows, row);
+    match declaration.kind {
+        Kind::Package => true,
+        Kind::Enum => !type_names::declared_before(set, rows, sums, row),
+        Kind::Message(_) => {
+            if type_names::declared_before(set, rows, sums, row) {
+                return false;
+            }
+            let part = descriptor::part_of(set, declaration.start, declaration.end);
+            types_good(part, set, rows, count, sums)
+        }
     }
-    if type_names::declared_before(set, t, sums, row) {
-        return false;
-    }
-    if kind == 1 {
-        return true;
-    }
-    let start = declarations::cell(t, row, 5);
-    let end = declarations::cell(t, row, 6);
-    types_good(descriptor::part_of(set, start, end), set, t, count, sums)
 }
 
 // The file of the first of so many rows with refusal 7, given the checksums of the rows.
-fn undeclared_by(set: &[u8], t: &[usize], count: usize, sums: &[u64]) -> usize
-    requires { sums.now ≡ row_sums set.now t.now (length sums.now) }
-    ensures { result ≡ first_undeclared_row set.now t.now count }
+fn undeclared_by(set: &[u8], rows: &[Declaration], count: usize, sums: &[u64]) -> usize
+    requires { sums.now ≡ row_sums set.now rows.now (length sums.now) }
+    ensures { result ≡ first_undeclared_row set.now rows.now count }
 {
     let files = parts::count_parts(set, 1);
     let mut i: usize = 0;
     while i < count {
-        if !is_row_good(set, t, count, sums, i) {
-            return declarations::cell(t, i, 3);
+        if !is_row_good(set, rows, count, sums, i) {
+            return declarations::row_at(rows, i).file;
         }
         i = i + 1;
     }
@@ -108,9 +115,9 @@ fn undeclared_by(set: &[u8], t: &[usize], count: usize, sums: &[u64]) -> usize
 }
 
 /// The file of the first of so many rows with refusal 7; the count of files where there is none. The checksums of rows go into `sums`.
-pub fn first_undeclared(set: &[u8], t: &[usize], count: usize, sums: &mut [u64]) -> usize
-    ensures { result ≡ first_undeclared_row set.now t.now count }
+pub fn first_undeclared(set: &[u8], rows: &[Declaration], count: usize, sums: &mut [u64]) -> usize
+    ensures { result ≡ first_undeclared_row set.now rows.now count }
 {
-    type_names::fill_sums(set, t, sums);
-    undeclared_by(set, t, count, sums)
+    type_names::fill_sums(set, rows, sums);
+    undeclared_by(set, rows, count, sums)
 }

@@ -10,8 +10,8 @@ use Rattle.descriptor.specs.Decode.{decode_set}
 use Rattle.descriptor.specs.Limits.{messages_in, fields_in}
 use Rattle.name_rules.specs.Accessors.{text}
 use Rattle.name_rules.specs.FullNames.{◌·◌, package_scope, Entry, entries, set_entries, fields_of_entries, set_fields}
-use Rattle.index.specs.Tree.{row_at, file_forests, total}
-use Rattle.index.proofs.TableLaws.{no_row}
+use Rattle.index.specs.Tree.{no_row, row_at, file_forests, total}
+use Rattle.index.specs.declared.Row.{Row}
 use Rattle.index.proofs.SetLaws.{message_rows, decode_row, messages_decoded, messages_counted, MessageTable}
 
 abbrev message_of : Entry → MessageDescriptor
@@ -59,7 +59,7 @@ module _ (set : List ℕ) (small : length set ≤ 32768) where
   entries_counted = messages_counted set small ∙ ap length (sym (set_messages (decode_set set))) ∙ map_length (λ (e : Entry). e.message) (set_entries (decode_set set))
 
 -- row i of the table and entry i have the same message
-pub row_entry : (set messages : List ℕ) (count : ℕ) → MessageTable set messages count → (i : ℕ) → i < count → (d : Entry)
+pub row_entry : (set : List ℕ) (messages : List Row) (count : ℕ) → MessageTable set messages count → (i : ℕ) → i < count → (d : Entry)
     → decode_row set (row_at messages i) ≡ (get_or (set_entries (decode_set set)) i d).message
 row_entry set messages count table i h d =
     let n : count ≡ length (message_rows set) = table.counted in

@@ -1,5 +1,4 @@
 pub mod StartLaws
-pub mod ColumnLaws
 pub mod SetColumns
 pub mod EntryLaws
 pub mod NameLaws

@@ -14,12 +14,11 @@ use Rattle.descriptor.specs.Decode.{entries, parts, decode_message, decode_file,
 use Rattle.name_rules.specs.Accessors.{text}
 use Rattle.name_rules.specs.FullNames.{◌·◌, package_scope, Entry, set_entries}
 use Rattle.name_rules.specs.FullNames as names
-use Rattle.index.specs.Tree.{Place, file_forests, size, rows, rows_of, row_at}
+use Rattle.index.specs.Tree.{Place, file_forests, size, rows, rows_of, no_row, row_at}
 use Rattle.index.specs.declared.Row.{Row}
 use Rattle.index.proofs.TreeLaws.{rows_length}
 use Rattle.index.proofs.DecodedLaws.{bytes_at, map_forest, forest_forest, nest, nest_forest, files_bytes}
 use Rattle.index.proofs.SetLaws.{message_rows, decode_row, MessageTable}
-use Rattle.index.proofs.TableLaws.{no_row}
 use Rattle.field_columns.proofs.EntryLaws.{rows_entries}
 
 -- items stand in a list from place i on
@@ -141,7 +140,7 @@ module _ (set : List ℕ) (small : length set ≤ 32768) where
       ∙ map_same (λ (F : Forest Place). map_forest decode_message (map_forest (bytes_at set) F)) (map_forest placed) (forest_forest decode_message (bytes_at set)) (file_forests 4 16 set)
 
 -- entry i has the full name that row i of the table says
-pub row_named : (set messages : List ℕ) (count : ℕ) → MessageTable set messages count → (no_file : FileDescriptor) (no_entry : Entry) (i : ℕ) → i < count
+pub row_named : (set : List ℕ) (messages : List Row) (count : ℕ) → MessageTable set messages count → (no_file : FileDescriptor) (no_entry : Entry) (i : ℕ) → i < count
     → (get_or (set_entries (decode_set set)) i no_entry).full
     ≡ scope_of no_file no_entry (decode_set set) (set_entries (decode_set set)) (row_at messages i).file (row_at messages i).up · text (get_or (set_entries (decode_set set)) i no_entry).message.name
 row_named set messages count table no_file no_entry i h =

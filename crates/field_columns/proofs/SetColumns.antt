@@ -2,7 +2,7 @@
 use mathlib.Core.Path.{◌≡◌, refl, sym, ap, ◌∙◌, subst}
 use mathlib.Core.Bool.{Bool, true}
 use mathlib.Core.List.{List, [], ◌∷◌, ◌++◌, map, map-append, map-map}
-use Prim.Native.Nat.{ℕ, zero, suc, ◌+◌, ◌*◌, ◌-◌, ◌≤◌, ◌<◌}
+use Prim.Native.Nat.{ℕ, zero, suc, ◌+◌, ◌-◌, ◌≤◌, ◌<◌}
 use native.Mathlib.Omega.{arith}
 use lib.ListN.{length, length-append, take, replicate}
 use lib.Seq.{ext_get_or, take-nil}
@@ -16,10 +16,10 @@ use Rattle.descriptor.specs.Decode.{decode_field, decode_message, decode_set}
 use Rattle.descriptor.specs.Limits.{messages_in, fields_in}
 use Rattle.message_graph.specs.Limit.{messages}
 use Rattle.message_graph.specs.Tab.{tab, length_tab, tab_at}
-use Rattle.index.specs.Tree.{row_at, row_bytes, Holds, all_members}
+use Rattle.index.specs.Tree.{no_row, row_at, row_bytes, Holds, all_members}
 use Rattle.index.specs.Owners.{owners}
 use Rattle.index.specs.declared.Row.{Row}
-use Rattle.index.proofs.TableLaws.{no_row, Stands, fill_stands}
+use Rattle.index.proofs.TableLaws.{Stands, fill_stands}
 use Rattle.index.proofs.SetLaws.{MessageTable, HoldsMembers, members_fit, fields_of, fields_hold}
 use Rattle.field_columns.specs.Columns.{owner_of, owner_at, column_of, byte_of, column_at, rows_counted, first_rows, before, start_at, fields_before, Column}
 
@@ -41,7 +41,7 @@ tab_same zero f g same = refl
 tab_same {A} (suc n) f g same = ap (λ (l : List A). l ++ (f n ∷ [])) (tab_same n f g same) ∙ ap (λ (a : A). tab n g ++ (a ∷ [])) (same n)
 
 -- the rows that stand in a table are its first rows
-stands_first : (t : List ℕ) (rs : List Row) → Stands t 0 rs → first_rows t (length rs) ≡ rs
+stands_first : (t : List Row) (rs : List Row) → Stands t 0 rs → first_rows t (length rs) ≡ rs
 stands_first t rs there =
     ext_get_or no_row (first_rows t (length rs)) rs (length_tab (length rs) (row_at t))
     (λ i h.
@@ -107,8 +107,8 @@ bytes_are g (f ∷ fs) h =
     ap (λ (n : ℕ). n ∷ map (λ (f : FieldDescriptor). byte_of (g f)) fs) one ∙ ap (λ (l : List ℕ). g f ∷ l) (bytes_are g fs (and_right (ltb (g f) 256) (all (λ (f : FieldDescriptor). ltb (g f) 256) fs) h))
 
 -- `fields` as `index_members` leaves it from row 0 on, where it has room for all rows
-module _ (set messages_table : List ℕ) (count : ℕ) (table : MessageTable set messages_table count) (t fields : List ℕ) (n : ℕ)
-    (holds : Holds (all_members set 2 messages_table count 0) t 0 fields n) (room : n * 5 ≤ length t) where
+module _ (set : List ℕ) (messages_table : List Row) (count : ℕ) (table : MessageTable set messages_table count) (t fields : List Row) (n : ℕ)
+    (holds : Holds (all_members set 2 messages_table count 0) t 0 fields n) (room : n ≤ length t) where
   abbrev rs : List Row
   rs = all_members set 2 messages_table count 0
 
@@ -137,7 +137,7 @@ module _ (set messages_table : List ℕ) (count : ℕ) (table : MessageTable set
       let c = n_is in
       let f = few_rows in
       ap (first_rows fields) n_is
-      ∙ stands_first fields rs (subst (λ (u : List ℕ). Stands u 0 rs) (sym holds.table) (fill_stands rs t 0 (omega arith) (omega arith)))
+      ∙ stands_first fields rs (subst (λ (u : List Row). Stands u 0 rs) (sym holds.table) (fill_stands rs t 0 (omega arith)))
 
   -- the fields of the decoded set, in order
   pub rows_decoded : map (λ (r : Row). decode_field (row_bytes set r)) (first_rows fields n) ≡ fields_in (decode_set set)

@@ -44,7 +44,7 @@ failing_weaker p q weaker (x ∷ xs) =
     let on = failing_weaker p q weaker xs in
     choose_case (λ (n : ℕ). n ≤ choose (q x) (1 + first_failing q xs) 0) (p x) (λ e. rw (weaker x e) (omega arith)) (λ _. omega arith)
 
-module _ (fields : List ℕ) (count : ℕ) where
+module _ (fields : List Row) (count : ℕ) where
   abbrev rows : List Row
   rows = first_rows fields count
 
@@ -74,6 +74,6 @@ module _ (fields : List ℕ) (count : ℕ) where
       pub start_more : up ≤ i → k + 1 ≤ first_failing (before i) rows
       start_more l = failing_more (before i) rows k row in_rows passed (ap (before i) row_here ∙ le-leb row.up i (omega arith))
 
-pub start_is : (fields : List ℕ) (count i rows : ℕ) → rows ≡ rows_counted count → (k : ℕ) → k ≡ first_failing (before i) (first_rows fields rows) → k ≡ start_at fields count i
+pub start_is : (fields : List Row) (count i rows : ℕ) → rows ≡ rows_counted count → (k : ℕ) → k ≡ first_failing (before i) (first_rows fields rows) → k ≡ start_at fields count i
 unfolding start_at
-start_is fields count i rows e k h = h ∙ ap (λ (n : ℕ). first_failing (before i) (first_rows fields n)) e
+start_is fields count i n e k h = h ∙ ap (λ (n : ℕ). first_failing (before i) (first_rows fields n)) e

@@ -4,9 +4,6 @@ use Rattle.base.specs.Choose.{choose}
 use Rattle.base.specs.Lists.{all_of, first_failing}
 use Rattle.descriptor.specs.Descriptor.{FieldDescriptor, MessageDescriptor}
 use Rattle.descriptor.specs.Decode.{decode_field}
-use Rattle.descriptor.specs.Views.{field_in}
-use Rattle.descriptor.specs.declared.FieldView.{FieldView}
-use Rattle.descriptor.specs.declared.Number.{Number}
 use Rattle.index.specs.Tree.{row_at, row_bytes}
 use Rattle.index.specs.declared.Row.{Row}
 use Rattle.message_graph.specs.Limit.{messages}
@@ -17,7 +14,7 @@ use Rattle.name_rules.specs.Accessors.{type, label}
 unfoldable pub owner_of : ℕ → ℕ
 owner_of up = choose (ltb (up - 1) messages) (up - 1) 0
 
-abbrev pub owner_at : List ℕ → ℕ → ℕ
+abbrev pub owner_at : List Row → ℕ → ℕ
 owner_at fields i = owner_of (row_at fields i).up
 
 -- the columns that hold a number of the field's descriptor
@@ -29,27 +26,18 @@ abbrev pub column_of : Column → FieldDescriptor → ℕ
 column_of Kind f = type f
 column_of Label f = label f
 
--- where a view of a field has the column's number
-abbrev pub viewed : Column → FieldView → Number
-viewed Kind v = v.kind
-viewed Label v = v.label
-
--- the view of field i
-unfoldable pub view_at : List ℕ → List ℕ → ℕ → FieldView
-view_at set fields i = field_in (row_at fields i).start (row_bytes set (row_at fields i))
-
 -- in one byte: 0, which is no type and no label, for a number over 255
 unfoldable pub byte_of : ℕ → ℕ
 byte_of n = choose (ltb n 256) n 0
 
-unfoldable pub column_at : List ℕ → List ℕ → Column → ℕ → ℕ
+unfoldable pub column_at : List ℕ → List Row → Column → ℕ → ℕ
 column_at set fields column i = byte_of (column_of column (decode_field (row_bytes set (row_at fields i))))
 
 -- a table has fewer than 65,536 rows
 unfoldable pub rows_counted : ℕ → ℕ
 rows_counted count = choose (ltb 65535 count) 65535 count
 
-abbrev pub first_rows : List ℕ → ℕ → List Row
+abbrev pub first_rows : List Row → ℕ → List Row
 first_rows fields count = tab count (row_at fields)
 
 -- a row of a message before message i
@@ -57,7 +45,7 @@ abbrev pub before : ℕ → Row → Bool
 before i r = leb r.up i
 
 -- where the fields of message i begin: behind the rows, from the first on, of messages before it
-unfoldable pub start_at : List ℕ → ℕ → ℕ → ℕ
+unfoldable pub start_at : List Row → ℕ → ℕ → ℕ
 start_at fields count i = first_failing (before i) (first_rows fields (rows_counted count))
 
 -- how many fields the messages before message i have

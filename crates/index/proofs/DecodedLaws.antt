@@ -54,7 +54,7 @@ inside_is s f =
     let z : f.start - f.start ≡ 0 = omega arith in
     ap (λ (n : ℕ). take n (drop f.start s)) z ∙ sym p ∙ bytes_of s f)
 
-end_before : (n : ℕ) (f : Record) → In n f → (f.start ≤ end_in f) × (end_in f ≤ n)
+pub end_before : (n : ℕ) (f : Record) → In n f → (f.start ≤ end_in f) × (end_in f ≤ n)
 unfolding end_in
 end_before n f l = choose_case (λ (e : ℕ). (f.start ≤ e) × (e ≤ n)) (eqb f.wiretype 2) (λ _. (l.from, l.to)) (λ _. let a = l.from in let c = l.to in (omega arith, omega arith))
 

@@ -1,121 +1,122 @@
 -- The loop of `index_files`: what holds before each record. Assumes nothing.
 use mathlib.Core.Path.{◌≡◌, refl, sym, ap, ◌∙◌, subst}
 use mathlib.Core.List.{List, [], ◌∷◌}
-use Prim.Native.Nat.{ℕ, ◌+◌, ◌-◌, ◌≤◌, ◌<◌}
+use Prim.Native.Nat.{ℕ, ◌+◌, ◌≤◌, ◌<◌}
 use native.Mathlib.Omega.{arith}
-use native.Mathlib.Nat.{le_refl}
 use lib.ListN.{length}
-use borrow.Author.Tests.{le-ltb, lt-ltb}
-use Rattle.base.specs.Choose.{choose, choices}
-use Rattle.wire.specs.Step.{step_at}
-use Rattle.wire.specs.Records.{part}
-use Rattle.wire.proofs.StepLaws.{Lies, lies}
-use Rattle.wire.proofs.RecordsLaws.{passes}
-use Rattle.wire.specs.declared.Record.{Record}
-use Rattle.wire.specs.declared.Step.{Step}
-use Rattle.wire.specs.declared.Step.TheVariants.{End, Fault, Found}
-use Rattle.descriptor.specs.Descriptor.{Forest}
-use Rattle.index.specs.Places.{end_in, inside}
-use Rattle.index.specs.Tree.{Place, forest_in, size, rows, fill, Indexed, files_from, file_forests, total, rows_of, IndexedFiles}
-use Rattle.index.proofs.SizeLaws.{grown}
+use borrow.Author.Tests.{le-ltb, lt-ltb, eq-eqb, ne_eqb}
+use Rattle.std.specs.Prelude.{Result, Ok}
+use Rattle.base.specs.Choose.{choose}
+use Rattle.wire.specs.Message.{Entry, records_at, fields_in}
+use Rattle.wire.specs.declared.records.record.Fault.{Fault as FaultAt}
+use Rattle.descriptor.specs.Descriptor.{Bytes, Forest}
+use Rattle.descriptor.proofs.EntriesLaws.{entries_read}
+use Rattle.index.specs.Tree.{Place, forest_in, size, rows, fill, Indexed, file_forests, total, rows_of, IndexedFiles}
+use Rattle.index.specs.declared.Row.{Row}
+use Rattle.index.proofs.RoomLaws.{field_bytes, entries_take}
+use Rattle.index.proofs.SeenLaws.{held, Within, files_of, records_lie, files_seen}
 use Rattle.index.proofs.TreeLaws.{rows_length, fill_append}
-use Rattle.index.proofs.IndexLaws.{indexed_length}
+use Rattle.index.proofs.IndexLaws.{indexed_length, room_of}
 
-module _ (number left : ℕ) (s : List ℕ) (at : ℕ) (r : Step) (e : r ≡ step_at s at) where
-  pub files_end : r ≡ End → [] ≡ files_from number left s at
-  files_end is = search passes depth 9
-
-  pub files_fault : (key : ℕ) → r ≡ Fault key → [] ≡ files_from number left s at
-  files_fault key is = search passes depth 9
-
-  module _ (f : Record) (is : r ≡ Found f) where
-    files_node : f.number ≡ 1 → forest_in left number (inside s f) f.start ∷ files_from number left s f.next ≡ files_from number left s at
-    files_node q = search (passes, choices) depth 12
-
-    files_skip : (f.number ≡ 1 → ⊥) → files_from number left s f.next ≡ files_from number left s at
-    files_skip q = search (passes, choices) depth 12
-
-module _ (number left : ℕ) (s : List ℕ) (t₀ : List ℕ) where
-  pub record Going (t : List ℕ) (at n file : ℕ) : Type 0 where
+module _ (number left : ℕ) (s : List ℕ) (t₀ : List Row) where
+  pub record Going (t : List Row) (rs : List (Result Entry FaultAt)) (n file : ℕ) : Type 0 where
     pub small : length s ≤ 32768
-    pub few : n ≤ at
-    pub files : file ≤ at
-    pub in_part : at ≤ length s
+    pub few : n + room_of rs ≤ length s
+    pub files : file + room_of rs ≤ length s
+    pub within : Within (length s) rs
     pub long : length t ≡ length t₀
-    pub table : fill t n (rows_of file n (files_from number left s at)) ≡ fill t₀ 0 (rows_of 0 0 (file_forests number left s))
-    pub counted : n + total (files_from number left s at) ≡ total (file_forests number left s)
+    pub table : fill t n (rows_of file n (files_of number left rs)) ≡ fill t₀ 0 (rows_of 0 0 (file_forests number left s))
+    pub counted : n + total (files_of number left rs) ≡ total (file_forests number left s)
 
-  pub going_start : length s ≤ 32768 → Going t₀ 0 0 0
+  whole : length s ≤ 32768 → files_of number left (records_at 0 s) ≡ file_forests number left s
   unfolding file_forests choose
-  going_start h =
-      record {
+  whole h = rw (le-ltb 32768 (length s) h) (files_seen number left s)
+
+  pub going_start : (rs : List (Result Entry FaultAt)) → rs ≡ records_at 0 s → length s ≤ 32768 → Going t₀ rs 0 0
+  going_start rs is h =
+      let take = entries_take s in
+      let fits : 0 + room_of (records_at 0 s) ≤ length s = rw (entries_read 0 s) (omega arith) in
+      let start : Going t₀ (records_at 0 s) 0 0 = record {
         small = h;
-        few = omega arith;
-        files = omega arith;
-        in_part = omega arith;
+        few = fits;
+        files = fits;
+        within = subst (λ (n : ℕ). Within n (records_at 0 s)) (let e : 0 + length s ≡ length s = omega arith in e) (records_lie 0 s);
         long = refl;
-        table = rw (le-ltb 32768 (length s) h);
-        counted = rw (le-ltb 32768 (length s) h) (omega arith);
-      }
+        table = ap (λ (Fs : List (Forest Place)). fill t₀ 0 (rows_of 0 0 Fs)) (whole h);
+        counted = ap (λ (Fs : List (Forest Place)). 0 + total Fs) (whole h) ∙ (let e : 0 + total (file_forests number left s) ≡ total (file_forests number left s) = omega arith in e);
+      } in
+      subst (λ (x : List (Result Entry FaultAt)). Going t₀ x 0 0) (sym is) start
 
   pub going_large : 32768 < length s → IndexedFiles (file_forests number left s) t₀ t₀ 0
   unfolding file_forests choose rows_of fill total
   going_large h = rw (lt-ltb 32768 (length s) h) (record { table = refl; counted = refl })
 
-  module _ (t : List ℕ) (at n file : ℕ) (going : Going t at n file) where
-    pub going_end : [] ≡ files_from number left s at → IndexedFiles (file_forests number left s) t₀ t n
-    unfolding rows_of fill total
-    going_end e =
-        record {
-          table = ap (λ (Fs : List (Forest Place)). fill t n (rows_of file n Fs)) e ∙ going.table;
-          counted = (let z : n ≡ n + 0 = omega arith in z) ∙ ap (λ (Fs : List (Forest Place)). n + total Fs) e ∙ going.counted;
-        }
+  module _ (t : List Row) (n file : ℕ) where
+    pub going_end : (all : List (Result Entry FaultAt)) → all ≡ [] → Going t all n file → IndexedFiles (file_forests number left s) t₀ t n
+    unfolding rows_of fill total files_of
+    going_end all is before = let going : Going t [] n file = subst (λ (x : List (Result Entry FaultAt)). Going t x n file) is before in let c = going.counted in record { table = going.table; counted = omega arith }
 
-    module _ (r : Step) (e : r ≡ step_at s at) (f : Record) (is : r ≡ Found f) where
-      pub going_skip : (f.number ≡ 1 → ⊥) → Going t f.next n file
-      going_skip ne =
-          let l : Lies (length s) at f = lies s at r f e is in
-          let a = going.few in
-          let c = going.files in
-          let same = files_skip number left s at r e f is ne in
-          record {
-            small = going.small;
-            few = omega arith;
-            files = omega arith;
-            in_part = l.to;
-            long = going.long;
-            table = ap (λ (Fs : List (Forest Place)). fill t n (rows_of file n Fs)) same ∙ going.table;
-            counted = ap (λ (Fs : List (Forest Place)). n + total Fs) same ∙ going.counted;
-          }
+    module _ (all rs : List (Result Entry FaultAt)) where
+      module _ (e : Entry) (is : all ≡ Ok e ∷ rs) (before : Going t all n file) where
+        abbrev going : Going t (Ok e ∷ rs) n file
+        going = subst (λ (x : List (Result Entry FaultAt)). Going t x n file) is before
 
-      pub going_file : f.number ≡ 1 → (end index : ℕ) → end ≡ end_in f → f.start ≤ end → end ≤ f.next → index ≡ file
-          → (w : List ℕ) (next : ℕ) → Indexed (forest_in left number (part s f.start (end - f.start)) f.start) index 0 t n w next
-          → next ≤ n + length (part s f.start (end - f.start)) → Going w f.next next (file + 1)
-      unfolding rows_of total
-      going_file q end index end_is a c index_is w next inner bound =
-          let l : Lies (length s) at f = lies s at r f e is in
-          let x = going.few in
-          let y = going.files in
-          let g : n + 1 + length (part s f.start (end - f.start)) ≤ f.next = grown s at r f e is end n (length (part s f.start (end - f.start))) a c going.few (le_refl _) in
-          let F : Forest Place = forest_in left number (part s f.start (end - f.start)) f.start in
-          let following : List (Forest Place) = files_from number left s f.next in
-          let same : F ∷ following ≡ files_from number left s at =
-          ap (λ (z : ℕ). forest_in left number (part s f.start (z - f.start)) f.start ∷ following) end_is ∙ files_node number left s at r e f is q in
-          let inner_as : Indexed F file 0 t n w next = subst (λ (z : ℕ). Indexed F z 0 t n w next) index_is inner in
-          let next_is : next ≡ n + size F = inner_as.counted in
-          let behind : n + length (rows file 0 n F) ≡ next = ap (λ (m : ℕ). n + m) (rows_length F file 0 n) ∙ sym next_is in
-          record {
-            small = going.small;
-            few = omega arith;
-            files = omega arith;
-            in_part = l.to;
-            long = indexed_length F file 0 t n w next inner_as ∙ going.long;
-            table =
-                sym
-                (fill_append t n (rows file 0 n F) (rows_of (file + 1) (n + size F) following)
-                ∙ ap (λ (m : ℕ). fill (fill t n (rows file 0 n F)) m (rows_of (file + 1) (n + size F) following)) behind
-                ∙ ap (λ (m : ℕ). fill (fill t n (rows file 0 n F)) next (rows_of (file + 1) m following)) (sym next_is)
-                ∙ ap (λ (u : List ℕ). fill u next (rows_of (file + 1) next following)) (sym inner_as.table))
-                ∙ ap (λ (Fs : List (Forest Place)). fill t n (rows_of file n Fs)) same ∙ going.table;
-            counted = (let z : next + total following ≡ n + (size F + total following) = omega arith in z) ∙ ap (λ (Fs : List (Forest Place)). n + total Fs) same ∙ going.counted;
-          }
+        few_left : n + 1 + length (held e) + room_of rs ≤ length s
+        unfolding fields_in field_bytes
+        few_left = let r = going.few in omega arith
+
+        files_left : file + 1 + length (held e) + room_of rs ≤ length s
+        unfolding fields_in field_bytes
+        files_left = let r = going.files in omega arith
+
+        pub going_skip : (e.field.number ≡ 1 → ⊥) → Going t rs n file
+        unfolding files_of choose
+        going_skip ne =
+            let a = few_left in
+            let b = files_left in
+            record {
+              small = going.small;
+              few = omega arith;
+              files = omega arith;
+              within = going.within.1;
+              long = going.long;
+              table = (rw (ne_eqb e.field.number 1 ne) at going.table);
+              counted = (rw (ne_eqb e.field.number 1 ne) at going.counted);
+            }
+
+        -- what the call for the file's messages asks for
+        pub file_fits : (k : ℕ) → k ≡ length (held e) → (e.start + k < 65536) × (n + k < 65536)
+        file_fits k k_is = let w = going.within.0 in let a = few_left in let small = going.small in (omega arith, omega arith)
+
+        pub few_files : file < 65535
+        few_files = let b = files_left in let small = going.small in omega arith
+
+        pub going_file : e.field.number ≡ 1 → (x : Bytes) → x ≡ held e
+            → (w : List Row) (next : ℕ) → Indexed (forest_in left number x e.start) file 0 t n w next → next ≤ n + length x → Going w rs next (file + 1)
+        unfolding files_of choose rows_of total
+        going_file q x x_is w next inner bound =
+            let a = few_left in
+            let b = files_left in
+            let same_length : length x ≡ length (held e) = ap length x_is in
+            let F : Forest Place = forest_in left number (held e) e.start in
+            let following : List (Forest Place) = files_of number left rs in
+            let table_all : fill t n (rows_of file n (F ∷ following)) ≡ fill t₀ 0 (rows_of 0 0 (file_forests number left s)) = (rw (eq-eqb e.field.number 1 q) at going.table) in
+            let count_all : n + total (F ∷ following) ≡ total (file_forests number left s) = (rw (eq-eqb e.field.number 1 q) at going.counted) in
+            let inner_as : Indexed F file 0 t n w next = subst (λ (y : Bytes). Indexed (forest_in left number y e.start) file 0 t n w next) x_is inner in
+            let next_is : next ≡ n + size F = inner_as.counted in
+            let behind : n + length (rows file 0 n F) ≡ next = ap (λ (m : ℕ). n + m) (rows_length F file 0 n) ∙ sym next_is in
+            record {
+              small = going.small;
+              few = omega arith;
+              files = omega arith;
+              within = going.within.1;
+              long = indexed_length F file 0 t n w next inner_as ∙ going.long;
+              table =
+                  sym
+                  (fill_append t n (rows file 0 n F) (rows_of (file + 1) (n + size F) following)
+                  ∙ ap (λ (m : ℕ). fill (fill t n (rows file 0 n F)) m (rows_of (file + 1) (n + size F) following)) behind
+                  ∙ ap (λ (m : ℕ). fill (fill t n (rows file 0 n F)) next (rows_of (file + 1) m following)) (sym next_is)
+                  ∙ ap (λ (u : List Row). fill u next (rows_of (file + 1) next following)) (sym inner_as.table))
+                  ∙ table_all;
+              counted = (let z : next + total following ≡ n + (size F + total following) = omega arith in z) ∙ count_all;
+            }

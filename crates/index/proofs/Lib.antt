@@ -1,6 +1,6 @@
-pub mod SizeLaws
 pub mod PutLaws
 pub mod TreeLaws
+pub mod SeenLaws
 pub mod IndexLaws
 pub mod FileLaws
 pub mod OwnerLaws

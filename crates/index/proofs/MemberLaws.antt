@@ -1,20 +1,30 @@
 -- The loop of `index_members`: what holds before each message. Assumes nothing.
 use mathlib.Core.Path.{◌≡◌, refl, sym, ap, ◌∙◌, subst}
 use mathlib.Core.List.{List, [], ◌++◌}
-use Prim.Native.Nat.{ℕ, zero, suc, ◌+◌, ◌-◌, ◌≤◌, ◌<◌}
+use Prim.Native.Nat.{ℕ, zero, suc, ◌+◌, ◌-◌, ◌≤◌, ◌<◌, min}
 use native.Mathlib.Omega.{arith}
-use native.Mathlib.Nat.{min-le_right}
-use lib.ListN.{length, drop, length-append, length-take, length-drop}
+use native.Mathlib.Decide.{dec_le}
+use lib.ListN.{length, take, length-append, length-take, get_or-eq_default}
+use Rattle.std.proofs.lemmas.List.{get_or-take}
+use lib.Dec.{ltb}
 use borrow.Author.Tests.{le-ltb, lt-ltb}
-use Rattle.base.specs.Choose.{choose}
-use Rattle.wire.specs.Records.{part}
-use Rattle.descriptor.specs.Descriptor.{Forest}
-use Rattle.index.specs.Tree.{Place, forest_in, size, rows, fill, Indexed, member_forest, members, row_at, Holds, all_members}
+use Rattle.base.specs.Choose.{choose, choose_case}
+use Rattle.wire.specs.Records.{over, records, scan, pass}
+use Rattle.descriptor.specs.Descriptor.{Forest, done}
+use Rattle.index.specs.Tree.{Place, forest_in, size, rows, fill, Indexed, member_forest, members, no_row, row_at, row_bytes, Holds, all_members}
 use Rattle.index.specs.declared.Row.{Row}
 use Rattle.index.proofs.TreeLaws.{rows_length, fill_append}
 use Rattle.index.proofs.IndexLaws.{indexed_length}
 
-module _ (set : List ℕ) (number : ℕ) (messages : List ℕ) where
+-- the first rows of a table
+module _ (messages : List Row) (count known j : ℕ) (is : known ≡ min count (length messages)) (h : j < length (take known messages)) where
+  pub counted_in : j < count
+  counted_in = let long = length-take known messages in omega arith
+
+  pub taken : row_at (take known messages) j ≡ row_at messages j
+  taken = let long = length-take known messages in get_or-take known messages j no_row (omega arith)
+
+module _ (set : List ℕ) (number : ℕ) (messages : List Row) where
   -- one message more
   members_more : (count j i : ℕ) → j < count → i ≤ 32767
       → members set number messages (count - j) j i
@@ -33,8 +43,20 @@ module _ (set : List ℕ) (number : ℕ) (messages : List ℕ) where
   members_full zero j i h = refl
   members_full (suc k) j i h = rw (lt-ltb 32767 i h)
 
-  module _ (count : ℕ) (t₀ : List ℕ) (i : ℕ) where
-    pub record Going (t : List ℕ) (n j : ℕ) : Type 0 where
+  -- past the table's end no message holds any
+  none_there : member_forest set number no_row ≡ done
+  unfolding forest_in over records scan pass
+  none_there = refl
+
+  members_past : (k j i : ℕ) → length messages ≤ j → members set number messages k j i ≡ []
+  unfolding members choose rows size
+  members_past zero j i h = refl
+  members_past (suc k) j i h =
+      let past : row_at messages j ≡ no_row = get_or-eq_default messages no_row h in
+      choose_case (λ (rs : List Row). rs ≡ []) (ltb 32767 i) (λ _. refl) (λ _. rw (past, none_there) (members_past k (j + 1) (i + 0) (omega arith)))
+
+  module _ (count : ℕ) (t₀ : List Row) (i : ℕ) where
+    pub record Going (t : List Row) (n j : ℕ) : Type 0 where
       pub small : length set ≤ 32768
       pub few : count ≤ 1024
       pub long : length t ≡ length t₀
@@ -56,7 +78,7 @@ module _ (set : List ℕ) (number : ℕ) (messages : List ℕ) where
     unfolding all_members choose fill
     going_many l h = rw (le-ltb 32768 (length set) l, lt-ltb 1024 count h) (record { table = refl; counted = omega arith })
 
-    module _ (t : List ℕ) (n j : ℕ) (going : Going t n j) where
+    module _ (t : List Row) (n j : ℕ) (going : Going t n j) where
       ended : members set number messages (count - j) j n ≡ [] → Holds (all_members set number messages count i) t₀ i t n
       unfolding fill
       ended e =
@@ -65,25 +87,27 @@ module _ (set : List ℕ) (number : ℕ) (messages : List ℕ) where
             counted = (let z : n ≡ n + 0 = omega arith in z) ∙ sym (ap (λ (rs : List Row). n + length rs) e) ∙ going.counted;
           }
 
-      pub going_end : count ≤ j → Holds (all_members set number messages count i) t₀ i t n
-      going_end h = ended (members_none count j n h)
+      pub going_end : (known : ℕ) → known ≡ min count (length messages) → length (take known messages) ≤ j → Holds (all_members set number messages count i) t₀ i t n
+      going_end known is h = ended (on (dec_le count j))
+        where
+          on : Dec (count ≤ j) → members set number messages (count - j) j n ≡ []
+          on (yes past) = members_none count j n past
+          on (no within) = let long = length-take known messages in members_past (count - j) j n (omega arith)
 
       pub going_full : 32767 < n → Holds (all_members set number messages count i) t₀ i t n
       going_full h = ended (members_full (count - j) j n h)
 
-      pub going_more : j < count → n ≤ 32767 → (m : Row) → m ≡ row_at messages j → (start end : ℕ) → start ≡ m.start → end ≡ m.end
-          → (s : List ℕ) → s ≡ part set start (end - start) → (up : ℕ) → up ≡ j + 1 → (w : List ℕ) (next : ℕ) → Indexed (forest_in 1 number s start) m.file up t n w next → Going w next (j + 1)
-      going_more h l m m_is start end start_is end_is s s_is up up_is w next inner =
+      pub going_more : j < count → n ≤ 32767 → (m : Row) → m ≡ row_at messages j → (start file : ℕ) → start ≡ m.start → file ≡ m.file
+          → (s : List ℕ) → s ≡ row_bytes set m → (w : List Row) (next : ℕ) → Indexed (forest_in 1 number s start) file (j + 1) t n w next → Going w next (j + 1)
+      going_more h l m m_is start file start_is file_as s s_is w next inner =
           let F : Forest Place = member_forest set number (row_at messages j) in
           let same : forest_in 1 number s start ≡ F =
           ap (λ (x : List ℕ). forest_in 1 number x start) s_is
-          ∙ ap (λ (a : ℕ). forest_in 1 number (part set a (end - a)) a) start_is
-          ∙ ap (λ (a : ℕ). forest_in 1 number (part set m.start (a - m.start)) m.start) end_is
+          ∙ ap (λ (a : ℕ). forest_in 1 number (row_bytes set m) a) start_is
           ∙ ap (member_forest set number) m_is in
-          let file_is : m.file ≡ (row_at messages j).file = ap (λ (r : Row). r.file) m_is in
-          let inner₁ : Indexed F m.file up t n w next = subst (λ (X : Forest Place). Indexed X m.file up t n w next) same inner in
-          let inner₂ : Indexed F (row_at messages j).file up t n w next = subst (λ (x : ℕ). Indexed F x up t n w next) file_is inner₁ in
-          let inner₃ : Indexed F (row_at messages j).file (j + 1) t n w next = subst (λ (x : ℕ). Indexed F (row_at messages j).file x t n w next) up_is inner₂ in
+          let file_is : file ≡ (row_at messages j).file = file_as ∙ ap (λ (r : Row). r.file) m_is in
+          let inner₁ : Indexed F file (j + 1) t n w next = subst (λ (X : Forest Place). Indexed X file (j + 1) t n w next) same inner in
+          let inner₃ : Indexed F (row_at messages j).file (j + 1) t n w next = subst (λ (x : ℕ). Indexed F x (j + 1) t n w next) file_is inner₁ in
           let next_is : next ≡ n + size F = inner₃.counted in
           let rs : List Row = rows (row_at messages j).file (j + 1) n F in
           let rest : List Row = members set number messages (count - (j + 1)) (j + 1) (n + size F) in
@@ -98,7 +122,7 @@ module _ (set : List ℕ) (number : ℕ) (messages : List ℕ) where
             table =
                 ap (fill w next) from
                 ∙ ap (λ (x : ℕ). fill w x rest) (next_is ∙ ap (λ (x : ℕ). n + x) (sym len))
-                ∙ ap (λ (u : List ℕ). fill u (n + length rs) rest) inner₃.table
+                ∙ ap (λ (u : List Row). fill u (n + length rs) rest) inner₃.table
                 ∙ sym (fill_append t n rs rest) ∙ sym (ap (fill t n) whole) ∙ going.table;
             counted =
                 let a : length (members set number messages (count - (j + 1)) (j + 1) next) ≡ length rest = ap length from in
@@ -106,9 +130,3 @@ module _ (set : List ℕ) (number : ℕ) (messages : List ℕ) where
                 let d = going.counted in
                 omega arith;
           }
-
--- what `index_in` asks of a part
-pub part_fits : (set : List ℕ) (a e n : ℕ) (s : List ℕ) → s ≡ part set a (e - a) → a < 65536 → length set ≤ 32768 → n ≤ 32767 → (a + length s < 65536) × (n + length s < 65536)
-part_fits set a e n s is low small few =
-    let l : length s ≤ length set - a = rw (is, length-take (e - a) (drop a set), length-drop a set) (min-le_right (e - a) (length set - a)) in
-    (omega arith, omega arith)

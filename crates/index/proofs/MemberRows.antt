@@ -80,7 +80,7 @@ module _ (set : List ℕ) (number : ℕ) where
   of_message_size : (m : Row) → size (of_message m) ≡ length (embeds m)
   of_message_size m = sym (rows_length (of_message m) 0 0 0) ∙ sym (map_length (row_bytes set) (rows 0 0 0 (of_message m))) ∙ ap length (of_message_bytes m 0 0 0)
 
-  pub members_listed : (messages : List ℕ) (ms : List Row) (j i : ℕ) → Stands messages j ms → i + length (all_of embeds ms) ≤ 32767
+  pub members_listed : (messages : List Row) (ms : List Row) (j i : ℕ) → Stands messages j ms → i + length (all_of embeds ms) ≤ 32767
       → members set number messages (length ms) j i ≡ member_rows j i ms
   unfolding members member_rows all_of choose
   members_listed messages [] j i there few = refl

@@ -28,7 +28,7 @@ unfoldable takes : List Bytes → ℕ
 takes [] = 0
 takes (p ∷ ps) = 1 + length p + takes ps
 
-unfoldable field_bytes : List Field → ℕ
+unfoldable pub field_bytes : List Field → ℕ
 field_bytes [] = 0
 field_bytes (f ∷ fs) = 1 + length (bytes_in f.value) + field_bytes fs
 
@@ -58,7 +58,7 @@ unfolding scan entries_of field_bytes
 scan_takes zero s at = omega arith
 scan_takes (suc m) s at = step_takes s at (λ f. scan m s f.next) (λ f. scan_takes m s f.next) (step_at s at) refl
 
-entries_take : (s : List ℕ) → field_bytes (entries s) ≤ length s
+pub entries_take : (s : List ℕ) → field_bytes (entries s) ≤ length s
 unfolding entries records
 entries_take s = let h = scan_takes (length s - 0) s 0 in omega arith
 

@@ -2,7 +2,7 @@
 use mathlib.Core.Path.{◌≡◌, refl, sym, ap, ◌∙◌, subst}
 use mathlib.Core.List.{List, [], ◌∷◌, ◌++◌, map, map-append, map-map}
 use mathlib.Core.Option.{Option}
-use Prim.Native.Nat.{ℕ, ◌+◌, ◌*◌, ◌≤◌}
+use Prim.Native.Nat.{ℕ, ◌+◌, ◌≤◌}
 use native.Mathlib.Omega.{arith}
 use lib.ListN.{length, length-append, replicate, replicate-append-replicate}
 use borrow.Author.Tests.{le-ltb}
@@ -181,14 +181,14 @@ module _ (set : List ℕ) (small : length set ≤ 32768) where
 -- ---- what the messages hold
 
 -- a table with the messages of a set
-pub record MessageTable (set messages : List ℕ) (count : ℕ) : Type 0 where
+pub record MessageTable (set : List ℕ) (messages : List Row) (count : ℕ) : Type 0 where
   pub small : length set ≤ 32768
   pub few : count ≤ 1024
   pub counted : count ≡ length (message_rows set)
   pub there : Stands messages 0 (message_rows set)
 
 -- as `index_files` leaves it, where the table has room for all of them
-pub messages_there : (set t messages : List ℕ) (count : ℕ) → length set ≤ 32768 → count ≤ 1024 → count * 5 ≤ length t → IndexedFiles (file_forests 4 16 set) t messages count
+pub messages_there : (set : List ℕ) (t messages : List Row) (count : ℕ) → length set ≤ 32768 → count ≤ 1024 → count ≤ length t → IndexedFiles (file_forests 4 16 set) t messages count
     → MessageTable set messages count
 messages_there set t messages count small few room is =
     let n : length (message_rows set) ≡ total (file_forests 4 16 set) = rows_of_length (file_forests 4 16 set) 0 0 in
@@ -197,11 +197,11 @@ messages_there set t messages count small few room is =
       small = small;
       few = few;
       counted = omega arith;
-      there = subst (λ (u : List ℕ). Stands u 0 (message_rows set)) (sym is.table) (fill_stands (message_rows set) t 0 (omega arith) (omega arith));
+      there = subst (λ (u : List Row). Stands u 0 (message_rows set)) (sym is.table) (fill_stands (message_rows set) t 0 (omega arith));
     }
 
 -- the rows of a table's messages hold what the messages of the decoded set hold, from row i on
-abbrev pub HoldsMembers : {A : Type 0} → ℕ → (Bytes → A) → (MessageDescriptor → List A) → List ℕ → List ℕ → ℕ → ℕ → Type 0
+abbrev pub HoldsMembers : {A : Type 0} → ℕ → (Bytes → A) → (MessageDescriptor → List A) → List ℕ → List Row → ℕ → ℕ → Type 0
 HoldsMembers number decode held set messages count i =
     Listed decode set (all_members set number messages count i) (all_of held (messages_in (decode_set set)))
     (owners (λ (f : FileDescriptor). all_of held (file_messages f)) 0 (decode_set set)) (owners held 1 (messages_in (decode_set set)))
@@ -252,7 +252,7 @@ module _ {A : Type 0} (number : ℕ) (decode : Bytes → A) (held : MessageDescr
       let qs : List Bytes = preorder (nest 16 (parts 4 (entries p))) in
       sym (map_length decode (all_of inner qs)) ∙ ap length (inner_decoded qs ∙ ap (all_of held) (messages_declared p))) 0 (parts 1 (entries set))
 
-  module _ (messages : List ℕ) (count : ℕ) (table : MessageTable set messages count) (i : ℕ) (fits : i + length (all_of held (messages_in (decode_set set))) ≤ 32767) where
+  module _ (messages : List Row) (count : ℕ) (table : MessageTable set messages count) (i : ℕ) (fits : i + length (all_of held (messages_in (decode_set set))) ≤ 32767) where
     members_are : all_members set number messages count i ≡ member_rows set number 0 i ms
     unfolding all_members choose
     members_are =
@@ -287,7 +287,7 @@ enums_of m = m.enums
 abbrev pub oneofs_of : MessageDescriptor → List (Option Bytes)
 oneofs_of m = m.oneofs
 
-module _ (set messages : List ℕ) (count : ℕ) (table : MessageTable set messages count) where
+module _ (set : List ℕ) (messages : List Row) (count : ℕ) (table : MessageTable set messages count) where
   pub fields_hold : HoldsMembers 2 decode_field fields_of set messages count 0
   unfolding decode_message
   fields_hold =

@@ -1,5 +1,5 @@
 -- The embedded messages of a part as a forest of places in the set, and its rows: in declaration order, with what each stands in.
-use Rattle.std.specs.Prelude.{ℕ, zero, suc, ◌+◌, ◌*◌, ◌-◌, ◌≡◌, List, [], ◌∷◌, ◌++◌, length, get_or, set, eqb, ltb}
+use Rattle.std.specs.Prelude.{ℕ, zero, suc, ◌+◌, ◌-◌, ◌≡◌, List, [], ◌∷◌, ◌++◌, length, get_or, set, eqb, ltb}
 use Rattle.base.specs.Choose.{choose}
 use Rattle.wire.specs.Records.{over, part}
 use Rattle.wire.specs.declared.Record.{Record}
@@ -47,25 +47,25 @@ rows file up i (node p nested following) =
 abbrev pub row_bytes : List ℕ → Row → List ℕ
 row_bytes set r = part set r.start (r.end - r.start)
 
--- a table holds five numbers for each row; what it has no room for is left out
-unfoldable pub put : List ℕ → ℕ → Row → List ℕ
-put t i r =
-    choose (ltb (i * 5 + 4) (length t))
-    (set (set (set (set (set t (i * 5) r.start) (i * 5 + 1) r.end) (i * 5 + 2) r.file) (i * 5 + 3) r.up) (i * 5 + 4) r.after)
-    t
+-- a table takes a row in its place; what it has no room for is left out
+abbrev pub put : List Row → ℕ → Row → List Row
+put t i r = set t i r
 
 -- the rows in a table, from row i on
-unfoldable pub fill : List ℕ → ℕ → List Row → List ℕ
+unfoldable pub fill : List Row → ℕ → List Row → List Row
 fill t i [] = t
 fill t i (r ∷ rs) = fill (put t i r) (i + 1) rs
 
+-- what a table has past its end
+abbrev pub no_row : Row
+no_row = record { start = 0; end = 0; file = 0; up = 0; after = 0 }
+
 -- row i of a table
-unfoldable pub row_in : List ℕ → ℕ → Row
-row_in t i =
-    record { start = get_or t (i * 5) 0; end = get_or t (i * 5 + 1) 0; file = get_or t (i * 5 + 2) 0; up = get_or t (i * 5 + 3) 0; after = get_or t (i * 5 + 4) 0 }
+abbrev pub row_at : List Row → ℕ → Row
+row_at t i = get_or t i no_row
 
 -- the table t with the rows of a forest from row i on is u, and next is the row behind them
-pub record Indexed (forest : Forest Place) (file up : ℕ) (t : List ℕ) (i : ℕ) (u : List ℕ) (next : ℕ) : Type 0 where
+pub record Indexed (forest : Forest Place) (file up : ℕ) (t : List Row) (i : ℕ) (u : List Row) (next : ℕ) : Type 0 where
   pub table : u ≡ fill t i (rows file up i forest)
   pub counted : next ≡ i + size forest
 
@@ -89,20 +89,16 @@ unfoldable pub rows_of : ℕ → ℕ → List (Forest Place) → List Row
 rows_of file i [] = []
 rows_of file i (F ∷ Fs) = rows file 0 i F ++ rows_of (file + 1) (i + size F) Fs
 
-pub record IndexedFiles (Fs : List (Forest Place)) (t u : List ℕ) (next : ℕ) : Type 0 where
+pub record IndexedFiles (Fs : List (Forest Place)) (t u : List Row) (next : ℕ) : Type 0 where
   pub table : u ≡ fill t 0 (rows_of 0 0 Fs)
   pub counted : next ≡ total Fs
-
--- row i as the code reads it: a table has fewer than 65,536 rows
-unfoldable pub row_at : List ℕ → ℕ → Row
-row_at t i = choose (ltb i 65536) (row_in t i) (record { start = 0; end = 0; file = 0; up = 0; after = 0 })
 
 -- The rows of what the messages of a table hold with the field number (fields 2, enums 4, oneofs 8), from row i on: of k messages, the first in row j of
 -- the table. A set within the limits has fewer than 32,768; what follows them is left out.
 abbrev pub member_forest : List ℕ → ℕ → Row → Forest Place
 member_forest set number m = forest_in 1 number (part set m.start (m.end - m.start)) m.start
 
-unfoldable pub members : List ℕ → ℕ → List ℕ → ℕ → ℕ → ℕ → List Row
+unfoldable pub members : List ℕ → ℕ → List Row → ℕ → ℕ → ℕ → List Row
 members set number messages zero j i = []
 members set number messages (suc k) j i =
     choose (ltb 32767 i) []
@@ -110,10 +106,10 @@ members set number messages (suc k) j i =
     ++ members set number messages k (j + 1) (i + size (member_forest set number (row_at messages j))))
 
 -- the table t with these rows from row i on is u, and next is the row behind them
-pub record Holds (rs : List Row) (t : List ℕ) (i : ℕ) (u : List ℕ) (next : ℕ) : Type 0 where
+pub record Holds (rs : List Row) (t : List Row) (i : ℕ) (u : List Row) (next : ℕ) : Type 0 where
   pub table : u ≡ fill t i rs
   pub counted : next ≡ i + length rs
 
 -- a set over limit 1, or a table of more messages than limit 3, is not looked at
-unfoldable pub all_members : List ℕ → ℕ → List ℕ → ℕ → ℕ → List Row
+unfoldable pub all_members : List ℕ → ℕ → List Row → ℕ → ℕ → List Row
 all_members set number messages count i = choose (ltb 32768 (length set)) [] (choose (ltb 1024 count) [] (members set number messages count 0 i))

@@ -13,10 +13,11 @@ use Rattle.descriptor.specs.Decode.{entries, parts}
 use Rattle.descriptor.specs.Views.{message_in}
 use Rattle.descriptor.specs.declared.MessageView.{MessageView}
 use Rattle.descriptor.proofs.ViewTheorems.{message_entry_is}
-use Rattle.declarations.specs.Rows.{cell_at}
+use Rattle.declarations.specs.Rows.{row_at, kind_number}
+use Rattle.declarations.specs.declared.Declaration.{Declaration as Row}
 use Rattle.map_entries.specs.Named.{parent_kind, entry_row_named, is_entry_row, row_named, unnamed_from, first_unnamed}
 
-module _ (t : List ℕ) (i up : ℕ) (up_is : up ≡ cell_at t i 2) where
+module _ (t : List Row) (i up : ℕ) (up_is : up ≡ (row_at t i).up) where
   pub parent_none : up ≡ 0 → 0 ≡ parent_kind t i
   unfolding parent_kind choose
   parent_none e = rw (← up_is, eq-eqb up 0 e)
@@ -25,20 +26,20 @@ module _ (t : List ℕ) (i up : ℕ) (up_is : up ≡ cell_at t i 2) where
   unfolding parent_kind choose
   parent_behind ne h = rw (← up_is, ne_eqb up 0 ne, lt-ltb i up h)
 
-  pub parent_is : (up ≡ 0 → ⊥) → up ≤ i → (r : ℕ) → r ≡ cell_at t (up - 1) 4 → r ≡ parent_kind t i
+  pub parent_is : (up ≡ 0 → ⊥) → up ≤ i → (r : ℕ) → r ≡ kind_number (row_at t (up - 1)).kind → r ≡ parent_kind t i
   unfolding parent_kind choose
   parent_is ne h r e = rw (← up_is, ne_eqb up 0 ne, le-ltb i up h) e
 
-module _ (bytes t : List ℕ) (i : ℕ) where
-  module _ (kind : ℕ) (kind_is : kind ≡ cell_at t i 4) where
-    pub entry_none : kind < 2 → false ≡ is_entry_row bytes t i
+module _ (bytes : List ℕ) (t : List Row) (i : ℕ) where
+  module _ (r : Row) (r_is : r ≡ row_at t i) where
+    pub entry_none : kind_number r.kind < 2 → false ≡ is_entry_row bytes t i
     unfolding is_entry_row choose
-    entry_none h = rw (← kind_is, lt-ltb kind 2 h)
+    entry_none h = rw (← r_is, lt-ltb (kind_number r.kind) 2 h)
 
-    pub entry_is : 2 ≤ kind → (start end : ℕ) → start ≡ cell_at t i 5 → end ≡ cell_at t i 6 → (v : MessageView) → v ≡ message_in start (part bytes start (end - start)) → v.entry ≡ is_entry_row bytes t i
+    pub entry_is : 2 ≤ kind_number r.kind → (v : MessageView) → v ≡ message_in r.start (part bytes r.start (r.end - r.start)) → v.entry ≡ is_entry_row bytes t i
     unfolding is_entry_row choose
-    entry_is h start end start_is end_is v v_is =
-        ap (λ (x : MessageView). x.entry) v_is ∙ message_entry_is bytes start (end - start) ∙ rw (← kind_is, le-ltb kind 2 h, ← start_is, ← end_is)
+    entry_is h v v_is =
+        ap (λ (x : MessageView). x.entry) v_is ∙ message_entry_is bytes r.start (r.end - r.start) ∙ rw (← r_is, le-ltb (kind_number r.kind) 2 h)
 
   module _ (who : List ℕ) (r : Bool) (r_is : r ≡ is_entry_row bytes t i) where
     pub no_entry : not r ≡ true → true ≡ row_named bytes t who i
@@ -57,7 +58,7 @@ module _ (bytes t : List ℕ) (i : ℕ) where
       pub row_past : 2 ≤ kind → length who ≤ i → false ≡ row_named bytes t who i
       row_past l out = sym (ne_eqb 0 kind (λ e. omega arith)) ∙ ap (λ (w : ℕ). eqb w kind) (sym (get_or-eq_default who 0 {n = i} out)) ∙ row_said l
 
-module _ (bytes t who : List ℕ) (count : ℕ) where
+module _ (bytes : List ℕ) (t : List Row) (who : List ℕ) (count : ℕ) where
   pub record Going (i : ℕ) : Type 0 where
     pub inside : i ≤ count
     pub left : unnamed_from bytes t who (count - i) i ≡ first_unnamed bytes t count who
@@ -72,11 +73,11 @@ module _ (bytes t who : List ℕ) (count : ℕ) where
     going_end h r e = let z : count - i ≡ 0 = omega arith in e ∙ (rw z at going.left)
 
     module _ (h : i < count) (r : Bool) (r_is : r ≡ row_named bytes t who i) where
-      opened : choose r (unnamed_from bytes t who (count - (i + 1)) (i + 1)) (cell_at t i 3) ≡ first_unnamed bytes t count who
+      opened : choose r (unnamed_from bytes t who (count - (i + 1)) (i + 1)) (row_at t i).file ≡ first_unnamed bytes t count who
       unfolding unnamed_from
       opened = let z : count - i ≡ suc (count - (i + 1)) = omega arith in rw r_is (rw z at going.left)
 
-      pub going_found : not r ≡ true → (f : ℕ) → f ≡ cell_at t i 3 → f ≡ first_unnamed bytes t count who
+      pub going_found : not r ≡ true → (f : ℕ) → f ≡ (row_at t i).file → f ≡ first_unnamed bytes t count who
       unfolding choose
       going_found e f f_is = f_is ∙ (rw (not-true r e) at opened)
 

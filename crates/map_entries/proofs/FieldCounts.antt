@@ -16,6 +16,7 @@ use Rattle.name_rules.specs.Accessors.{is_repeated, is_message}
 use Rattle.name_rules.specs.Rules as rules
 use Rattle.name_rules.specs.MapEntries.{names_it, maps_it, entry_named}
 use Rattle.declarations.specs.Listed.{full, Listed, listed}
+use Rattle.declarations.specs.declared.Declaration.{Declaration as Row}
 use Rattle.type_names.specs.LookUp.{named}
 use Rattle.map_entries.specs.Named.{Use, use_of, is_mapping, field_use, uses, naming, mapping_in}
 use Rattle.map_entries.proofs.CountLaws.{by_eq, said_rule}
@@ -51,7 +52,7 @@ fields_numbered number = all_of (λ (l : Listed). choose (eqb l.number number) l
 abbrev pub fields_listed : List Listed → List FieldDescriptor
 fields_listed = all_of (λ (l : Listed). l.fields)
 
-module _ (bytes t : List ℕ) (j : ℕ) (small : j ≤ 65535) where
+module _ (bytes : List ℕ) (t : List Row) (j : ℕ) (small : j ≤ 65535) where
   abbrev own : Bytes
   own = full bytes t (j + 1)
 

@@ -16,9 +16,10 @@ use Rattle.descriptor.specs.Descriptor.{Bytes}
 use Rattle.descriptor.specs.Decode.{entries, parts}
 use Rattle.descriptor.specs.Views.{field_in, field_of}
 use Rattle.descriptor.specs.declared.FieldView.{FieldView}
-use Rattle.parts.proofs.PartLaws.{parts_from}
-use Rattle.declarations.specs.Rows.{cell_at, row_at}
+use Rattle.declarations.specs.declared.Kind.TheVariants.{Message}
+use Rattle.declarations.specs.Rows.{row_at, kind_number}
 use Rattle.declarations.specs.Listed.{full, listed_row, listed}
+use Rattle.declarations.specs.declared.Declaration.{Declaration as Row}
 use Rattle.checksums.specs.Sums.{sum_of}
 use Rattle.type_names.specs.LookUp.{named}
 use Rattle.type_names.specs.RowSums.{Others}
@@ -77,7 +78,7 @@ noted_swap i j v who d =
     rw (get_or-set_other who j i (joined (get_or who j 0) v) 0 d, get_or-set_other who i j (joined (get_or who i 0) v) 0 (λ e. d (sym e)))
     (set_comm who j i (joined (get_or who j 0) v) (joined (get_or who i 0) v) (λ e. d (sym e)))
 
-module _ (bytes t : List ℕ) where
+module _ (bytes : List ℕ) (t : List Row) where
   pub rows_length : (name : Bytes) (v n : ℕ) (who : List ℕ) → length (noted_rows bytes t name v n who) ≡ length who
   unfolding noted_rows
   rows_length name v zero who = refl
@@ -157,59 +158,49 @@ module _ (bytes t : List ℕ) where
     unfolding tally
     tally_none us who e = rw e
 
-    module _ (s : Bytes) (x : FieldView) (x_is : x ≡ field_in 0 (part s 0 (length s - 0))) (kind : ℕ) (two : 2 ≤ kind) (who : List ℕ) where
-      pub unnamed_field : not x.typename.given ≡ true → who ≡ tally bytes t n (part_use (kind - 2) s) who
-      unnamed_field h = tally_none (part_use (kind - 2) s) who (field_none s x x_is (kind - 2) h)
+    module _ (s : Bytes) (x : FieldView) (x_is : x ≡ field_in 0 (part s 0 (length s - 0))) (number : ℕ) (who : List ℕ) where
+      pub unnamed_field : not x.typename.given ≡ true → who ≡ tally bytes t n (part_use number s) who
+      unnamed_field h = tally_none (part_use number s) who (field_none s x x_is number h)
 
-      pub named_field : not x.typename.given ≡ false → (m : Bool) → ((s : Bytes) → m ≡ is_mapping (field_of s x)) → (v : ℕ) → v ≡ choose m kind 1
-          → (name : Bytes) → name ≡ part s x.typename.start x.typename.len → (w : List ℕ) → w ≡ noted_rows bytes t name v n who → w ≡ tally bytes t n (part_use (kind - 2) s) who
-      unfolding tally vote
-      named_field h m m_is v v_is name name_is w w_is =
-          let k : kind - 2 + 2 ≡ kind = omega arith in
-          w_is ∙ rw (field_some s x x_is (kind - 2) h, ← m_is s, k, ← v_is, ← name_is)
+      pub named_field : not x.typename.given ≡ false → (m : Bool) → ((s : Bytes) → m ≡ is_mapping (field_of s x)) → (v : ℕ) → v ≡ vote number m
+          → (name : Bytes) → name ≡ part s x.typename.start x.typename.len → (w : List ℕ) → w ≡ noted_rows bytes t name v n who → w ≡ tally bytes t n (part_use number s) who
+      unfolding tally
+      named_field h m m_is v v_is name name_is w w_is = w_is ∙ rw (field_some s x x_is number h, ← m_is s, ← v_is, ← name_is)
 
-    -- the fields of a message, from a position on
-    module _ (number : ℕ) (s : Bytes) (who₀ : List ℕ) where
-      abbrev total : List ℕ
-      total = tally bytes t n (all_of (part_use number) (parts 2 (entries s))) who₀
+    -- the fields of a message
+    module _ (number : ℕ) (total : List ℕ) (size : ℕ) where
+      pub record Going (ps : List Bytes) (who : List ℕ) : Type 0 where
+        pub left : tally bytes t n (all_of (part_use number) ps) who ≡ total
+        pub long : length who ≡ size
 
-      pub record Going (who : List ℕ) (at : ℕ) : Type 0 where
-        pub left : tally bytes t n (all_of (part_use number) (parts_from 2 s at)) who ≡ total
-        pub long : length who ≡ length who₀
-
-      pub going_start : Going who₀ 0
-      unfolding entries
-      going_start = record { left = refl; long = refl }
-
-      module _ (who : List ℕ) (at : ℕ) (going : Going who at) where
-        pub going_end : parts_from 2 s at ≡ [] → who ≡ total
+      module _ (ps : List Bytes) (who : List ℕ) (going : Going ps who) where
+        pub going_end : ps ≡ [] → who ≡ total
         unfolding all_of tally
         going_end e = ap (λ (ps : List Bytes). tally bytes t n (all_of (part_use number) ps) who) (sym e) ∙ going.left
 
-        pub going_skip : (next : ℕ) → parts_from 2 s at ≡ parts_from 2 s next → Going who next
-        going_skip next e = record { left = ap (λ (ps : List Bytes). tally bytes t n (all_of (part_use number) ps) who) (sym e) ∙ going.left; long = going.long }
-
-        pub going_more : (next : ℕ) (p : Bytes) → parts_from 2 s at ≡ p ∷ parts_from 2 s next → (x : Bytes) → x ≡ p → (w : List ℕ) → w ≡ tally bytes t n (part_use number x) who → Going w next
+        pub going_more : (p : Bytes) (qs : List Bytes) → ps ≡ p ∷ qs → (w : List ℕ) → w ≡ tally bytes t n (part_use number p) who → Going qs w
         unfolding all_of
-        going_more next p e x x_is w w_is =
+        going_more p qs e w w_is =
             record {
               left =
-                  ap (tally bytes t n (all_of (part_use number) (parts_from 2 s next))) (w_is ∙ ap (λ (y : Bytes). tally bytes t n (part_use number y) who) x_is)
-                  ∙ sym (tally_append (part_use number p) (all_of (part_use number) (parts_from 2 s next)) who)
+                  ap (tally bytes t n (all_of (part_use number) qs)) w_is
+                  ∙ sym (tally_append (part_use number p) (all_of (part_use number) qs) who)
                   ∙ ap (λ (ps : List Bytes). tally bytes t n (all_of (part_use number) ps) who) (sym e) ∙ going.left;
-              long = ap length w_is ∙ tally_length (part_use number x) who ∙ going.long;
+              long = ap length w_is ∙ tally_length (part_use number p) who ∙ going.long;
             }
 
     -- a row
-    module _ (i kind : ℕ) (kind_is : kind ≡ cell_at t i 4) (who : List ℕ) where
-      pub no_message : kind < 2 → who ≡ tally bytes t n (row_uses bytes t i) who
+    module _ (i : ℕ) (r : Row) (r_is : r ≡ row_at t i) (who : List ℕ) where
+      pub no_message : kind_number r.kind < 2 → who ≡ tally bytes t n (row_uses bytes t i) who
       unfolding row_uses choose
-      no_message h = tally_none (row_uses bytes t i) who (rw (← kind_is, lt-ltb kind 2 h))
+      no_message h = tally_none (row_uses bytes t i) who (rw (← r_is, lt-ltb (kind_number r.kind) 2 h))
 
-      pub message_noted : 2 ≤ kind → (start end : ℕ) → start ≡ cell_at t i 5 → end ≡ cell_at t i 6 → (s : Bytes) → s ≡ part bytes start (end - start)
-          → (w : List ℕ) → w ≡ tally bytes t n (all_of (part_use (kind - 2)) (parts 2 (entries s))) who → w ≡ tally bytes t n (row_uses bytes t i) who
-      unfolding row_uses choose
-      message_noted h start end start_is end_is s s_is w w_is = w_is ∙ rw (← kind_is, le-ltb kind 2 h, ← start_is, ← end_is, ← s_is)
+      pub message_noted : (number : ℕ) → r.kind ≡ Message number → (s : Bytes) → s ≡ part bytes r.start (r.end - r.start)
+          → (w : List ℕ) → w ≡ tally bytes t n (all_of (part_use number) (parts 2 (entries s))) who → w ≡ tally bytes t n (row_uses bytes t i) who
+      unfolding row_uses kind_number choose
+      message_noted number e s s_is w w_is =
+          let z : number + 2 - 2 ≡ number = omega arith in
+          w_is ∙ rw (← r_is, e, le-ltb (number + 2) 2 (omega arith), z, ← s_is)
 
     -- the rows
     module _ (who₀ : List ℕ) where

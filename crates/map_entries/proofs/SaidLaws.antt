@@ -9,6 +9,7 @@ use lib.Seq.{get_or-set_same, get_or-set_other}
 use Rattle.base.specs.Choose.{choose, choose_case}
 use Rattle.descriptor.specs.Descriptor.{Bytes}
 use Rattle.declarations.specs.Listed.{listed}
+use Rattle.declarations.specs.declared.Declaration.{Declaration as Row}
 use Rattle.type_names.specs.LookUp.{named}
 use Rattle.map_entries.specs.Named.{Use, uses, vote, joined, noted, noted_rows, tally, naming, said}
 use Rattle.map_entries.proofs.CountLaws.{by_eq}
@@ -22,7 +23,7 @@ noted_other : (i v : ℕ) (who : List ℕ) (j : ℕ) → (j ≡ i → ⊥) → g
 unfolding noted
 noted_other i v who j ne = get_or-set_other who i j (joined (get_or who i 0) v) 0 ne
 
-module _ (bytes t : List ℕ) where
+module _ (bytes : List ℕ) (t : List Row) where
   module _ (name : Bytes) (v : ℕ) (who : List ℕ) (j : ℕ) where
     rows_below : (n : ℕ) → n ≤ j → get_or (noted_rows bytes t name v n who) j 0 ≡ get_or who j 0
     unfolding noted_rows

@@ -13,12 +13,12 @@ use Rattle.wire.specs.Records.{part}
 use Rattle.descriptor.specs.Descriptor.{Bytes, FileDescriptor}
 use Rattle.descriptor.specs.Decode.{parts, decode_messages, decode_file, decode_set}
 use Rattle.descriptor.specs.Decode as decode
-use Rattle.index.specs.Tree.{Place}
+use Rattle.declarations.specs.declared.places.Place.{Place}
 use Rattle.name_rules.specs.FullNames.{◌·◌, package_scope}
 use Rattle.name_rules.proofs.ViewedLaws.{whole_part}
-use Rattle.declarations.specs.Rows.{State, bytes_at, room, push, places, package_of, package_row, declare_messages, declare_members, declare_file, declare_files, declared, no_rows}
+use Rattle.declarations.specs.Rows.{State, kind_number, bytes_at, room, push, places, package_of, package_row, declare_messages, declare_members, declare_file, declare_files, declared, no_rows}
 use Rattle.declarations.specs.Listed.{name_of, full, file_entries}
-use Rattle.declarations.specs.declared.Row.{Row}
+use Rattle.declarations.specs.declared.Declaration.{Declaration as Row}
 use Rattle.declarations.proofs.FullLaws.{full_none}
 use Rattle.declarations.proofs.PartLaws.{places_are, package_is}
 use Rattle.map_entries.proofs.KeptLaws.{Kept, kept_none, kept_push, room_before, enums_kept, messages_kept, kept_more}
@@ -75,7 +75,7 @@ module _ (bytes : Bytes) (file : ℕ) (p : Place) where
 
   in_package : (x : State) → (package_of bytes p).given ≡ true → room x ≡ true → room (declare_members bytes file (x.rows + 1) p (push (package_row bytes file p) x)) ≡ true
       → FileGrew x (declare_members bytes file (x.rows + 1) p (push (package_row bytes file p) x))
-  unfolding package_row choose
+  unfolding package_row kind_number choose
   in_package x given free last =
       let r : Row = package_row bytes file p in
       let x₁ : State = push r x in
@@ -127,6 +127,6 @@ module _ (bytes : Bytes) where
   set_files = ap (map decode_file) (places_are bytes 1 (record { start = 0; end = length bytes }) ∙ ap (λ (s : Bytes). parts 1 (decode.entries s)) (whole_part bytes))
 
   -- a table that is not full shows the messages of the set
-  pub set_shown : (t : List ℕ) → room (declared bytes t) ≡ true → all_shown bytes (declared bytes t) ≡ shown_files 0 0 (decode_set bytes)
+  pub set_shown : (t : List Row) → room (declared bytes t) ≡ true → all_shown bytes (declared bytes t) ≡ shown_files 0 0 (decode_set bytes)
   unfolding declared shown
   set_shown t last = files_shown 0 (places bytes 1 (record { start = 0; end = length bytes })) (no_rows t) last ∙ ap (shown_files 0 0) set_files

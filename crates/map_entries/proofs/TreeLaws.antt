@@ -11,12 +11,13 @@ use Rattle.base.specs.Choose.{choose, choose_case}
 use Rattle.base.specs.Tests.{both_ways}
 use Rattle.descriptor.specs.Descriptor.{Bytes, Forest, node, MessageDescriptor}
 use Rattle.descriptor.specs.Decode.{decode_message, decode_messages}
-use Rattle.index.specs.Tree.{Place}
+use Rattle.declarations.specs.declared.places.Place.{Place}
 use Rattle.name_rules.specs.Accessors.{text}
 use Rattle.name_rules.specs.FullNames.{◌·◌, entries}
-use Rattle.declarations.specs.Rows.{State, bytes_at, room, push, push_message, places, declaration_row, declare_enums, declare_messages}
+use Rattle.declarations.specs.Rows.{State, kind_number, bytes_at, room, push, push_message, places, declaration_row, declare_enums, declare_messages}
 use Rattle.declarations.specs.Listed.{name_of, full}
-use Rattle.declarations.specs.declared.Row.{Row}
+use Rattle.declarations.specs.declared.Declaration.{Declaration as Row}
+use Rattle.declarations.specs.declared.Kind.TheVariants.{Enum, Message}
 use Rattle.declarations.proofs.PartLaws.{places_are, message_name}
 use Rattle.map_entries.proofs.KeptLaws.{Kept, kept_push, room_before, enums_kept, messages_kept, kept_more}
 use Rattle.map_entries.proofs.ShownLaws.{Shown, code_kind, shown_as, shown_messages, all_shown, kind_kept, full_kept, new_full, new_kind, new_shown, none_shown}
@@ -28,10 +29,10 @@ pub record Grew (bytes : Bytes) (x y : State) (ss : List Shown) (m : ℕ) : Type
 
 module _ (bytes : Bytes) (file : ℕ) where
   pub enums_shown : (up : ℕ) (ps : List Place) (x : State) → up ≤ x.rows → all_shown bytes (declare_enums bytes file up ps x) ≡ all_shown bytes x
-  unfolding declare_enums declaration_row
+  unfolding declare_enums declaration_row kind_number
   enums_shown up [] x h = refl
   enums_shown up (p ∷ ps) x h =
-      let r : Row = declaration_row bytes file up 1 p in
+      let r : Row = declaration_row bytes file up Enum p in
       choose_case (λ (y : State). all_shown bytes y ≡ all_shown bytes x) (room x)
       (λ free. enums_shown up ps (push r x) (omega arith) ∙ new_shown bytes x r h free x.messages
       ∙ ap (λ (ss : List Shown). all_shown bytes x ++ ss) (none_shown bytes (full bytes x.table up · name_of bytes r) (code_kind x.table up) r (omega arith)) ∙ append-nil (all_shown bytes x))
@@ -40,7 +41,7 @@ module _ (bytes : Bytes) (file : ℕ) where
   pub enums_messages : (up : ℕ) (ps : List Place) (x : State) → (declare_enums bytes file up ps x).messages ≡ x.messages
   unfolding declare_enums
   enums_messages up [] x = refl
-  enums_messages up (p ∷ ps) x = choose_case (λ (y : State). y.messages ≡ x.messages) (room x) (λ _. enums_messages up ps (push (declaration_row bytes file up 1 p) x)) (λ _. refl)
+  enums_messages up (p ∷ ps) x = choose_case (λ (y : State). y.messages ≡ x.messages) (room x) (λ _. enums_messages up ps (push (declaration_row bytes file up Enum p) x)) (λ _. refl)
 
   abbrev forest : ℕ → List Place → Forest MessageDescriptor
   forest n ps = decode_messages n (map (bytes_at bytes) ps)
@@ -56,19 +57,19 @@ module _ (bytes : Bytes) (file : ℕ) where
       → Grew bytes y (declare_messages bytes file n up ps y) (shown_messages file y.messages parent scope (forest n ps)) (length (entries scope (forest n ps)))
 
   row_shown : (up m parent : ℕ) (p : Place) (full : Bytes)
-      → shown_as bytes full parent (declaration_row bytes file up (m + 2) p) ≡ record { full = full; entry = (decode_message (bytes_at bytes p)).map_entry; parent = parent; file = file } ∷ []
-  unfolding shown_as declaration_row choose
+      → shown_as bytes full parent (declaration_row bytes file up (Message m) p) ≡ record { full = full; entry = (decode_message (bytes_at bytes p)).map_entry; parent = parent; file = file } ∷ []
+  unfolding shown_as declaration_row kind_number choose
   row_shown up m parent p full = rw (le-ltb (m + 2) 2 (omega arith))
 
   message_shown : (up m parent : ℕ) (p : Place) (scope : Bytes)
-      → shown_as bytes (scope · name_of bytes (declaration_row bytes file up (m + 2) p)) parent (declaration_row bytes file up (m + 2) p)
+      → shown_as bytes (scope · name_of bytes (declaration_row bytes file up (Message m) p)) parent (declaration_row bytes file up (Message m) p)
       ≡ record { full = scope · text (decode_message (bytes_at bytes p)).name; entry = (decode_message (bytes_at bytes p)).map_entry; parent = parent; file = file } ∷ []
-  message_shown up m parent p scope = rw (message_name bytes p file up (m + 2)) (row_shown up m parent p (scope · text (decode_message (bytes_at bytes p)).name))
+  message_shown up m parent p scope = rw (message_name bytes p file up (Message m)) (row_shown up m parent p (scope · text (decode_message (bytes_at bytes p)).name))
 
   module _ (n up : ℕ) (p : Place) (ps : List Place) (x : State) (scope : Bytes) (parent : ℕ)
       (e : full bytes x.table up ≡ scope) (k : code_kind x.table up ≡ parent) (h : up ≤ x.rows) where
     abbrev r : Row
-    r = declaration_row bytes file up (x.messages + 2) p
+    r = declaration_row bytes file up (Message x.messages) p
 
     abbrev scope₁ : Bytes
     scope₁ = scope · text (decode_message (bytes_at bytes p)).name
@@ -102,7 +103,7 @@ module _ (bytes : Bytes) (file : ℕ) where
 
     node_shown : room x ≡ true → Shows n (x.rows + 1) (places bytes 3 p) scope₁ (x.messages + 2) → Shows (suc n) up ps scope parent → room x₄ ≡ true
         → Grew bytes x x₄ (shown_messages file x.messages parent scope (node (decode_message (bytes_at bytes p)) F₃ F₄)) (length (entries scope (node (decode_message (bytes_at bytes p)) F₃ F₄)))
-    unfolding shown_messages entries declaration_row
+    unfolding shown_messages entries declaration_row kind_number
     node_shown free nested following last =
         let k₁ : Kept x x₁ = kept_push x r (x.messages + 1) in
         let k₂ : Kept x₁ x₂ = enums_kept bytes file (x.rows + 1) (places bytes 4 p) x₁ in
@@ -111,7 +112,7 @@ module _ (bytes : Bytes) (file : ℕ) where
         let i = k₂.rows in
         let j = k₃.rows in
         let full₁ : full bytes x₁.table (x.rows + 1) ≡ scope₁ =
-        rw add-one (new_full bytes x r h free (x.messages + 1)) ∙ ap (λ (q : Bytes). q · name_of bytes r) e ∙ ap (λ (q : Bytes). scope · q) (message_name bytes p file up (x.messages + 2)) in
+        rw add-one (new_full bytes x r h free (x.messages + 1)) ∙ ap (λ (q : Bytes). q · name_of bytes r) e ∙ ap (λ (q : Bytes). scope · q) (message_name bytes p file up (Message x.messages)) in
         let kind₁ : code_kind x₁.table (x.rows + 1) ≡ x.messages + 2 = rw add-one (new_kind bytes x r h free (x.messages + 1)) in
         let m₂ : x₂.messages ≡ x.messages + 1 = enums_messages (x.rows + 1) (places bytes 4 p) x₁ in
         let g₃ = nested x₂ (full_kept bytes x₁ x₂ k₂ (x.rows + 1) (omega arith) ∙ full₁) (kind_kept bytes x₁ x₂ k₂ (x.rows + 1) (omega arith) ∙ kind₁) (omega arith) (room_before x₃ x₄ k₄ last) in

@@ -16,10 +16,11 @@ use Rattle.descriptor.specs.Decode as decode
 use Rattle.name_rules.specs.Accessors.{text}
 use Rattle.name_rules.specs.FullNames.{◌·◌, package_scope, Entry, entries, set_entries, set_fields}
 use Rattle.name_rules.specs.MapEntries.{entry_named, entries_named, map_entries_named}
-use Rattle.declarations.specs.Rows.{State, state, Became, cell_at, row_at, room, has_room, declared}
+use Rattle.declarations.specs.Rows.{State, kind_number, state, Became, row_at, room, has_room, declared}
 use Rattle.declarations.specs.declared.Count.{Count}
 use Rattle.declarations.specs.Listed.{full, Listed, listed, file_entries, listed_files}
 use Rattle.declarations.proofs.RoomLaws.{room_is}
+use Rattle.declarations.specs.declared.Declaration.{Declaration as Row}
 use Rattle.map_entries.specs.Named.{naming, parent_kind, entry_row_named, is_entry_row, row_named, unnamed_from, first_unnamed}
 use Rattle.map_entries.proofs.FieldCounts.{fields_listed, fields_numbered, row_rule}
 use Rattle.map_entries.proofs.ShownLaws.{Shown, shown_as, shown, shown_messages, all_shown}
@@ -114,7 +115,7 @@ count_files : (bytes : Bytes) → files bytes ≡ 0 + length (decode_set bytes)
 unfolding decode_set
 count_files bytes = let e = map_length decode_file (parts 1 (decode.entries bytes)) in omega arith
 
-module _ (bytes t : List ℕ) (n size : ℕ) (fit : n ≤ size) (small : n ≤ 65536) where
+module _ (bytes : List ℕ) (t : List Row) (n size : ℕ) (fit : n ≤ size) (small : n ≤ 65536) where
   abbrev ls : List Listed
   ls = listed bytes t n
 
@@ -136,19 +137,19 @@ module _ (bytes t : List ℕ) (n size : ℕ) (fit : n ≤ size) (small : n ≤ 6
     unfolding entry_row_named ruled
     entry_rule = by_parent (ltb (parent_kind t i) 2) refl
 
-    row_bad : (d : ℕ) → choose (row_named bytes t who i) d (cell_at t i 3) ≡ first_bad (fields_listed ls) ls d (shown_as bytes (full bytes t (suc i)) (parent_kind t i) (row_at t i))
-    unfolding row_named is_entry_row shown_as first_bad good row_at choose
-    row_bad d = by (ltb (cell_at t i 4) 2)
+    row_bad : (d : ℕ) → choose (row_named bytes t who i) d (row_at t i).file ≡ first_bad (fields_listed ls) ls d (shown_as bytes (full bytes t (suc i)) (parent_kind t i) (row_at t i))
+    unfolding row_named is_entry_row shown_as first_bad good choose
+    row_bad d = by (ltb (kind_number (row_at t i).kind) 2)
       where
         m : MessageDescriptor
-        m = decode_message (part bytes (cell_at t i 5) (cell_at t i 6 - cell_at t i 5))
+        m = decode_message (part bytes (row_at t i).start ((row_at t i).end - (row_at t i).start))
 
         s : Shown
-        s = record { full = full bytes t (suc i); entry = m.map_entry; parent = parent_kind t i; file = cell_at t i 3 }
+        s = record { full = full bytes t (suc i); entry = m.map_entry; parent = parent_kind t i; file = (row_at t i).file }
 
-        by : (b : Bool) → choose (choose (choose b false m.map_entry) (entry_row_named t who i) true) d (cell_at t i 3) ≡ first_bad (fields_listed ls) ls d (choose b [] (s ∷ []))
+        by : (b : Bool) → choose (choose (choose b false m.map_entry) (entry_row_named t who i) true) d (row_at t i).file ≡ first_bad (fields_listed ls) ls d (choose b [] (s ∷ []))
         by true = refl
-        by false = ap (λ (b : Bool). choose (choose m.map_entry b true) d (cell_at t i 3)) entry_rule
+        by false = ap (λ (b : Bool). choose (choose m.map_entry b true) d (row_at t i).file) entry_rule
 
   rows_bad : (k i : ℕ) → i + k ≡ n → first_bad (fields_listed ls) ls (unnamed_from bytes t who k i) (shown bytes t i) ≡ first_bad (fields_listed ls) ls (files bytes) (shown bytes t n)
   unfolding unnamed_from shown
@@ -169,7 +170,7 @@ module _ (bytes t : List ℕ) (n size : ℕ) (fit : n ≤ size) (small : n ≤ 6
   table_bad = no_rows_bad (unnamed_from bytes t who n 0) ∙ rows_bad n 0 (omega arith)
 
 -- the theorem: in a table that has a row to spare and lists the set's declarations
-pub set_unnamed : (bytes t : List ℕ) (size : ℕ) → room (declared bytes t) ≡ true → listed bytes (declared bytes t).table (declared bytes t).rows ≡ listed_files 0 0 (decode_set bytes)
+pub set_unnamed : (bytes : List ℕ) (t : List Row) (size : ℕ) → room (declared bytes t) ≡ true → listed bytes (declared bytes t).table (declared bytes t).rows ≡ listed_files 0 0 (decode_set bytes)
     → (declared bytes t).rows ≤ size
     → first_unnamed bytes (declared bytes t).table (declared bytes t).rows (naming bytes (declared bytes t).table (declared bytes t).rows size)
     ≡ first_failing (map_entries_named (set_fields (decode_set bytes))) (decode_set bytes)
@@ -184,11 +185,11 @@ set_unnamed bytes t size last lists fit =
     let z : 0 + first_failing (map_entries_named (set_fields ds)) ds ≡ first_failing (map_entries_named (set_fields ds)) ds = omega arith in
     table_bad bytes x.table x.rows size fit (omega arith) ∙ rows ∙ files_bad (set_fields ds) (listed_files 0 0 ds) ds 0 0 (at_set ds) ∙ z
 
-state_unnamed : (bytes t : List ℕ) (size : ℕ) (x : State) → x ≡ declared bytes t → room x ≡ true → listed bytes x.table x.rows ≡ listed_files 0 0 (decode_set bytes) → x.rows ≤ size
+state_unnamed : (bytes : List ℕ) (t : List Row) (size : ℕ) (x : State) → x ≡ declared bytes t → room x ≡ true → listed bytes x.table x.rows ≡ listed_files 0 0 (decode_set bytes) → x.rows ≤ size
     → first_unnamed bytes x.table x.rows (naming bytes x.table x.rows size) ≡ first_failing (map_entries_named (set_fields (decode_set bytes))) (decode_set bytes)
 state_unnamed bytes t size x e last lists fit = rw e (set_unnamed bytes t size (rw e at last) (rw e at lists) (rw e at fit))
 
 -- the same of what `declare_set` leaves
-pub table_unnamed : (bytes t u : List ℕ) (c : Count) (size : ℕ) → Became (declared bytes t) u c → has_room u c.rows ≡ true → listed bytes u c.rows ≡ listed_files 0 0 (decode_set bytes) → c.rows ≤ size
+pub table_unnamed : (bytes : List ℕ) (t u : List Row) (c : Count) (size : ℕ) → Became (declared bytes t) u c → has_room u c.rows ≡ true → listed bytes u c.rows ≡ listed_files 0 0 (decode_set bytes) → c.rows ≤ size
     → first_unnamed bytes u c.rows (naming bytes u c.rows size) ≡ first_failing (map_entries_named (set_fields (decode_set bytes))) (decode_set bytes)
 table_unnamed bytes t u c size became last lists fit = state_unnamed bytes t size (state u c) became.is last lists fit

@@ -2,11 +2,14 @@
 use mathlib.Core.Path.{◌≡◌, refl, sym, ap, ◌∙◌}
 use mathlib.Core.Bool.{Bool, true, false, not}
 use mathlib.Core.List.{List, [], ◌∷◌, ◌++◌, map, append-nil, append_assoc}
-use Prim.Native.Nat.{ℕ, zero, suc, ◌-◌, ◌≤◌}
+use Prim.Native.Nat.{ℕ, zero, suc, ◌-◌, ◌≤◌, ◌<◌}
 use native.Mathlib.Omega.{arith}
 use lib.ListN.{length}
 use lib.Dec.{eqb}
 use borrow.Author.Tests.{eq-eqb, ne_eqb, lt-ltb, le-ltb, eqb-true, eqb-false, not-true, not-false}
+use mathlib.Core.Logic.{◌⊎◌, ⊎_elim}
+use Rattle.declarations.specs.declared.Kind.{Kind}
+use Rattle.declarations.specs.declared.Kind.TheVariants.{Package, Enum}
 use Rattle.base.specs.Choose.{choose}
 use Rattle.base.specs.Lists.{all_of}
 use Rattle.wire.specs.Records.{part}
@@ -15,7 +18,8 @@ use Rattle.descriptor.specs.Decode.{entries, parts, decode_field, decode_message
 use Rattle.descriptor.specs.Views.{field_in, field_of}
 use Rattle.descriptor.specs.declared.FieldView.{FieldView}
 use Rattle.name_rules.proofs.ViewedLaws.{field_is}
-use Rattle.declarations.specs.Rows.{cell_at, row_at}
+use Rattle.declarations.specs.Rows.{row_at, kind_number}
+use Rattle.declarations.specs.declared.Declaration.{Declaration as Row}
 use Rattle.declarations.specs.Listed.{Listed, listed_row}
 use Rattle.map_entries.specs.Named.{Use, is_mapping, field_use, part_use, row_uses, uses}
 
@@ -66,18 +70,23 @@ at_least zero a b = absurd (a refl)
 at_least (suc zero) a b = absurd (b refl)
 at_least (suc (suc n)) a b = omega arith
 
-pub uses_row : (bytes : Bytes) (t : List ℕ) (full : Bytes) (i : ℕ) → uses (listed_row bytes full (row_at t i)) ≡ row_uses bytes t i
-unfolding uses listed_row row_at row_uses choose all_of decode_message
-uses_row bytes t full i = by (eqb (cell_at t i 4) 0) (eqb (cell_at t i 4) 1) refl refl
+-- a row of another kind than a message's
+pub no_message_kind : (k : Kind) → (k ≡ Package) ⊎ (k ≡ Enum) → kind_number k < 2
+unfolding kind_number
+no_message_kind k is = ⊎_elim (λ e. rw e (omega arith)) (λ e. rw e (omega arith)) is
+
+pub uses_row : (bytes : Bytes) (t : List Row) (full : Bytes) (i : ℕ) → uses (listed_row bytes full (row_at t i)) ≡ row_uses bytes t i
+unfolding uses listed_row row_uses choose all_of decode_message
+uses_row bytes t full i = by (eqb (kind_number (row_at t i).kind) 0) (eqb (kind_number (row_at t i).kind) 1) refl refl
   where
     ps : List Bytes
-    ps = parts 2 (entries (part bytes (cell_at t i 5) (cell_at t i 6 - cell_at t i 5)))
+    ps = parts 2 (entries (part bytes (row_at t i).start ((row_at t i).end - (row_at t i).start)))
 
-    by : (a b : Bool) → eqb (cell_at t i 4) 0 ≡ a → eqb (cell_at t i 4) 1 ≡ b → uses (listed_row bytes full (row_at t i)) ≡ row_uses bytes t i
-    by true b e q = let z = eqb-true (cell_at t i 4) 0 e in rw (e, lt-ltb (cell_at t i 4) 2 (omega arith))
-    by false true e q = let z = eqb-true (cell_at t i 4) 1 q in rw (e, q, lt-ltb (cell_at t i 4) 2 (omega arith))
+    by : (a b : Bool) → eqb (kind_number (row_at t i).kind) 0 ≡ a → eqb (kind_number (row_at t i).kind) 1 ≡ b → uses (listed_row bytes full (row_at t i)) ≡ row_uses bytes t i
+    by true b e q = let z = eqb-true (kind_number (row_at t i).kind) 0 e in rw (e, lt-ltb (kind_number (row_at t i).kind) 2 (omega arith))
+    by false true e q = let z = eqb-true (kind_number (row_at t i).kind) 1 q in rw (e, q, lt-ltb (kind_number (row_at t i).kind) 2 (omega arith))
     by false false e q =
-        let z = eqb-false (cell_at t i 4) 0 e in
-        let y = eqb-false (cell_at t i 4) 1 q in
-        let two : 2 ≤ cell_at t i 4 = at_least (cell_at t i 4) z y in
-        rw (e, q, le-ltb (cell_at t i 4) 2 two) (append-nil (all_of (field_use (cell_at t i 4 - 2)) (map decode_field ps)) ∙ decoded (cell_at t i 4 - 2) ps)
+        let z = eqb-false (kind_number (row_at t i).kind) 0 e in
+        let y = eqb-false (kind_number (row_at t i).kind) 1 q in
+        let two : 2 ≤ kind_number (row_at t i).kind = at_least (kind_number (row_at t i).kind) z y in
+        rw (e, q, le-ltb (kind_number (row_at t i).kind) 2 two) (append-nil (all_of (field_use (kind_number (row_at t i).kind - 2)) (map decode_field ps)) ∙ decoded (kind_number (row_at t i).kind - 2) ps)

@@ -2,7 +2,7 @@
 use mathlib.Core.Path.{◌≡◌, sym, ap, ◌∙◌}
 use mathlib.Core.Bool.{true, false}
 use mathlib.Core.List.{List}
-use Prim.Native.Nat.{ℕ, ◌*◌, ◌≤◌, ◌<◌, min}
+use Prim.Native.Nat.{ℕ, ◌≤◌, ◌<◌, min}
 use native.Mathlib.Omega.{arith}
 use lib.Dec.{ltb}
 use lib.ListN.{length}
@@ -19,6 +19,7 @@ use Rattle.std.specs.Prelude.{Result, Ok, Err}
 use Rattle.declarations.specs.Rows.{State, has_room, declared, Became}
 use Rattle.declarations.specs.Listed.{listed, listed_files}
 use Rattle.declarations.specs.declared.Count.{Count}
+use Rattle.declarations.specs.declared.Declaration.{Declaration as Row}
 use Rattle.declarations.proofs.SetLaws.{set_listed, set_room}
 use Rattle.declared_types.specs.Undeclared.{first_undeclared_row}
 use Rattle.declared_types.proofs.SevenLaws.{first_undeclared_is}
@@ -28,8 +29,8 @@ use Rattle.map_entries.proofs.UnnamedTheorem.{table_unnamed}
 use Rattle.set_rules.specs.Room.{Room, row_count}
 
 module _ (bytes : Bytes) where
-  module _ (t column u : List ℕ) (there : Room bytes t column) (c : Count) (became : Became (declared bytes t) u c) where
-    fewer : (row_count bytes ≤ 65536) × (row_count bytes * 7 ≤ length t)
+  module _ (t u : List Row) (column : List ℕ) (there : Room bytes t column) (c : Count) (became : Became (declared bytes t) u c) where
+    fewer : (row_count bytes ≤ 65536) × (row_count bytes ≤ length t)
     fewer = let s = there.small in let w = there.wide in (omega arith, omega arith)
 
     lists : listed bytes u c.rows ≡ listed_files 0 0 (decode_set bytes)

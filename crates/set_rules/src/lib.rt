@@ -1,79 +1,72 @@
-// What is judged of a set alone: refusals 3, 4, 6 and 7.
+//! What is judged of a set alone: refusals 3, 4, 6 and 7.
 #![tactic(auto)]
 
-ghost use Rattle.std.specs.Prelude.{◌≡◌};
+ghost use Rattle.std.specs.Prelude.{◌≡◌, ◌≤◌, replicate};
 ghost use Rattle.descriptor.specs.Decode.{decode_set};
 ghost use Rattle.descriptor.specs.Limits.{limit_passed};
 ghost use Rattle.name_rules.specs.Answer.{names};
+ghost use Rattle.declarations.specs.Rows.{no_row};
 ghost use Rattle.set_rules.specs.Judge.{judge_set};
 ghost use Rattle.set_rules.specs.Room.{Room, Declares};
 
 use base::refusal::Refusal;
-use declarations::Count;
+use declarations::{Count, Declaration, NO_DECLARATION};
 use limits::SHORT;
 
-// A row for each file and each declaration of a set within the limits, and one more; seven numbers a row.
+/// A row for each file and each declaration of a set within the limits, and one more.
 pub const ROWS: usize = 545;
 
-pub const CELLS: usize = 3815;
-
-// The same of a short set.
+/// The same of a short set.
 pub const SHORT_ROWS: usize = 151;
-
-pub const SHORT_CELLS: usize = 1057;
 
 // Refusals 6 and 7 by the table of the set's declarations; checksums of its rows go into `sums`.
 fn judge_rows(
     set: &[u8],
-    t: &[usize],
+    rows: &[Declaration],
     count: Count,
     who: &mut [usize],
     sums: &mut [u64],
 ) -> Result<(), Refusal>
-    requires { Declares set.now t.now count who.old }
-    ensures { result ≡ names (decode_set set.now) }
+    ensures { Declares set.now rows.now count who.old → result ≡ names (decode_set set.now) }
 {
     let files = parts::count_parts(set, 1);
-    let rows = count.rows;
-    map_entries::note_set(set, t, rows, sums, who);
+    map_entries::note_set(set, rows, count.rows, sums, who);
     let bad = file_names::first_bad_file(set);
-    let unnamed = map_entries::first_unnamed(set, t, rows, who);
-    let six = writer::within(bad, unnamed);
+    let unnamed = map_entries::first_unnamed(set, rows, count.rows, who);
+    let six = bad.min(unnamed);
     if six < files {
         return Err(Refusal::Declaration { file: six });
     }
-    let seven = declared_types::first_undeclared(set, t, rows, sums);
+    let seven = declared_types::first_undeclared(set, rows, count.rows, sums);
     if seven < files {
         return Err(Refusal::TypeName { file: seven });
     }
     Ok(())
 }
 
-// Refusals 6 and 7, with a table and columns that have room for the set's files and declarations.
-fn judge_by(set: &[u8], t: &mut [usize], who: &mut [usize], sums: &mut [u64]) -> Result<(), Refusal>
-    requires { Room set.now t.old who.old }
-    ensures { result ≡ names (decode_set set.now) }
+// Refusals 6 and 7, with a table and columns for so many rows, which are to have room for the set's files and declarations.
+fn judge_within<const SIZE: usize>(set: &[u8]) -> Result<(), Refusal>
+    requires { SIZE ≤ 65536 }
+    ensures { Room set.now (replicate SIZE no_row) (replicate SIZE 0) → result ≡ names (decode_set set.now) }
 {
-    let count = declarations::declare_set(set, t);
-    let n = writer::within(count.rows, sums.len());
-    judge_rows(set, t, count, who, &mut sums[0..n])
+    let mut rows = [NO_DECLARATION; SIZE];
+    let mut who = [0usize; SIZE];
+    let mut sums = [0u64; SIZE];
+    let count = declarations::declare_set(set, &mut rows);
+    let sums = &mut sums[..];
+    let summed = count.rows.min(sums.len());
+    judge_rows(set, &rows, count, &mut who, &mut sums[0..summed])
 }
 
-/// Has a set within the limits neither refusal 6 nor 7? If it has one, the first of 6, else of 7.
+/// Has a set within the limits neither refusal 6 nor 7? If it has one, the first of 6, else of 7. Of another set the answer says
+/// nothing.
 pub fn judge_names(set: &[u8]) -> Result<(), Refusal>
-    requires { limit_passed set.now ≡ 0 }
-    ensures { result ≡ names (decode_set set.now) }
+    ensures { limit_passed set.now ≡ 0 → result ≡ names (decode_set set.now) }
 {
     if set.len() <= SHORT {
-        let mut t = [0usize; SHORT_CELLS];
-        let mut who = [0usize; SHORT_ROWS];
-        let mut sums = [0u64; SHORT_ROWS];
-        return judge_by(set, &mut t, &mut who, &mut sums);
+        return judge_within::<SHORT_ROWS>(set);
     }
-    let mut t = [0usize; CELLS];
-    let mut who = [0usize; ROWS];
-    let mut sums = [0u64; ROWS];
-    judge_by(set, &mut t, &mut who, &mut sums)
+    judge_within::<ROWS>(set)
 }
 
 /// Has a set none of the refusals 3, 4, 6 and 7? If it has one, the first in document 01's order.

@@ -13,17 +13,19 @@ use Rattle.writer.specs.Wrote.{Wrote}
 use Rattle.options.specs.Settings.{settings, first_of_kind}
 use Rattle.options.specs.declared.Found.{Found}
 use Rattle.index.specs.Tree.{file_forests, IndexedFiles, fill, Holds, all_members}
+use Rattle.index.specs.declared.Row.{Row}
 use Rattle.message_graph.specs.declared.Field.{Field}
 use Rattle.message_graph.specs.Rows.{no_field, fields_of, settings_of}
 use Rattle.field_columns.proofs.SetColumns.{map_tab}
 use Rattle.message_graph.specs.Tab.{tab}
 use Rattle.declarations.specs.Rows.{State, declared, Became}
 use Rattle.declarations.specs.declared.Count.{Count}
+use Rattle.declarations.specs.declared.Declaration.{Declaration}
 use Rattle.boxed_settings.specs.Flags.{set_flags}
 use Rattle.targets.specs.Targets.{field_in}
 use Rattle.context_tables.specs.Cells.{message_table, field_table}
 use Rattle.limits.specs.Short.{short}
-use Rattle.set_tables.specs.Filled.{most_fields, declaration_cells, zeros, message_places, message_count, field_places, field_count, target_by, field_by, field_of, setting_bytes, columns_at, Ready, settings_to, entries_by, columned, message_numbers, field_numbers_in}
+use Rattle.set_tables.specs.Filled.{most_fields, declaration_rows, blank_rows, zeros, no_rows, message_places, message_count, field_places, field_count, target_by, field_by, field_of, setting_bytes, columns_at, Ready, settings_to, entries_by, columned, message_numbers, field_numbers_in}
 use Rattle.set_tables.proofs.ZeroLaws.{unset_bytes}
 
 -- a part from the start on
@@ -38,18 +40,18 @@ module _ (set : List ℕ) where
     unfolding most_fields
     few_there = sym (else_lt 2048 150 150 short (length set) h refl)
 
-    pub few_declared : declaration_cells set ≡ 1057
-    unfolding declaration_cells
-    few_declared = sym (else_lt 3815 1057 1057 short (length set) h refl)
+    pub few_declared : declaration_rows set ≡ 151
+    unfolding declaration_rows
+    few_declared = sym (else_lt 545 151 151 short (length set) h refl)
 
   module _ (h : short < length set) where
     pub many_there : most_fields set ≡ 2048
     unfolding most_fields
     many_there = sym (then_lt 2048 150 2048 short (length set) h refl)
 
-    pub many_declared : declaration_cells set ≡ 3815
-    unfolding declaration_cells
-    many_declared = sym (then_lt 3815 1057 3815 short (length set) h refl)
+    pub many_declared : declaration_rows set ≡ 545
+    unfolding declaration_rows
+    many_declared = sym (then_lt 545 151 545 short (length set) h refl)
 
   pub fields_few : most_fields set ≤ 2048
   unfolding most_fields
@@ -61,18 +63,17 @@ module _ (set : List ℕ) where
   unfolding zeros
   fresh_bytes most is = rw is
 
-  pub fresh_fields : (o : List ℕ) (cells : ℕ) → declaration_cells set ≡ cells → (settings : List ℕ) → settings ≡ setting_bytes set o → (places : List ℕ) (size : ℕ) (r : List Field)
-      → r ≡ tab size (field_by set places (replicate cells 0) settings) → r ≡ tab size (field_of set o places)
+  pub fresh_fields : (o : List ℕ) (cells : ℕ) → declaration_rows set ≡ cells → (settings : List ℕ) → settings ≡ setting_bytes set o → (places : List Row) (size : ℕ) (r : List Field)
+      → r ≡ tab size (field_by set places (blank_rows cells) settings) → r ≡ tab size (field_of set o places)
   unfolding zeros
   fresh_fields o cells is settings put places size r filled = rw (is, ← put) filled
 
-  pub arrays_ready : (rows : List ℕ) (count : ℕ) → rows ≡ message_places set → count ≡ message_count set → (most cells : ℕ) → most_fields set ≡ most → cells ≡ most * 5
-      → Ready set rows count (replicate cells 0) (replicate most no_field) (replicate most false)
-  unfolding zeros
-  arrays_ready rows count rows_are counted most cells is cells_are = record {
+  pub arrays_ready : (rows : List Row) (count : ℕ) → rows ≡ message_places set → count ≡ message_count set → (most : ℕ) → most_fields set ≡ most
+      → Ready set rows count (no_rows most) (replicate most no_field) (replicate most false)
+  arrays_ready rows count rows_are counted most is = record {
     placed = rows_are;
     counted = counted;
-    cleared = rw (is, cells_are);
+    cleared = ap no_rows (sym is);
     sized = length-replicate {A = Field} most no_field ∙ sym is;
     boxes = length-replicate {A = Bool} most false ∙ sym is;
   }
@@ -86,7 +87,7 @@ settings_put set o bytes end old is wrote = wrote.text ∙ rw is
 pub settings_unset : (set o old : List ℕ) → old ≡ zeros (most_fields set) → (f : Found) → f ≡ first_of_kind 4 0 (settings o) → f.found ≡ false → old ≡ setting_bytes set o
 settings_unset set o old is f found unset = is ∙ unset_bytes set o (rw found at unset)
 
-pub fields_declared : (set places old t settings : List ℕ) (c : Count) (size : ℕ) → Became (declared set old) t c
+pub fields_declared : (set : List ℕ) (places : List Row) (old t : List Declaration) (settings : List ℕ) (c : Count) (size : ℕ) → Became (declared set old) t c
     → (r : List Field) → r ≡ tab size (field_in set places t c.rows settings) → r ≡ tab size (field_by set places old settings)
 fields_declared set places old t settings c size became r is = is ∙ ap (λ (x : State). tab size (field_in set places x.table x.rows settings)) became.is
 
@@ -96,7 +97,7 @@ pub parts_long : (n k m : ℕ) (fields : List Field) (boxed : List Bool) → k �
     → length (take (k - 0) (drop 0 boxed)) ≡ length (take (k - 0) (drop 0 fields))
 parts_long n k m fields boxed k_is whole long = front_length k boxed (omega arith) ∙ sym (front_length k fields (omega arith))
 
-module _ (set o rows places : List ℕ) (k : ℕ) (fields : List Field) (fields_are : fields ≡ tab k (field_of set o places)) where
+module _ (set o : List ℕ) (rows places : List Row) (k : ℕ) (fields : List Field) (fields_are : fields ≡ tab k (field_of set o places)) where
   columns_are : fields_of fields ≡ columns_at k set places
   unfolding columns_at fields_of target_by
   columns_are = rw (fields_are, map_tab, map_tab, map_tab, map_tab)
@@ -115,23 +116,23 @@ module _ (set o rows places : List ℕ) (k : ℕ) (fields : List Field) (fields_
 -- ---- both tables
 
 -- the places of the messages, in a new array
-module _ (set rows : List ℕ) (count : ℕ) (rows_are : IndexedFiles (file_forests 4 16 set) (replicate 1280 0) rows count) where
+module _ (set : List ℕ) (rows : List Row) (count : ℕ) (rows_are : IndexedFiles (file_forests 4 16 set) (no_rows 256) rows count) where
   pub places_are : rows ≡ message_places set
-  unfolding message_places zeros
+  unfolding message_places
   places_are = rows_are.table
 
   pub count_is : count ≡ message_count set
   unfolding message_count
   count_is = rows_are.counted
 
-module _ (set o rows places : List ℕ) (count n : ℕ) (old : List ℕ) (fields : List Field) (boxed : List Bool) (ready : Ready set rows count old fields boxed)
+module _ (set o : List ℕ) (rows places : List Row) (count n : ℕ) (old : List Row) (fields : List Field) (boxed : List Bool) (ready : Ready set rows count old fields boxed)
     (places_hold : Holds (all_members set 2 rows count 0) old 0 places n) where
   members_as : all_members set 2 rows count 0 ≡ all_members set 2 (message_places set) (message_count set) 0
-  members_as = ap (λ (l : List ℕ). all_members set 2 l count 0) ready.placed ∙ ap (λ (x : ℕ). all_members set 2 (message_places set) x 0) ready.counted
+  members_as = ap (λ (l : List Row). all_members set 2 l count 0) ready.placed ∙ ap (λ (x : ℕ). all_members set 2 (message_places set) x 0) ready.counted
 
   places_as : places ≡ field_places set
   unfolding field_places
-  places_as = places_hold.table ∙ ap (fill old 0) members_as ∙ ap (λ (l : List ℕ). fill l 0 (all_members set 2 (message_places set) (message_count set) 0)) ready.cleared
+  places_as = places_hold.table ∙ ap (fill old 0) members_as ∙ ap (λ (l : List Row). fill l 0 (all_members set 2 (message_places set) (message_count set) 0)) ready.cleared
 
   n_as : n ≡ field_count set
   unfolding field_count

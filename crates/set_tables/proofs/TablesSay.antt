@@ -6,7 +6,7 @@ use mathlib.Core.List.{List, [], ◌++◌}
 use Prim.Native.Nat.{ℕ, ◌+◌, ◌*◌, ◌-◌, ◌≤◌, ◌<◌, min}
 use native.Mathlib.Omega.{arith}
 use lib.Dec.{ltb}
-use lib.ListN.{length, get_or, get_or-append}
+use lib.ListN.{length, length-replicate, get_or, get_or-append}
 use borrow.Author.Tests.{ltb-false}
 use Rattle.base.specs.Choose.{choose_case}
 use Rattle.base.specs.Lists.{map_length}
@@ -18,11 +18,12 @@ use Rattle.options.specs.Settings.{Setting, settings}
 use Rattle.name_rules.specs.Accessors.{is_repeated, is_message, is_group}
 use Rattle.name_rules.specs.FullNames.{Entry, set_entries}
 use Rattle.name_rules.specs.Answer.{names}
-use Rattle.index.specs.Tree.{Holds, all_members, row_at, row_bytes}
+use Rattle.index.specs.Tree.{Holds, all_members, no_row, row_at, row_bytes}
 use Rattle.index.specs.declared.Row as index_row
 use Rattle.index.proofs.SetLaws.{MessageTable, messages_counted, messages_there, fields_hold}
 use Rattle.message_graph.specs.Tab.{tab, length_tab, tab_at}
-use Rattle.declarations.specs.Rows.{declared}
+use Rattle.declarations.specs.Rows.{no_row as no_declaration, declared}
+use Rattle.declarations.specs.declared.Declaration.{Declaration}
 use Rattle.declarations.specs.Listed.{listed, listed_files}
 use Rattle.declarations.proofs.SetLaws.{set_listed, set_room}
 use Rattle.boxed_settings.specs.Flags.{set_flags}
@@ -43,7 +44,7 @@ use Rattle.table_laws.specs.NodeLaws.{MapField, entry_typed, nodes_say}
 use Rattle.table_laws.specs.TableTheorems.{message_table_says, message_table_after, field_table_says, field_table_place, field_table_no_place, field_table_lies}
 use Rattle.targets.proofs.TargetTheorem.{target_is}
 use Rattle.limits.specs.Short.{short}
-use Rattle.set_tables.specs.Filled.{most_fields, declaration_cells, zeros, message_places, message_count, field_places, field_count, target_by, target_in, setting_bytes, columns_at, columns_to, settings_to, columned, entries_by, message_numbers, field_numbers_in, field_numbers}
+use Rattle.set_tables.specs.Filled.{most_fields, declaration_rows, blank_rows, zeros, no_rows, message_places, message_count, field_places, field_count, target_by, target_in, setting_bytes, columns_at, columns_to, settings_to, columned, entries_by, message_numbers, field_numbers_in, field_numbers}
 use Rattle.set_tables.proofs.ZeroLaws.{zeros_length, drop_zeros}
 use Rattle.set_tables.proofs.FillLaws.{few_there, fields_few}
 
@@ -63,10 +64,10 @@ fields_fit set passed =
     (λ h. (within_limits set passed).fields)
     (λ h. let few = declarations_short set in let size = ltb-false short (length set) h in omega arith)
 
-rows_fit : (set : List ℕ) → limit_passed set ≡ 0 → (row_count set + 1) * 7 ≤ declaration_cells set
-unfolding declaration_cells
+rows_fit : (set : List ℕ) → limit_passed set ≡ 0 → row_count set + 1 ≤ declaration_rows set
+unfolding declaration_rows
 rows_fit set passed =
-    choose_case (λ (k : ℕ). (row_count set + 1) * 7 ≤ k) (ltb short (length set))
+    choose_case (λ (k : ℕ). row_count set + 1 ≤ k) (ltb short (length set))
     (λ h. let few = few_rows set passed in omega arith)
     (λ h. let few = short_rows set in let size = ltb-false short (length set) h in omega arith)
 
@@ -80,10 +81,10 @@ module _ (set o : List ℕ) (passed : limit_passed set ≡ 0) (good : names (dec
   abbrev rs : List Setting
   rs = settings o
 
-  abbrev rows : List ℕ
+  abbrev rows : List index_row.Row
   rows = message_places set
 
-  abbrev fields : List ℕ
+  abbrev fields : List index_row.Row
   fields = field_places set
 
   abbrev n : ℕ
@@ -99,10 +100,10 @@ module _ (set o : List ℕ) (passed : limit_passed set ≡ 0) (good : names (dec
   message_table_is =
       let counted = messages_counted set limits.small in
       let few = limits.messages in
-      let size = zeros_length 1280 in
-      messages_there set (zeros 1280) _ _ limits.small (omega arith) (omega arith) (record { table = refl; counted = refl })
+      let size = length-replicate 256 no_row in
+      messages_there set (no_rows 256) _ _ limits.small (omega arith) (omega arith) (record { table = refl; counted = refl })
 
-  field_rows : Holds (all_members set 2 rows (message_count set) 0) (zeros (most_fields set * 5)) 0 fields n
+  field_rows : Holds (all_members set 2 rows (message_count set) 0) (no_rows (most_fields set)) 0 fields n
   unfolding field_places field_count
   field_rows = record { table = refl; counted = omega arith }
 
@@ -115,19 +116,19 @@ module _ (set o : List ℕ) (passed : limit_passed set ≡ 0) (good : names (dec
   few_fields : n ≤ most_fields set
   few_fields = rw fields_counted (fields_fit set passed)
 
-  field_room : n * 5 ≤ length (zeros (most_fields set * 5))
-  field_room = let few = few_fields in let size = zeros_length (most_fields set * 5) in omega arith
+  field_room : n ≤ length (no_rows (most_fields set))
+  field_room = let few = few_fields in let size = length-replicate (most_fields set) no_row in omega arith
 
   below : {r : Row} {k : ℕ} → At r (rows_of es) k → k < n
   below p = let within = at_within p in let counted = fields_counted in let rows_are = rows_counted ds in omega arith
 
   -- ---- the columns
 
-  abbrev table : List ℕ
-  table = zeros (declaration_cells set)
+  abbrev table : List Declaration
+  table = blank_rows (declaration_rows set)
 
-  table_wide : (row_count set + 1) * 7 ≤ length table
-  table_wide = let size = zeros_length (declaration_cells set) in let fit = rows_fit set passed in omega arith
+  table_wide : row_count set + 1 ≤ length table
+  table_wide = let size = length-replicate {A = Declaration} (declaration_rows set) no_declaration in let fit = rows_fit set passed in omega arith
 
   lists : listed set (declared set table).table (declared set table).rows ≡ listed_files 0 0 ds
   lists = let wide = table_wide in let few = few_rows set passed in set_listed set table (row_count set) (omega arith) (omega arith) (omega arith)
@@ -142,7 +143,7 @@ module _ (set o : List ℕ) (passed : limit_passed set ≡ 0) (good : names (dec
   unfolding target_by
   targets r k p is =
       tab_at n (target_in set fields) 0 k (below p)
-      ∙ target_is set (declared set table).table (declared set table).rows few_declarations lists rows (message_count set) message_table_is (zeros (most_fields set * 5)) fields n field_rows field_room limits.messages good r k p is
+      ∙ target_is set (declared set table).table (declared set table).rows few_declarations lists rows (message_count set) message_table_is (no_rows (most_fields set)) fields n field_rows field_room limits.messages good r k p is
 
   wrote : Wrote (zeros (most_fields set)) 0 (set_flags rs set) (setting_bytes set o) (after 0 (length (set_flags rs set)))
   unfolding setting_bytes
@@ -185,25 +186,25 @@ module _ (set o : List ℕ) (passed : limit_passed set ≡ 0) (good : names (dec
     unfolding columns_at settings_to
     place r k p is e j q typed =
         rw (row_is p)
-        (field_table_place set rows (message_count set) message_table_is (zeros (most_fields set * 5)) fields n field_rows field_room passed good (tab n (target_in set fields)) targets rs (zeros (most_fields set)) (setting_bytes set o) _ wrote space p is q typed (min (n * 8) field_size) n (field_fits p))
+        (field_table_place set rows (message_count set) message_table_is (no_rows (most_fields set)) fields n field_rows field_room passed good (tab n (target_in set fields)) targets rs (zeros (most_fields set)) (setting_bytes set o) _ wrote space p is q typed (min (n * 8) field_size) n (field_fits p))
 
     no_place : (r : Row) (k : ℕ) → At r (rows_of es) k → is_message r.field ≡ false → ((field_row (fields_to n) k).entry ≡ 0) × ((field_row (fields_to n) k).entryend ≡ 0)
     unfolding columns_at settings_to
     no_place r k p is =
         rw (row_is p)
-        (field_table_no_place set rows (message_count set) message_table_is (zeros (most_fields set * 5)) fields n field_rows field_room passed good (tab n (target_in set fields)) targets rs (zeros (most_fields set)) (setting_bytes set o) _ wrote space p is (min (n * 8) field_size) n (field_fits p))
+        (field_table_no_place set rows (message_count set) message_table_is (no_rows (most_fields set)) fields n field_rows field_room passed good (tab n (target_in set fields)) targets rs (zeros (most_fields set)) (setting_bytes set o) _ wrote space p is (min (n * 8) field_size) n (field_fits p))
 
     all_say : Says rs set (messages_to n) (fields_to n)
     unfolding columns_at settings_to
     all_say =
         record {
-          message = λ e i p. message_table_says set rows (message_count set) message_table_is (zeros (most_fields set * 5)) fields n field_rows field_room passed good (tab n (target_in set fields)) targets rs (zeros (most_fields set)) (setting_bytes set o) _ wrote space p message_size (message_fits p);
-          field = λ r k p. rw (row_is p) (field_table_says set rows (message_count set) message_table_is (zeros (most_fields set * 5)) fields n field_rows field_room passed good (tab n (target_in set fields)) targets rs (zeros (most_fields set)) (setting_bytes set o) _ wrote space p (min (n * 8) field_size) n (field_fits p) (below p) (entries_by set rows));
-          lies = λ r k p. rw (row_is p) (field_table_lies set rows (message_count set) message_table_is (zeros (most_fields set * 5)) fields n field_rows field_room passed good (tab n (target_in set fields)) targets rs (zeros (most_fields set)) (setting_bytes set o) _ wrote space p (min (n * 8) field_size) n (field_fits p) (entries_by set rows));
+          message = λ e i p. message_table_says set rows (message_count set) message_table_is (no_rows (most_fields set)) fields n field_rows field_room passed good (tab n (target_in set fields)) targets rs (zeros (most_fields set)) (setting_bytes set o) _ wrote space p message_size (message_fits p);
+          field = λ r k p. rw (row_is p) (field_table_says set rows (message_count set) message_table_is (no_rows (most_fields set)) fields n field_rows field_room passed good (tab n (target_in set fields)) targets rs (zeros (most_fields set)) (setting_bytes set o) _ wrote space p (min (n * 8) field_size) n (field_fits p) (below p) (entries_by set rows));
+          lies = λ r k p. rw (row_is p) (field_table_lies set rows (message_count set) message_table_is (no_rows (most_fields set)) fields n field_rows field_room passed good (tab n (target_in set fields)) targets rs (zeros (most_fields set)) (setting_bytes set o) _ wrote space p (min (n * 8) field_size) n (field_fits p) (entries_by set rows));
           place = place;
           no_place = no_place;
           nodes = nodes_say set (messages_to n) (fields_to n) sound good (λ j. (row_at rows j).after) (set_afters set rows (message_count set) message_table_is)
-              (λ e i p. message_table_after set rows (message_count set) message_table_is (zeros (most_fields set * 5)) fields n field_rows field_room passed good (tab n (target_in set fields)) targets rs (zeros (most_fields set)) (setting_bytes set o) _ wrote space p message_size (message_fits p))
+              (λ e i p. message_table_after set rows (message_count set) message_table_is (no_rows (most_fields set)) fields n field_rows field_room passed good (tab n (target_in set fields)) targets rs (zeros (most_fields set)) (setting_bytes set o) _ wrote space p message_size (message_fits p))
               place no_place;
         }
 

@@ -5,7 +5,7 @@ use mathlib.Core.List.{List, [], ◌∷◌, ◌++◌}
 use Prim.Native.Nat.{ℕ, zero, suc, ◌+◌, ◌-◌}
 use native.Mathlib.Nat.{sub-zero, zero-sub, suc-sub-suc}
 use lib.Dec.{eqb}
-use lib.ListN.{length, length-replicate, get_or, set, drop, replicate}
+use lib.ListN.{length, length-replicate, set, drop, replicate}
 use Rattle.base.specs.Choose.{choose}
 use Rattle.writer.specs.Wrote.{over}
 use Rattle.descriptor.specs.Descriptor.{Bytes}
@@ -36,12 +36,6 @@ fresh_zeros n = ap (λ (m : ℕ). replicate m 0) (sym (length-replicate {A = ℕ
 pub held_zeros : (n : ℕ) (t set o : List ℕ) → t ≡ zeros n → field_numbers_in t set o ≡ field_numbers n set o
 unfolding field_numbers
 held_zeros n t set o is = ap (λ (l : List ℕ). field_numbers_in l set o) is
-
-pub zeros_at : (n x : ℕ) → get_or (zeros n) x 0 ≡ 0
-unfolding zeros
-zeros_at zero x = refl
-zeros_at (suc n) zero = refl
-zeros_at (suc n) (suc x) = zeros_at n x
 
 -- ---- a text of zeros
 

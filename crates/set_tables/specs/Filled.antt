@@ -4,12 +4,14 @@ use Rattle.base.specs.Choose.{choose}
 use Rattle.writer.specs.Wrote.{over}
 use Rattle.limits.specs.Short.{short}
 use Rattle.options.specs.Settings.{settings}
-use Rattle.index.specs.Tree.{file_forests, total, rows_of, fill, all_members}
+use Rattle.index.specs.Tree.{file_forests, total, rows_of, fill, no_row, all_members}
+use Rattle.index.specs.declared.Row.{Row}
 use Rattle.message_graph.specs.Limit.{messages}
 use Rattle.message_graph.specs.Fields.{Fields}
 use Rattle.message_graph.specs.Tab.{tab}
 use Rattle.field_columns.specs.Columns.{owner_at, column_at, Kind, Label}
-use Rattle.declarations.specs.Rows.{declared}
+use Rattle.declarations.specs.Rows.{no_row as no_declaration, declared}
+use Rattle.declarations.specs.declared.Declaration.{Declaration}
 use Rattle.boxed_settings.specs.Flags.{set_flags}
 use Rattle.message_graph.specs.declared.Field.{Field}
 use Rattle.targets.specs.Targets.{target_at, field_in}
@@ -19,47 +21,54 @@ use Rattle.context_tables.specs.Cells.{is_set_at, entry_at, columns, message_tab
 unfoldable pub most_fields : List ℕ → ℕ
 most_fields set = choose (ltb short (length set)) 2048 150
 
--- files and declarations: seven numbers for each, and for one more
-unfoldable pub declaration_cells : List ℕ → ℕ
-declaration_cells set = choose (ltb short (length set)) 3815 1057
+-- files and declarations: a row for each, and for one more
+unfoldable pub declaration_rows : List ℕ → ℕ
+declaration_rows set = choose (ltb short (length set)) 545 151
+
+abbrev pub blank_rows : ℕ → List Declaration
+blank_rows n = replicate n no_declaration
 
 unfoldable pub zeros : ℕ → List ℕ
 zeros n = replicate n 0
 
--- the places of the messages: five numbers for each of 256
-unfoldable pub message_places : List ℕ → List ℕ
-message_places set = fill (zeros 1280) 0 (rows_of 0 0 (file_forests 4 16 set))
+-- a table of rows that hold nothing
+abbrev pub no_rows : ℕ → List Row
+no_rows n = replicate n no_row
+
+-- the places of the messages, of at most 256
+unfoldable pub message_places : List ℕ → List Row
+message_places set = fill (no_rows 256) 0 (rows_of 0 0 (file_forests 4 16 set))
 
 unfoldable pub message_count : List ℕ → ℕ
 message_count set = total (file_forests 4 16 set)
 
--- the places of the fields: five numbers for each
-unfoldable pub field_places : List ℕ → List ℕ
-field_places set = fill (zeros (most_fields set * 5)) 0 (all_members set 2 (message_places set) (message_count set) 0)
+-- the places of the fields
+unfoldable pub field_places : List ℕ → List Row
+field_places set = fill (no_rows (most_fields set)) 0 (all_members set 2 (message_places set) (message_count set) 0)
 
 unfoldable pub field_count : List ℕ → ℕ
 field_count set = length (all_members set 2 (message_places set) (message_count set) 0)
 
 -- the message that the type of field k is, given the places of the fields and a table for the declarations
-unfoldable pub target_by : List ℕ → List ℕ → List ℕ → ℕ → ℕ
+unfoldable pub target_by : List ℕ → List Row → List Declaration → ℕ → ℕ
 target_by set fields t k = target_at set fields (declared set t).table (declared set t).rows k
 
-abbrev pub target_in : List ℕ → List ℕ → ℕ → ℕ
-target_in set fields = target_by set fields (zeros (declaration_cells set))
+abbrev pub target_in : List ℕ → List Row → ℕ → ℕ
+target_in set fields = target_by set fields (blank_rows (declaration_rows set))
 
 -- the bytes that have the boxed settings, for the options o
 unfoldable pub setting_bytes : List ℕ → List ℕ → List ℕ
 setting_bytes set o = over (zeros (most_fields set)) 0 (set_flags (settings o) set)
 
 -- field k, given the places of the fields, a table for the declarations, and the bytes that have the boxed settings
-abbrev pub field_by : List ℕ → List ℕ → List ℕ → List ℕ → ℕ → Field
+abbrev pub field_by : List ℕ → List Row → List Declaration → List ℕ → ℕ → Field
 field_by set places t settings = field_in set places (declared set t).table (declared set t).rows settings
 
-abbrev pub field_of : List ℕ → List ℕ → List ℕ → ℕ → Field
-field_of set o places = field_by set places (zeros (declaration_cells set)) (setting_bytes set o)
+abbrev pub field_of : List ℕ → List ℕ → List Row → ℕ → Field
+field_of set o places = field_by set places (blank_rows (declaration_rows set)) (setting_bytes set o)
 
 -- the columns over the first k fields, given their places
-unfoldable pub columns_at : ℕ → List ℕ → List ℕ → Fields
+unfoldable pub columns_at : ℕ → List ℕ → List Row → Fields
 columns_at k set fields =
     columns (tab k (owner_at fields)) (tab k (target_in set fields)) (tab k (column_at set fields Kind)) (tab k (column_at set fields Label))
 
@@ -67,10 +76,10 @@ abbrev pub columns_to : ℕ → List ℕ → Fields
 columns_to k set = columns_at k set (field_places set)
 
 -- the places of the messages, and what the fields are laid in
-pub record Ready (set rows : List ℕ) (count : ℕ) (places : List ℕ) (fields : List Field) (boxed : List Bool) : Type 0 where
+pub record Ready (set : List ℕ) (rows : List Row) (count : ℕ) (places : List Row) (fields : List Field) (boxed : List Bool) : Type 0 where
   pub placed : rows ≡ message_places set
   pub counted : count ≡ message_count set
-  pub cleared : places ≡ zeros (most_fields set * 5)
+  pub cleared : places ≡ no_rows (most_fields set)
   pub sized : length fields ≡ most_fields set
   pub boxes : length boxed ≡ most_fields set
 
@@ -79,11 +88,11 @@ abbrev pub no_flags : List Bool
 no_flags = replicate messages false
 
 -- only the first count messages may be map entries
-abbrev pub EntriesBelow : ℕ → List ℕ → List ℕ → Type 0
+abbrev pub EntriesBelow : ℕ → List ℕ → List Row → Type 0
 EntriesBelow count set rows = (i : ℕ) → count ≤ i → entry_at set rows i ≡ false
 
 -- which messages are map entries, given their places
-abbrev pub entries_by : List ℕ → List ℕ → List Bool
+abbrev pub entries_by : List ℕ → List Row → List Bool
 entries_by set rows = tab messages (entry_at set rows)
 
 unfoldable pub settings_to : ℕ → List ℕ → List ℕ → List Bool

@@ -7,38 +7,32 @@ ghost use Rattle.message_graph.specs.Tab.{tab};
 ghost use Rattle.context_tables.specs.Cells.{message_table, field_table};
 ghost use Rattle.set_tables.specs.Filled.{most_fields, zeros, message_places, message_count, field_by, field_of, Ready, setting_bytes, columns_at, settings_to, no_flags, EntriesBelow, entries_by, message_numbers, field_numbers_in};
 
+use declarations::{Declaration, NO_DECLARATION};
+use index::{NO_ROW, Row};
 use limits::SHORT;
 use message_graph::{Field, MESSAGES, NO_FIELD};
-use set_rules::{CELLS, ROWS, SHORT_CELLS, SHORT_ROWS};
+use set_rules::{ROWS, SHORT_ROWS};
 
 // Limit 4, and what a short set has at most.
 const FIELDS: usize = 2048;
 
 const SHORT_FIELDS: usize = 150;
 
-// Five numbers for each message, and for each field.
-const MESSAGE_CELLS: usize = 1280;
-
-const FIELD_CELLS: usize = 10240;
-
-const SHORT_FIELD_CELLS: usize = 750;
-
 // The fields, given the bytes that have the boxed settings, with a table for the declarations, and one for the checksums of their
 // names.
 fn fields_by(
     set: &[u8],
-    places: &[u16],
-    t: &mut [usize],
+    places: &[Row],
+    rows: &mut [Declaration],
     sums: &mut [u64],
     settings: &[u8],
     fields: &mut [Field],
 )
-    ensures { fields.new ≡ tab (length fields.old) (field_by set.now places.now t.old settings.now) }
+    ensures { fields.new ≡ tab (length fields.old) (field_by set.now places.now rows.old settings.now) }
 {
-    let count = declarations::declare_set(set, t);
-    let rows = count.rows;
-    let n = rows.min(sums.len());
-    targets::fill_fields(set, places, t, rows, &mut sums[0..n], settings, fields);
+    let count = declarations::declare_set(set, rows).rows;
+    let n = count.min(sums.len());
+    targets::fill_fields(set, places, rows, count, &mut sums[0..n], settings, fields);
 }
 
 // Its bytes, which are 0 so far, become those that have the boxed settings: without a row of kind 4 they stay as they are.
@@ -53,26 +47,26 @@ fn put_settings(bytes: &mut [u8], set: &[u8], o: &[u8])
 }
 
 // The fields that have their places in `places`.
-fn fill_fields(set: &[u8], o: &[u8], places: &[u16], fields: &mut [Field])
+fn fill_fields(set: &[u8], o: &[u8], places: &[Row], fields: &mut [Field])
     ensures { fields.new ≡ tab (length fields.old) (field_of set.now o.now places.now) }
 {
     if set.len() <= SHORT {
         let mut settings = [0u8; SHORT_FIELDS];
         put_settings(&mut settings, set, o);
-        let mut t = [0usize; SHORT_CELLS];
+        let mut rows = [NO_DECLARATION; SHORT_ROWS];
         let mut sums = [0u64; SHORT_ROWS];
-        fields_by(set, places, &mut t, &mut sums, &settings, fields);
+        fields_by(set, places, &mut rows, &mut sums, &settings, fields);
         return;
     }
     let mut settings = [0u8; FIELDS];
     put_settings(&mut settings, set, o);
-    let mut t = [0usize; CELLS];
+    let mut rows = [NO_DECLARATION; ROWS];
     let mut sums = [0u64; ROWS];
-    fields_by(set, places, &mut t, &mut sums, &settings, fields);
+    fields_by(set, places, &mut rows, &mut sums, &settings, fields);
 }
 
 // Which messages are map entries, in a table that has none so far: only the first `count` may be.
-fn fill_entries(set: &[u8], rows: &[u16], count: usize, entries: &mut [bool])
+fn fill_entries(set: &[u8], rows: &[Row], count: usize, entries: &mut [bool])
     requires entries_value { entries.old ≡ no_flags }
     requires entries_below { EntriesBelow count set.now rows.now }
     ensures { entries.new ≡ entries_by set.now rows.now }
@@ -88,9 +82,9 @@ fn fill_rows(
     t: &mut [u16],
     set: &[u8],
     o: &[u8],
-    rows: &[u16],
+    rows: &[Row],
     count: usize,
-    places: &[u16],
+    places: &[Row],
     n: usize,
     fields: &mut [Field],
     boxed: &mut [bool],
@@ -113,9 +107,9 @@ fn fill_by(
     o: &[u8],
     messages: &mut [u16],
     t: &mut [u16],
-    rows: &[u16],
+    rows: &[Row],
     count: usize,
-    places: &mut [u16],
+    places: &mut [Row],
     fields: &mut [Field],
     boxed: &mut [bool],
 )
@@ -141,14 +135,14 @@ fn fill_by(
 }
 
 // The tables of a short set.
-fn fill_short(set: &[u8], o: &[u8], messages: &mut [u16], t: &mut [u16], rows: &[u16], count: usize)
+fn fill_short(set: &[u8], o: &[u8], messages: &mut [u16], t: &mut [u16], rows: &[Row], count: usize)
     requires set_len_bound { length set.now ≤ short }
     requires rows_value { rows.now ≡ message_places set.now }
     requires count_value { count ≡ message_count set.now }
     ensures messages_after { messages.new ≡ message_numbers (length messages.old) set.now o.now }
     ensures t_after { t.new ≡ field_numbers_in t.old set.now o.now }
 {
-    let mut places = [0u16; SHORT_FIELD_CELLS];
+    let mut places = [NO_ROW; SHORT_FIELDS];
     let mut fields = [NO_FIELD; SHORT_FIELDS];
     let mut boxed = [false; SHORT_FIELDS];
     fill_by(
@@ -165,14 +159,14 @@ fn fill_short(set: &[u8], o: &[u8], messages: &mut [u16], t: &mut [u16], rows: &
 }
 
 // The tables of a set that is not short.
-fn fill_large(set: &[u8], o: &[u8], messages: &mut [u16], t: &mut [u16], rows: &[u16], count: usize)
+fn fill_large(set: &[u8], o: &[u8], messages: &mut [u16], t: &mut [u16], rows: &[Row], count: usize)
     requires short_in_bounds { short < length set.now }
     requires rows_value { rows.now ≡ message_places set.now }
     requires count_value { count ≡ message_count set.now }
     ensures messages_after { messages.new ≡ message_numbers (length messages.old) set.now o.now }
     ensures t_after { t.new ≡ field_numbers_in t.old set.now o.now }
 {
-    let mut places = [0u16; FIELD_CELLS];
+    let mut places = [NO_ROW; FIELDS];
     let mut fields = [NO_FIELD; FIELDS];
     let mut boxed = [false; FIELDS];
     fill_by(
@@ -193,7 +187,7 @@ pub fn fill_tables(set: &[u8], o: &[u8], messages: &mut [u16], t: &mut [u16])
     ensures messages_after { messages.new ≡ message_numbers (length messages.old) set.now o.now }
     ensures t_after { t.new ≡ field_numbers_in t.old set.now o.now }
 {
-    let mut rows = [0u16; MESSAGE_CELLS];
+    let mut rows = [NO_ROW; MESSAGES];
     let count = index::index_files(set, 4, 16, &mut rows);
     if set.len() <= SHORT {
         fill_short(set, o, messages, t, &rows, count);

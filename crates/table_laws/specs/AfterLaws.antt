@@ -7,10 +7,10 @@ use native.Mathlib.Omega.{arith}
 use Rattle.std.proofs.Math.ListN.{get_or-append}
 use Rattle.descriptor.specs.Descriptor.{Forest, done, node, FileDescriptor}
 use Rattle.descriptor.specs.Decode.{decode_set}
-use Rattle.index.specs.Tree.{Place, size, rows, rows_of, file_forests, row_at}
+use Rattle.index.specs.Tree.{Place, size, rows, rows_of, file_forests, no_row, row_at}
 use Rattle.index.specs.declared.Row.{Row}
 use Rattle.index.proofs.TreeLaws.{rows_length}
-use Rattle.index.proofs.TableLaws.{no_row, Stands}
+use Rattle.index.proofs.TableLaws.{Stands}
 use Rattle.index.proofs.DecodedLaws.{map_forest}
 use Rattle.index.proofs.SetLaws.{MessageTable}
 use Rattle.field_columns.proofs.NameLaws.{placed, files_forests}
@@ -24,7 +24,7 @@ abbrev pub FileAfters : {A : Type 0} → (ℕ → ℕ) → ℕ → List (Forest 
 FileAfters after i [] = Unit {0}
 FileAfters after i (F ∷ Fs) = Afters after i F × FileAfters after (i + size F) Fs
 
-module _ (t : List ℕ) where
+module _ (t : List Row) where
   stands_tail : (i : ℕ) (r : Row) (rs : List Row) → Stands t i (r ∷ rs) → Stands t (i + 1) rs
   stands_tail i r rs h k l = ap (row_at t) (let e : i + 1 + k ≡ i + suc k = omega arith in e) ∙ h (suc k) (omega arith)
 
@@ -78,7 +78,7 @@ module _ {A B : Type 0} (g : A → B) where
   files_map after i [] h = tt
   files_map after i (F ∷ Fs) h = (afters_map after i F h.0, rw (size_map F) (files_map after (i + size F) Fs h.1))
 
-pub set_afters : (set messages : List ℕ) (count : ℕ) → MessageTable set messages count
+pub set_afters : (set : List ℕ) (messages : List Row) (count : ℕ) → MessageTable set messages count
     → FileAfters (λ j. (row_at messages j).after) 0 (map (λ (f : FileDescriptor). f.messages) (decode_set set))
 set_afters set messages count table =
     subst (FileAfters (λ j. (row_at messages j).after) 0) (sym (files_forests set table.small))

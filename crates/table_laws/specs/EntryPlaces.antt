@@ -48,7 +48,7 @@ unfolding choose
 chosen true b h = h
 chosen false b h = both_ways h refl
 
-module _ (set rows : List ℕ) (count : ℕ) (table : MessageTable set rows count) where
+module _ (set : List ℕ) (rows : List index_row.Row) (count : ℕ) (table : MessageTable set rows count) where
   abbrev es : List Entry
   es = set_entries (decode_set set)
 
@@ -60,7 +60,7 @@ module _ (set rows : List ℕ) (count : ℕ) (table : MessageTable set rows coun
       let as_many : length (message_rows set) ≡ length es = sym (map_length (decode_row set) (message_rows set)) ∙ ap length (rows_entries set table.small) ∙ map_length (λ (x : Entry). x.message) es in
       row_entry set rows count table j (omega arith) e ∙ ap (λ (x : Entry). x.message) (at_get_or p e)
 
-  module _ (t fields_table : List ℕ) (n : ℕ) (holds : Holds (all_members set 2 rows count 0) t 0 fields_table n) (room : n * 5 ≤ length t)
+  module _ (t fields_table : List index_row.Row) (n : ℕ) (holds : Holds (all_members set 2 rows count 0) t 0 fields_table n) (room : n ≤ length t)
       (few : length (messages_in (decode_set set)) ≤ max_messages) (good : names (decode_set set) ≡ Ok tt)
       (target : List ℕ) (targets : (r : Row) (k : ℕ) → At r (rows_of es) k → (is_message r.field || is_group r.field) ≡ true → get_or target k 0 ≡ number_of es (type_name_of r)) where
     abbrev kind : List ℕ

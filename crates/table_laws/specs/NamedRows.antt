@@ -14,6 +14,7 @@ use Rattle.name_rules.specs.FullNames.{◌·◌, Entry, set_entries}
 use Rattle.name_rules.specs.Answer.{names}
 use Rattle.context.specs.Context.{has}
 use Rattle.index.specs.Tree.{Holds, all_members}
+use Rattle.index.specs.declared.Row as index_row
 use Rattle.index.proofs.SetLaws.{MessageTable}
 use Rattle.message_graph.specs.Limit.{messages}
 use Rattle.message_graph.specs.Fields.{Fields, fields, size, message_at, message_at_is, message_at_below, type_message, type_group}
@@ -50,8 +51,8 @@ module _ (f : Fields) (settings : List Bool) (m k : ℕ) (within : k < m) (d : D
       rw (tab_at m (boxed_by_loop f) false k within, tab_at messages (can_message_derive d f settings) false (message_at f.target k) (message_at_below f.target k))
       (sym ((answers d f settings).by_type k))
 
-module _ (set rows : List ℕ) (count : ℕ) (table : MessageTable set rows count) (t fields_table : List ℕ) (n : ℕ)
-    (holds : Holds (all_members set 2 rows count 0) t 0 fields_table n) (room : n * 5 ≤ length t)
+module _ (set : List ℕ) (rows : List index_row.Row) (count : ℕ) (table : MessageTable set rows count) (t fields_table : List index_row.Row) (n : ℕ)
+    (holds : Holds (all_members set 2 rows count 0) t 0 fields_table n) (room : n ≤ length t)
     (few : length (messages_in (decode_set set)) ≤ max_messages) (good : names (decode_set set) ≡ Ok tt) where
   abbrev ds : List FileDescriptor
   ds = decode_set set

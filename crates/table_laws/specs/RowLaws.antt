@@ -6,6 +6,7 @@ use native.Mathlib.Omega.{arith}
 use Rattle.base.specs.Choose.{choose}
 use Rattle.message_graph.specs.Tab.{tab, tab_at}
 use Rattle.index.specs.Tree.{row_at}
+use Rattle.index.specs.declared.Row.{Row}
 use Rattle.derives.specs.declared.Derive.TheVariants.{Copy, Eq}
 use Rattle.text_tables.specs.Rows.{message_row, field_row}
 use Rattle.context_tables.specs.Cells.{bit, message_number, message_cell, field_can, entry_row, oneof_at, place_number, field_number, field_cell}
@@ -16,7 +17,7 @@ unfolding bit choose
 bit_flag true = refl
 bit_flag false = refl
 
-module _ (rows first : List ℕ) (copy eq : List Bool) (n i : ℕ) (room : i * 4 + 3 < n) (small : i < 65536) where
+module _ (rows : List Row) (first : List ℕ) (copy eq : List Bool) (n i : ℕ) (room : i * 4 + 3 < n) (small : i < 65536) where
   message_cell_is : (at c : ℕ) → at ≡ i * 4 + c → c < 4 → get_or (tab n (message_cell rows first copy eq)) at 0 ≡ message_number rows first copy eq i c
   unfolding message_cell
   message_cell_is at c e h =
@@ -31,7 +32,7 @@ module _ (rows first : List ℕ) (copy eq : List Bool) (n i : ℕ) (room : i * 4
   message_row_is =
       rw (lt-ltb i 65536 small, message_cell_is (i * 4) 0 (omega arith) (omega arith), message_cell_is (i * 4 + 1) 1 refl (omega arith), message_cell_is (i * 4 + 2) 2 refl (omega arith), message_cell_is (i * 4 + 3) 3 refl (omega arith), bit_flag (get_or copy i false), bit_flag (get_or eq i false))
 
-module _ (set rows table target kind label : List ℕ) (boxed settings copy eq entries : List Bool) (n k : ℕ) (room : k * 8 + 7 < n) (small : k < 65536) where
+module _ (set : List ℕ) (rows table : List Row) (target kind label : List ℕ) (boxed settings copy eq entries : List Bool) (n k : ℕ) (room : k * 8 + 7 < n) (small : k < 65536) where
   abbrev cells : ℕ → ℕ
   cells = field_cell set rows table target kind label boxed settings copy eq entries
 

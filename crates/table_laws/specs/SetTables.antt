@@ -1,5 +1,5 @@
 -- The columns of a set's fields are the tables over full names, so the rows say what context's definitions say. Assumes nothing.
-use Rattle.std.specs.Prelude.{◌≡◌, refl, Bool, true, ℕ, zero, suc, ◌+◌, ◌*◌, ◌≤◌, ◌<◌, ltb, length, get_or, take, Ok}
+use Rattle.std.specs.Prelude.{◌≡◌, refl, Bool, true, ℕ, zero, suc, ◌+◌, ◌≤◌, ◌<◌, ltb, length, get_or, take, Ok}
 use Rattle.std.proofs.Math.Path.{sym, ap}
 use Rattle.std.proofs.Common.{◌∙◌, subst, add-one, arith, length-append, lt-ltb}
 use mathlib.Core.List.{List, [], ◌∷◌, map, map-map, Memᴰ}
@@ -13,9 +13,8 @@ use Rattle.descriptor.specs.Limits.{messages_in, fields_in, max_messages}
 use Rattle.name_rules.specs.FullNames.{Entry, set_entries, fields_of_entries}
 use Rattle.name_rules.specs.Answer.{names}
 use Rattle.index.specs.Owners.{owners}
-use Rattle.index.specs.Tree.{Holds, all_members, row_at, row_bytes}
+use Rattle.index.specs.Tree.{Holds, all_members, no_row, row_at, row_bytes}
 use Rattle.index.specs.declared.Row as index_row
-use Rattle.index.proofs.TableLaws.{no_row}
 use Rattle.index.proofs.SetLaws.{MessageTable, fields_of}
 use Rattle.message_graph.specs.Tab.{tab, length_tab, tab_at}
 use Rattle.field_columns.specs.Columns.{owner_at, column_of, column_at, first_rows, start_at, fields_before, Column, Kind, Label}
@@ -72,8 +71,8 @@ all_from p (x ∷ xs) h = and_both (h x (Memᴰ.head refl)) (all_from p xs (λ y
 
 -- ---- the columns that the code fills: `rows` and `fields` as index leaves them, with room for all rows
 
-module _ (set rows : List ℕ) (count : ℕ) (table : MessageTable set rows count) (t fields : List ℕ) (n : ℕ)
-    (holds : Holds (all_members set 2 rows count 0) t 0 fields n) (room : n * 5 ≤ length t)
+module _ (set : List ℕ) (rows : List index_row.Row) (count : ℕ) (table : MessageTable set rows count) (t fields : List index_row.Row) (n : ℕ)
+    (holds : Holds (all_members set 2 rows count 0) t 0 fields n) (room : n ≤ length t)
     (few : length (messages_in (decode_set set)) ≤ max_messages) (good : names (decode_set set) ≡ Ok tt) where
   abbrev es : List Entry
   es = set_entries (decode_set set)

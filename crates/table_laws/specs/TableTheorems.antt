@@ -13,6 +13,7 @@ use Rattle.name_rules.specs.Accessors.{is_repeated, is_message, is_group}
 use Rattle.name_rules.specs.FullNames.{Entry, set_entries}
 use Rattle.name_rules.specs.Answer.{names}
 use Rattle.index.specs.Tree.{Holds, all_members, row_at}
+use Rattle.index.specs.declared.Row as index_row
 use Rattle.index.proofs.SetLaws.{MessageTable}
 use Rattle.message_graph.specs.Limit.{messages}
 use Rattle.message_graph.specs.Fields.{Fields}
@@ -39,8 +40,8 @@ use Rattle.table_laws.specs.OneofLaws.{oneof_fits}
 
 -- `rows` and `fields_table` as index leaves them, with room for all rows; the target column, which may have any number where a field's type is
 -- neither message nor group; and the buffer that `boxed_settings` wrote, with room for all fields
-module _ (set rows : List ℕ) (count : ℕ) (table : MessageTable set rows count) (t fields_table : List ℕ) (n : ℕ)
-    (holds : Holds (all_members set 2 rows count 0) t 0 fields_table n) (room : n * 5 ≤ length t)
+module _ (set : List ℕ) (rows : List index_row.Row) (count : ℕ) (table : MessageTable set rows count) (t fields_table : List index_row.Row) (n : ℕ)
+    (holds : Holds (all_members set 2 rows count 0) t 0 fields_table n) (room : n ≤ length t)
     (passed : limit_passed set ≡ 0) (good : names (decode_set set) ≡ Ok tt)
     (target : List ℕ) (targets : (r : Row) (k : ℕ) → At r (rows_of (set_entries (decode_set set))) k → (is_message r.field || is_group r.field) ≡ true → get_or target k 0 ≡ number_of (set_entries (decode_set set)) (type_name_of r))
     (rs : List Setting) (buffer bytes : List ℕ) (end : ℕ) (wrote : Wrote buffer 0 (set_flags rs set) bytes end) (space : n ≤ length buffer) where

@@ -3,7 +3,7 @@ use Rattle.std.specs.Prelude.{Ok}
 use mathlib.Core.Path.{◌≡◌, refl, sym, ap, ◌∙◌}
 use mathlib.Core.Bool.{Bool, true, false, not, ◌||◌}
 use mathlib.Core.List.{List, [], ◌∷◌, ◌++◌}
-use Prim.Native.Nat.{ℕ, zero, suc, ◌+◌, ◌*◌, ◌-◌, ◌≤◌, ◌<◌}
+use Prim.Native.Nat.{ℕ, zero, suc, ◌+◌, ◌-◌, ◌≤◌, ◌<◌}
 use native.Mathlib.Numerals.{add-one}
 use native.Mathlib.Omega.{arith}
 use lib.Dec.{ltb}
@@ -19,10 +19,12 @@ use Rattle.name_rules.specs.Accessors.{is_message, is_group}
 use Rattle.name_rules.specs.FullNames.{Entry, set_entries}
 use Rattle.name_rules.specs.Answer.{names}
 use Rattle.index.specs.Tree.{Holds, all_members}
+use Rattle.index.specs.declared.Row as index_row
 use Rattle.index.proofs.SetLaws.{MessageTable}
 use Rattle.message_graph.specs.Tab.{tab, tab_at}
 use Rattle.field_columns.specs.Columns.{byte_of}
-use Rattle.declarations.specs.Rows.{cell_at, row_at}
+use Rattle.declarations.specs.Rows.{row_at, kind_number}
+use Rattle.declarations.specs.declared.Declaration.{Declaration}
 use Rattle.declarations.specs.Listed.{full, Listed, listed_row, listed, listed_files, entry_number}
 use Rattle.declarations.specs.Listed as listed_rows
 use Rattle.declarations.proofs.ListedLaws.{files_numbered}
@@ -37,25 +39,25 @@ use Rattle.targets.specs.Targets.{message_named, type_number, target_at}
 
 -- ---- the first message with a full name, by the rows and by what they list
 
-module _ (bytes t name : List ℕ) where
+module _ (bytes : List ℕ) (t : List Declaration) (name : List ℕ) where
   abbrev of_row : ℕ → List Listed
   of_row i = listed_row bytes (full bytes t (suc i)) (row_at t i)
 
   row_number : (i : ℕ) → i < 65536 → (ls : List Listed)
-      → listed_rows.number_of name (of_row i ++ ls) ≡ choose (fits bytes t name 2 i) (cell_at t i 4 - 2) (listed_rows.number_of name ls)
-  unfolding listed_row listed_rows.number_of fits named wanted row_at choose
+      → listed_rows.number_of name (of_row i ++ ls) ≡ choose (fits bytes t name 2 i) (kind_number (row_at t i).kind - 2) (listed_rows.number_of name ls)
+  unfolding listed_row listed_rows.number_of fits named wanted choose
   row_number i h ls =
-      by_kind (cell_at t i 4) (λ e. rw e) (λ e. rw e)
-      (λ e. rw (ne_eqb (cell_at t i 4) 0 (λ q. omega arith), ne_eqb (cell_at t i 4) 1 (λ q. omega arith), le-ltb (cell_at t i 4) 2 e, le-ltb 65535 i (omega arith), add-one))
+      by_kind (kind_number (row_at t i).kind) (λ e. rw e) (λ e. rw e)
+      (λ e. rw (ne_eqb (kind_number (row_at t i).kind) 0 (λ q. omega arith), ne_eqb (kind_number (row_at t i).kind) 1 (λ q. omega arith), le-ltb (kind_number (row_at t i).kind) 2 e, le-ltb 65535 i (omega arith), add-one))
 
-  picked : (b : Bool) (n i x : ℕ) (ls : List Listed) → choose (ltb x (i + 1 + n)) (cell_at t x 4 - 2) 0 ≡ listed_rows.number_of name ls
-      → choose (ltb (choose b i x) (i + suc n)) (cell_at t (choose b i x) 4 - 2) 0 ≡ choose b (cell_at t i 4 - 2) (listed_rows.number_of name ls)
+  picked : (b : Bool) (n i x : ℕ) (ls : List Listed) → choose (ltb x (i + 1 + n)) (kind_number (row_at t x).kind - 2) 0 ≡ listed_rows.number_of name ls
+      → choose (ltb (choose b i x) (i + suc n)) (kind_number (row_at t (choose b i x)).kind - 2) 0 ≡ choose b (kind_number (row_at t i).kind - 2) (listed_rows.number_of name ls)
   unfolding choose
   picked true n i x ls h = rw (lt-ltb i (i + suc n) (omega arith))
-  picked false n i x ls h = ap (λ (m : ℕ). choose (ltb x m) (cell_at t x 4 - 2) 0) (let e : i + suc n ≡ i + 1 + n = omega arith in e) ∙ h
+  picked false n i x ls h = ap (λ (m : ℕ). choose (ltb x m) (kind_number (row_at t x).kind - 2) 0) (let e : i + suc n ≡ i + 1 + n = omega arith in e) ∙ h
 
   found_number : (n i : ℕ) → i + n ≤ 65536
-      → choose (ltb (find_from bytes t name 2 n i) (i + n)) (cell_at t (find_from bytes t name 2 n i) 4 - 2) 0 ≡ listed_rows.number_of name (listed_from bytes t n i)
+      → choose (ltb (find_from bytes t name 2 n i) (i + n)) (kind_number (row_at t (find_from bytes t name 2 n i)).kind - 2) 0 ≡ listed_rows.number_of name (listed_from bytes t n i)
   unfolding find_from listed_from listed_rows.number_of choose
   found_number zero i h = rw (le-ltb i (i + 0) (omega arith))
   found_number (suc n) i h =
@@ -93,21 +95,21 @@ byte_picked true n = refl
 byte_picked false n = refl
 
 -- a table of declarations that lists those of the set
-module _ (set t : List ℕ) (count : ℕ) (few_rows : count ≤ 65536) (lists : listed set t count ≡ listed_files 0 0 (decode_set set)) where
+module _ (set : List ℕ) (t : List Declaration) (count : ℕ) (few_rows : count ≤ 65536) (lists : listed set t count ≡ listed_files 0 0 (decode_set set)) where
   named_is : (name : Bytes) → message_named set t count name ≡ byte_of (number_of (set_entries (decode_set set)) name)
   unfolding message_named find_row
   named_is name =
-      byte_picked (ltb (find_from set t name 2 count 0) count) (cell_at t (find_from set t name 2 count 0) 4 - 2)
+      byte_picked (ltb (find_from set t name 2 count 0) count) (kind_number (row_at t (find_from set t name 2 count 0)).kind - 2)
       ∙ ap byte_of
-      (ap (λ (n : ℕ). choose (ltb (find_from set t name 2 count 0) n) (cell_at t (find_from set t name 2 count 0) 4 - 2) 0) (let e : count ≡ 0 + count = omega arith in e)
+      (ap (λ (n : ℕ). choose (ltb (find_from set t name 2 count 0) n) (kind_number (row_at t (find_from set t name 2 count 0)).kind - 2) 0) (let e : count ≡ 0 + count = omega arith in e)
       ∙ found_number set t name count 0 (omega arith)
       ∙ ap (listed_rows.number_of name) (sym (listed_all set t count) ∙ lists)
       ∙ files_numbered name 0 0 (decode_set set)
       ∙ number_is name (set_entries (decode_set set)))
 
   -- `rows` and `fields` as index leaves them
-  module _ (rows : List ℕ) (messages_counted : ℕ) (table : MessageTable set rows messages_counted) (u fields : List ℕ) (n : ℕ)
-      (holds : Holds (all_members set 2 rows messages_counted 0) u 0 fields n) (room : n * 5 ≤ length u)
+  module _ (rows : List index_row.Row) (messages_counted : ℕ) (table : MessageTable set rows messages_counted) (u fields : List index_row.Row) (n : ℕ)
+      (holds : Holds (all_members set 2 rows messages_counted 0) u 0 fields n) (room : n ≤ length u)
       (few : length (messages_in (decode_set set)) ≤ max_messages) (good : names (decode_set set) ≡ Ok tt) where
     abbrev es : List Entry
     es = set_entries (decode_set set)

@@ -1,41 +1,32 @@
--- A field's type, read through its view. Assumes nothing.
+-- A field of the table, from the bytes that its row says. Assumes nothing.
 use mathlib.Core.Path.{◌≡◌, ap, ◌∙◌}
 use mathlib.Core.Bool.{Bool}
 use mathlib.Core.List.{List}
-use Prim.Native.Nat.{ℕ, ◌-◌}
-use borrow.Author.Tests.{eq-eqb, ne_eqb}
-use Rattle.base.specs.Choose.{choose}
-use Rattle.descriptor.specs.Views.{field_of}
-use Rattle.descriptor.specs.declared.FieldView.{FieldView}
-use Rattle.descriptor.proofs.ViewTheorems.{field_view_is}
-use Rattle.name_rules.specs.Accessors.{text, type}
-use Rattle.index.specs.Tree.{row_at}
-use Rattle.field_columns.specs.Columns.{view_at}
+use Prim.Native.Nat.{ℕ}
+use Rattle.descriptor.specs.Descriptor.{FieldDescriptor}
+use Rattle.descriptor.specs.Decode.{decode_field}
+use Rattle.index.specs.Tree.{row_at, row_bytes}
+use Rattle.index.specs.declared.Row.{Row}
+use Rattle.field_columns.specs.Columns.{column_of, byte_of, column_at, Column}
+use Rattle.declarations.specs.declared.Declaration.{Declaration}
 use Rattle.message_graph.specs.declared.Field.{Field}
-use Rattle.targets.specs.Targets.{message_named, type_number, target_at, field_in}
+use Rattle.targets.specs.Targets.{type_number, target_at, field_in}
 
-module _ (set t : List ℕ) (count : ℕ) (v : FieldView) where
-  module _ (kind : ℕ) (kind_is : kind ≡ type (field_of set v)) (name : List ℕ) (name_is : name ≡ text (field_of set v).type_name) where
-    pub target_message : kind ≡ 11 → (r : ℕ) → r ≡ message_named set t count name → r ≡ type_number set t count (field_of set v)
-    unfolding type_number choose
-    target_message e r is = rw (← kind_is, ← name_is, eq-eqb kind 11 e) is
+module _ (set : List ℕ) (places : List Row) (k : ℕ) (row : Row) (row_is : row ≡ row_at places k) (part : List ℕ) (part_is : part ≡ row_bytes set row)
+    (f : FieldDescriptor) (f_is : f ≡ decode_field part) where
+  field_there : f ≡ decode_field (row_bytes set (row_at places k))
+  field_there = f_is ∙ ap decode_field (part_is ∙ ap (row_bytes set) row_is)
 
-    pub target_group : (kind ≡ 11 → ⊥) → kind ≡ 10 → (r : ℕ) → r ≡ message_named set t count name → r ≡ type_number set t count (field_of set v)
-    unfolding type_number choose
-    target_group n e r is = rw (← kind_is, ← name_is, ne_eqb kind 11 n, eq-eqb kind 10 e) is
+  pub target_read : (t : List Declaration) (count r : ℕ) → r ≡ type_number set t count f → r ≡ target_at set places t count k
+  unfolding target_at
+  target_read t count r is = is ∙ ap (type_number set t count) field_there
 
-    pub target_none : (kind ≡ 11 → ⊥) → (kind ≡ 10 → ⊥) → 0 ≡ type_number set t count (field_of set v)
-    unfolding type_number choose
-    target_none n m = rw (← kind_is, ne_eqb kind 11 n, ne_eqb kind 10 m)
-
-  pub target_read : (fields : List ℕ) (k : ℕ) → v ≡ view_at set fields k → (r : ℕ) → r ≡ type_number set t count (field_of set v) → r ≡ target_at set fields t count k
-  unfolding target_at view_at
-  target_read fields k view_is r is =
-      is ∙ ap (type_number set t count)
-      (ap (field_of set) view_is ∙ field_view_is set (row_at fields k).start ((row_at fields k).end - (row_at fields k).start))
+  pub column_read : (column : Column) (n r : ℕ) → n ≡ column_of column f → r ≡ byte_of n → r ≡ column_at set places column k
+  unfolding column_at
+  column_read column n r n_is is = is ∙ ap byte_of (n_is ∙ ap (column_of column) field_there)
 
 -- a field, by its numbers
-pub made : (set places t : List ℕ) (count : ℕ) (settings : List ℕ) (k : ℕ) {owner target kind label : ℕ} {boxed : Bool}
+pub made : (set : List ℕ) (places : List Row) (t : List Declaration) (count : ℕ) (settings : List ℕ) (k : ℕ) {owner target kind label : ℕ} {boxed : Bool}
     → owner ≡ (field_in set places t count settings k).owner → target ≡ (field_in set places t count settings k).target → kind ≡ (field_in set places t count settings k).kind
     → label ≡ (field_in set places t count settings k).label → boxed ≡ (field_in set places t count settings k).boxed
     → ◌≡◌ {A = Field} (record { owner = owner; target = target; kind = kind; label = label; boxed = boxed }) (field_in set places t count settings k)

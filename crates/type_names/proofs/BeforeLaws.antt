@@ -10,8 +10,9 @@ use lib.Dec.{eqb}
 use borrow.Author.Tests.{not-true, not-false, le-ltb, lt-ltb, eq-eqb, ne_eqb}
 use Rattle.base.specs.Bytes.{same}
 use Rattle.base.specs.Choose.{choose, choose_case}
-use Rattle.declarations.specs.Rows.{cell_at}
+use Rattle.declarations.specs.Rows.{row_at, kind_number}
 use Rattle.declarations.specs.Listed.{full}
+use Rattle.declarations.specs.declared.Declaration.{Declaration as Row}
 use Rattle.type_names.specs.Cursors.{spelled, Sits, Entered, Prior}
 use Rattle.type_names.specs.LookUp.{same_row, before_by, declared_before, row_sum, row_sums}
 use Rattle.type_names.specs.RowSums.{Apart, Others}
@@ -20,7 +21,7 @@ use Rattle.type_names.specs.declared.Back.{Back}
 use Rattle.type_names.proofs.RowSumLaws.{full_apart, full_other}
 use Rattle.type_names.proofs.CursorLaws.{last_alike, last_unlike, longer, shorter}
 
-module _ (bytes t : List ℕ) (i j : ℕ) where
+module _ (bytes : List ℕ) (t : List Row) (i j : ℕ) where
   abbrev whole : Bool
   whole = same (full bytes t i) (full bytes t j)
 
@@ -62,12 +63,12 @@ module _ (bytes t : List ℕ) (i j : ℕ) where
         pub going_less : length (spelled bytes t x.rest) < length (spelled bytes t a)
         going_less = let e = ap length more_a in let l = length-append (spelled bytes t x.rest) (x.byte ∷ []) in omega arith
 
-module _ (bytes t : List ℕ) (i : ℕ) where
-  pub row_package : (j kind : ℕ) → kind ≡ cell_at t j 4 → kind ≡ 0 → false ≡ same_row bytes t i j
+module _ (bytes : List ℕ) (t : List Row) (i : ℕ) where
+  pub row_package : (j kind : ℕ) → kind ≡ kind_number (row_at t j).kind → kind ≡ 0 → false ≡ same_row bytes t i j
   unfolding same_row choose
   row_package j kind e z = rw (← e, eq-eqb kind 0 z)
 
-  pub row_is : (j kind : ℕ) → kind ≡ cell_at t j 4 → (kind ≡ 0 → ⊥) → (r : Bool) → r ≡ same (full bytes t (j + 1)) (full bytes t (i + 1)) → r ≡ same_row bytes t i j
+  pub row_is : (j kind : ℕ) → kind ≡ kind_number (row_at t j).kind → (kind ≡ 0 → ⊥) → (r : Bool) → r ≡ same (full bytes t (j + 1)) (full bytes t (i + 1)) → r ≡ same_row bytes t i j
   unfolding same_row choose
   row_is j kind e z r h = rw (← e, ne_eqb kind 0 z) h
 
@@ -77,7 +78,7 @@ module _ (bytes t : List ℕ) (i : ℕ) where
 
   not_same : (j : ℕ) → same (full bytes t (j + 1)) (full bytes t (i + 1)) ≡ false → false ≡ same_row bytes t i j
   unfolding same_row
-  not_same j e = rw e (choose_case (λ (r : Bool). false ≡ r) (eqb (cell_at t j 4) 0) (λ _. refl) (λ _. refl))
+  not_same j e = rw e (choose_case (λ (r : Bool). false ≡ r) (eqb (kind_number (row_at t j).kind) 0) (λ _. refl) (λ _. refl))
 
   skipped : (k j : ℕ) → k ≤ j → ((m : ℕ) → k ≤ m → m < j → false ≡ same_row bytes t i m) → before_by bytes t i k ≡ before_by bytes t i j
   unfolding before_by choose
@@ -126,7 +127,7 @@ module _ (bytes t : List ℕ) (i : ℕ) where
           let inside = left.inside in
           left_more h false (λ are. not_same (j - 1) (full_apart bytes t sums are i (j - 1) few (omega arith) apart.0 apart.1)) refl
 
-      pub left_skip : (k : ℕ) → k ≤ j → ((bytes t : List ℕ) → sums ≡ row_sums bytes t (length sums) → Others bytes t (row_sum bytes t i) k j) → Left k
+      pub left_skip : (k : ℕ) → k ≤ j → ((bytes : List ℕ) (t : List Row) → sums ≡ row_sums bytes t (length sums) → Others bytes t (row_sum bytes t i) k j) → Left k
       left_skip k l others =
           let few = left.few in
           let inside = left.inside in

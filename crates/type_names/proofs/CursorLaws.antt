@@ -12,9 +12,10 @@ use borrow.Author.Tests.{eq-eqb, ne_eqb}
 use Rattle.base.specs.Bytes.{same, same_length}
 use Rattle.wire.specs.Records.{part}
 use Rattle.name_rules.specs.FullNames.{◌·◌}
-use Rattle.declarations.specs.Rows.{cell_at, row_at}
+use Rattle.declarations.specs.Rows.{row_at}
 use Rattle.declarations.specs.Listed.{above, full}
 use Rattle.declarations.proofs.FullLaws.{full_step}
+use Rattle.declarations.specs.declared.Declaration.{Declaration as Row}
 
 -- ---- two byte strings by their last bytes
 pub same_last : (xs ys : List ℕ) (a b : ℕ) → same (xs ++ (a ∷ [])) (ys ++ (b ∷ [])) ≡ (same xs ys && eqb a b)
@@ -65,6 +66,5 @@ part_cut bytes a n h =
     take_all (length bytes - a) (drop a bytes) (omega arith) ∙ sym (take_all n (drop a bytes) (omega arith))
 
 -- the full name of a row, by its cells
-pub full_cells : (bytes t : List ℕ) (i : ℕ) → full bytes t (i + 1) ≡ full bytes t (above i (row_at t i)) · part bytes (cell_at t i 0) (cell_at t i 1)
-unfolding row_at
+pub full_cells : (bytes : List ℕ) (t : List Row) (i : ℕ) → full bytes t (i + 1) ≡ full bytes t (above i (row_at t i)) · part bytes (row_at t i).name (row_at t i).len
 full_cells bytes t i = rw add-one (full_step bytes t i)

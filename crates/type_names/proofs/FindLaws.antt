@@ -5,24 +5,25 @@ use mathlib.Core.List.{List}
 use Prim.Native.Nat.{ℕ, zero, suc, ◌+◌, ◌-◌, ◌≤◌, ◌<◌}
 use native.Mathlib.Omega.{arith}
 use Rattle.base.specs.Choose.{choose, choose_case}
-use Rattle.declarations.specs.Rows.{cell_at}
+use Rattle.declarations.specs.Rows.{row_at, kind_number}
+use Rattle.declarations.specs.declared.Declaration.{Declaration as Row}
 use Rattle.checksums.specs.Sums.{sum_of}
 use Rattle.type_names.specs.LookUp.{named, wanted, fits, find_from, find_row}
 use Rattle.type_names.specs.RowSums.{Others}
 use Rattle.type_names.proofs.RowSumLaws.{name_other}
 
-module _ (bytes t name : List ℕ) (sort : ℕ) where
-  pub fits_named : (i kind : ℕ) (w r : Bool) → kind ≡ cell_at t i 4 → w ≡ wanted sort kind → w ≡ true → r ≡ named bytes t name i → r ≡ fits bytes t name sort i
+module _ (bytes : List ℕ) (t : List Row) (name : List ℕ) (sort : ℕ) where
+  pub fits_named : (i kind : ℕ) (w r : Bool) → kind ≡ kind_number (row_at t i).kind → w ≡ wanted sort kind → w ≡ true → r ≡ named bytes t name i → r ≡ fits bytes t name sort i
   unfolding fits choose
   fits_named i kind w r k e is h = rw (← k, ← e, is) h
 
-  pub fits_not : (i kind : ℕ) (w : Bool) → kind ≡ cell_at t i 4 → w ≡ wanted sort kind → w ≡ false → false ≡ fits bytes t name sort i
+  pub fits_not : (i kind : ℕ) (w : Bool) → kind ≡ kind_number (row_at t i).kind → w ≡ wanted sort kind → w ≡ false → false ≡ fits bytes t name sort i
   unfolding fits choose
   fits_not i kind w k e is = rw (← k, ← e, is)
 
   pub fits_none : (i : ℕ) → false ≡ named bytes t name i → false ≡ fits bytes t name sort i
   unfolding fits
-  fits_none i e = choose_case (λ (r : Bool). false ≡ r) (wanted sort (cell_at t i 4)) (λ _. e) (λ _. refl)
+  fits_none i e = choose_case (λ (r : Bool). false ≡ r) (wanted sort (kind_number (row_at t i).kind)) (λ _. e) (λ _. refl)
 
   module _ (count : ℕ) where
     abbrev from : ℕ → ℕ

@@ -13,27 +13,31 @@ use Rattle.base.specs.Tests.{both_ways}
 use Rattle.wire.specs.Records.{part}
 use Rattle.descriptor.specs.Descriptor.{Bytes}
 use Rattle.name_rules.specs.FullNames.{◌·◌}
-use Rattle.declarations.specs.Rows.{cell_at, row_at}
+use Rattle.declarations.specs.Rows.{row_at}
 use Rattle.declarations.specs.Listed.{above, full}
 use Rattle.declarations.proofs.FullLaws.{full_none}
+use Rattle.declarations.specs.declared.Declaration.{Declaration as Row}
 use Rattle.type_names.specs.Cursors.{spelled, Sits, Entered, Prior}
 use Rattle.type_names.specs.LookUp.{named}
 use Rattle.type_names.specs.declared.Cursor.{Cursor}
 use Rattle.type_names.proofs.CursorLaws.{part_more, part_past, part_cut, full_cells}
 
-module _ (bytes t : List ℕ) (code : ℕ) where
+module _ (bytes : List ℕ) (t : List Row) (code : ℕ) where
   pub entered_none : code ≡ 0 → Entered bytes t code (record { some = false; up = 0; start = 0; left = 0 })
   unfolding choose
   entered_none e = record { whole = rw e (sym (full_none bytes t)); sits = record { inside = omega arith } }
 
-  module _ (ne : code ≡ 0 → ⊥) (start len u up : ℕ) (start_is : start ≡ cell_at t (code - 1) 0) (len_is : len ≡ cell_at t (code - 1) 1) (u_is : u ≡ cell_at t (code - 1) 2)
-      (up_is : up ≡ choose (ltb (code - 1) u) 0 u) where
+  module _ (ne : code ≡ 0 → ⊥) (r : Row) (r_is : r ≡ row_at t (code - 1)) (up : ℕ) (up_is : up ≡ above (code - 1) r) where
+    abbrev start : ℕ
+    start = r.name
+
+    abbrev len : ℕ
+    len = r.len
+
     row_name : full bytes t code ≡ full bytes t up · part bytes start len
-    unfolding row_at
     row_name =
         let k : code ≡ code - 1 + 1 = omega arith in
-        let v : up ≡ above (code - 1) (row_at t (code - 1)) = rw u_is at up_is in
-        ap (full bytes t) k ∙ full_cells bytes t (code - 1) ∙ rw (v, start_is, len_is)
+        ap (full bytes t) k ∙ full_cells bytes t (code - 1) ∙ rw (up_is, r_is)
 
     pub row_own : (own : List ℕ) → own ≡ part bytes start len → full bytes t code ≡ full bytes t up · own
     row_own own is = row_name ∙ ap (λ (s : Bytes). full bytes t up · s) (sym is)
@@ -51,7 +55,7 @@ module _ (bytes t : List ℕ) (code : ℕ) where
     pub entered_all : start ≤ length bytes → len ≤ length bytes - start → Entered bytes t code (record { some = true; up = up; start = start; left = len })
     entered_all a h = made start len refl (omega arith)
 
-module _ (bytes t : List ℕ) (c : Cursor) where
+module _ (bytes : List ℕ) (t : List Row) (c : Cursor) where
   pub prior_end : not c.some ≡ true → Sits bytes c → Prior bytes t c (record { found = false; byte = 0; rest = c })
   unfolding choose
   prior_end h s = record { ended = λ _. rw (not-true c.some h); read = λ e. both_ways e refl; sits = s }
@@ -85,10 +89,10 @@ module _ (bytes t : List ℕ) (c : Cursor) where
           sits = record { inside = omega arith };
         }
 
-pub named_past : (bytes t name : List ℕ) (row : ℕ) → 65535 < row → false ≡ named bytes t name row
+pub named_past : (bytes : List ℕ) (t : List Row) (name : List ℕ) (row : ℕ) → 65535 < row → false ≡ named bytes t name row
 unfolding named choose
 named_past bytes t name row h = rw (lt-ltb 65535 row h)
 
-pub named_is : (bytes t name : List ℕ) (row : ℕ) → row ≤ 65535 → (r : Bool) → r ≡ same (full bytes t (row + 1)) name → r ≡ named bytes t name row
+pub named_is : (bytes : List ℕ) (t : List Row) (name : List ℕ) (row : ℕ) → row ≤ 65535 → (r : Bool) → r ≡ same (full bytes t (row + 1)) name → r ≡ named bytes t name row
 unfolding named choose
 named_is bytes t name row h r e = rw (le-ltb 65535 row h) e

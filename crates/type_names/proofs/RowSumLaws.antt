@@ -15,9 +15,10 @@ use Rattle.message_graph.specs.Tab.{tab, length_tab, tab_at, Filled}
 use Rattle.checksums.specs.Sums.{sum_from, sum_of}
 use Rattle.checksums.specs.SumLaws.{sum_small, sum_on, unlike}
 use Rattle.name_rules.specs.FullNames.{◌·◌}
-use Rattle.declarations.specs.Rows.{cell_at, row_at}
-use Rattle.declarations.specs.Listed.{above, full}
-use Rattle.declarations.proofs.FullLaws.{full_none}
+use Rattle.declarations.specs.Rows.{row_at}
+use Rattle.declarations.specs.Listed.{above, full, name_of}
+use Rattle.declarations.proofs.FullLaws.{full_none, above_before}
+use Rattle.declarations.specs.declared.Declaration.{Declaration as Row}
 use Rattle.type_names.specs.Chains.{cell_by, chained, cells, Chained}
 use Rattle.type_names.specs.LookUp.{named, row_sum, row_sums}
 use Rattle.type_names.specs.RowSums.{Summed, Apart, Others}
@@ -25,7 +26,7 @@ use Rattle.type_names.proofs.ChainLaws.{sum_cell, behind_last, behind_before}
 use Rattle.type_names.proofs.CursorLaws.{full_cells}
 use Rattle.type_names.proofs.NamedLaws.{named_past, named_is}
 
-module _ (bytes t : List ℕ) where
+module _ (bytes : List ℕ) (t : List Row) where
   pub sum_past : (i : ℕ) → 65535 < i → 0 ≡ row_sum bytes t i
   unfolding row_sum choose
   sum_past i h = rw (lt-ltb 65535 i h)
@@ -59,15 +60,10 @@ module _ (bytes t : List ℕ) where
       let e : length sums ≡ n = ap length is ∙ length_tab n (row_sum bytes t) in
       chained.is (row_sum bytes t) row_small (rw e is) ∙ ap (cells (row_sum bytes t)) e
 
-  module _ (sums : List ℕ) (i : ℕ) (summed : Summed bytes t sums i) (few : i ≤ 65535) (u up around : ℕ) (u_is : u ≡ cell_at t i 2) (up_is : up ≡ choose (ltb i u) 0 u)
+  module _ (sums : List ℕ) (i : ℕ) (summed : Summed bytes t sums i) (few : i ≤ 65535) (row : Row) (row_is : row ≡ row_at t i) (up around : ℕ) (up_is : up ≡ above i row)
       (around_is : around ≡ choose (eqb up 0) 0 (get_or sums (up - 1) 0)) where
     before : (k : ℕ) → k ≡ up → k ≤ i
-    unfolding choose
-    before k e = by (dec_le (suc i) u)
-      where
-        by : Dec (suc i ≤ u) → k ≤ i
-        by (yes h) = let z : up ≡ 0 = up_is ∙ rw (lt-ltb i u h) in omega arith
-        by (no h) = let z : up ≡ u = up_is ∙ rw (le-ltb i u (omega arith)) in omega arith
+    before k e = let l = above_before i row in omega (arith, up_is)
 
     sum_around : around ≡ sum_of (full bytes t up)
     unfolding choose sum_from
@@ -83,12 +79,10 @@ module _ (bytes t : List ℕ) where
             around_is ∙ rw (ne_eqb up 0 (omega arith), at) (there ∙ ap (λ (n : ℕ). sum_of (full bytes t n)) (sym code))
 
     -- what it stands in, a dot, and its own name
-    pub sum_whole : (start len dotted r : ℕ) (own : List ℕ) → start ≡ cell_at t i 0 → len ≡ cell_at t i 1 → dotted ≡ sum_from (around % 2 ^ 32) (46 ∷ []) → own ≡ part bytes start len
+    pub sum_whole : (dotted r : ℕ) (own : List ℕ) → dotted ≡ sum_from (around % 2 ^ 32) (46 ∷ []) → own ≡ name_of bytes row
         → r ≡ sum_from (dotted % 2 ^ 32) own → r ≡ row_sum bytes t i
-    unfolding row_at
-    sum_whole start len dotted r own start_is len_is dotted_is own_is r_is =
-        let v : up ≡ above i (row_at t i) = rw u_is at up_is in
-        let name : full bytes t (i + 1) ≡ full bytes t up · own = full_cells bytes t i ∙ rw (v, own_is, start_is, len_is) in
+    sum_whole dotted r own dotted_is own_is r_is =
+        let name : full bytes t (i + 1) ≡ full bytes t up · own = full_cells bytes t i ∙ rw (own_is, up_is, row_is) in
         r_is ∙ rw (dotted_is, sum_around, sum_on 0 (full bytes t up) (46 ∷ []) (omega arith), sum_on 0 (full bytes t up ++ (46 ∷ [])) own (omega arith), append_assoc (full bytes t up) (46 ∷ []) own)
         (ap sum_of (sym name) ∙ sym (sum_is i few))
 

@@ -16,6 +16,7 @@ use Rattle.descriptor.proofs.ViewTheorems.{drop_take}
 use Rattle.name_rules.specs.FullNames.{◌·◌}
 use Rattle.declarations.specs.Listed.{full}
 use Rattle.declarations.proofs.FullLaws.{full_none}
+use Rattle.declarations.specs.declared.Declaration.{Declaration as Row}
 use Rattle.type_names.specs.Cursors.{Stripped}
 use Rattle.type_names.specs.declared.Rest.{Rest}
 use Rattle.type_names.proofs.CursorLaws.{last_alike}
@@ -57,7 +58,7 @@ module _ (xs own ys : List ℕ) where
       ap (same (xs · own)) cut ∙ same_front (46 ∷ own) xs (take dot ys)
 
 -- one step
-module _ (bytes t name : List ℕ) (code end up : ℕ) (own : List ℕ) (row : full bytes t code ≡ full bytes t up · own) (inside : end ≤ length name) where
+module _ (bytes : List ℕ) (t : List Row) (name : List ℕ) (code end up : ℕ) (own : List ℕ) (row : full bytes t code ≡ full bytes t up · own) (inside : end ≤ length name) where
   taken_size : length (take end name) ≡ end
   taken_size = length-take-le end name inside
 
@@ -92,7 +93,7 @@ module _ (bytes t name : List ℕ) (code end up : ℕ) (own : List ℕ) (row : f
         }
 
 -- the loop
-module _ (bytes t name : List ℕ) (whole : ℕ) where
+module _ (bytes : List ℕ) (t : List Row) (name : List ℕ) (whole : ℕ) where
   pub record Going (code end : ℕ) : Type 0 where
     pub inside : end ≤ length name
     pub left : same (full bytes t code) (take end name) ≡ same (full bytes t whole) name

@@ -2,17 +2,20 @@
 // checksums leave one remainder; full names are compared from their ends, and none is built.
 #![tactic(auto)]
 
-ghost use Rattle.std.specs.Prelude.{◌≡◌, true, false, List, ℕ, ◌+◌, ◌-◌, ◌/◌, ◌%◌, ◌≤◌, ◌<◌, ltb, eqb, length, get_or};
+ghost use Rattle.std.specs.Prelude.{◌≡◌, true, false, List, ℕ, ◌+◌, ◌-◌, ◌/◌, ◌%◌, ◌≤◌, ◌<◌, eqb, length, get_or};
 ghost use Rattle.base.specs.Choose.{choose};
 ghost use Rattle.base.specs.Bytes.{same};
 ghost use Rattle.checksums.specs.Sums.{sum_of};
-ghost use Rattle.declarations.specs.Listed.{full};
+ghost use Rattle.declarations.specs.Listed.{above, full, name_of};
+ghost use Rattle.declarations.specs.Rows.{kind_number};
+ghost use Rattle.declarations.specs.declared.Declaration.{Declaration};
 ghost use Rattle.type_names.specs.Cursors.{Sits, Prior, Entered, Stripped};
 ghost use Rattle.message_graph.specs.Tab.{tab};
 ghost use Rattle.type_names.specs.Chains.{packed, chained, Linked, Chained};
 ghost use Rattle.type_names.specs.LookUp.{named, wanted, fits, find_row, same_row, declared_before, row_sum, row_sums};
 ghost use Rattle.type_names.specs.RowSums.{Summed, Apart, Others};
 
+use declarations::{Declaration, Kind};
 use descriptor::Text;
 
 // What is left of a full name, without its end: nothing, or the full name with the code `up`, a dot, and `left` bytes of the
@@ -43,8 +46,8 @@ pub struct Rest {
 }
 
 // The full name with a code: of nothing for 0, of row i for i + 1.
-fn enter(set: &[u8], t: &[usize], code: usize) -> Cursor
-    ensures { Entered set.now t.now code result }
+fn enter(set: &[u8], rows: &[Declaration], code: usize) -> Cursor
+    ensures { Entered set.now rows.now code result }
 {
     if code == 0 {
         return Cursor {
@@ -55,9 +58,9 @@ fn enter(set: &[u8], t: &[usize], code: usize) -> Cursor
         };
     }
     let i = code - 1;
-    let start = declarations::cell(t, i, 0);
-    let len = declarations::cell(t, i, 1);
-    let up = above(declarations::cell(t, i, 2), i);
+    let row = declarations::row_at(rows, i);
+    let up = above(i, row);
+    let start = row.name;
     if set.len() < start {
         return Cursor {
             some: true,
@@ -67,7 +70,7 @@ fn enter(set: &[u8], t: &[usize], code: usize) -> Cursor
         };
     }
     let room = set.len() - start;
-    if room < len {
+    if room < row.len {
         return Cursor {
             some: true,
             up,
@@ -79,23 +82,33 @@ fn enter(set: &[u8], t: &[usize], code: usize) -> Cursor
         some: true,
         up,
         start,
-        left: len,
+        left: row.len,
     }
 }
 
 // What row `i` stands in; nothing, where that isn't before it.
-fn above(up: usize, i: usize) -> usize
-    ensures { result ≡ choose (ltb i up) 0 up }
+#[tactic(auto, unfolding(base::specs::Choose::choose))]
+fn above(i: usize, row: Declaration) -> usize
+    ensures { result ≡ above i row }
 {
-    if i < up {
-        return 0;
-    }
-    up
+    if i < row.up { 0 } else { row.up }
 }
 
-fn read_back(set: &[u8], t: &[usize], c: Cursor) -> Back
+// A row's own name.
+fn name_of(set: &[u8], row: Declaration) -> &[u8]
+    ensures { result.now ≡ name_of set.now row }
+{
+    let name = Text {
+        given: true,
+        start: row.name,
+        len: row.len,
+    };
+    name_rules::text_bytes(set, name)
+}
+
+fn read_back(set: &[u8], rows: &[Declaration], c: Cursor) -> Back
     requires { Sits set.now c }
-    ensures { Prior set.now t.now c result }
+    ensures { Prior set.now rows.now c result }
 {
     if !c.some {
         return Back {
@@ -105,7 +118,7 @@ fn read_back(set: &[u8], t: &[usize], c: Cursor) -> Back
         };
     }
     if c.left == 0 {
-        let rest = enter(set, t, c.up);
+        let rest = enter(set, rows, c.up);
         return Back {
             found: true,
             byte: 46,
@@ -144,33 +157,26 @@ fn sum_above(sums: &[u64], up: usize) -> u64
 
 // The checksum of the full name of row `i`: that of what it stands in, then of a dot and its own name. `sums` has those of the rows
 // before.
-fn row_sum(set: &[u8], t: &[usize], sums: &[u64], i: usize) -> u64
-    requires { Summed set.now t.now sums.now i }
-    ensures { result ≡ row_sum set.now t.now i }
+fn row_sum(set: &[u8], rows: &[Declaration], sums: &[u64], i: usize) -> u64
+    requires { Summed set.now rows.now sums.now i }
+    ensures { result ≡ row_sum set.now rows.now i }
 {
     if 65535 < i {
         return 0;
     }
-    let start = declarations::cell(t, i, 0);
-    let len = declarations::cell(t, i, 1);
-    let up = above(declarations::cell(t, i, 2), i);
-    let around = sum_above(sums, up);
+    let row = declarations::row_at(rows, i);
+    let around = sum_above(sums, above(i, row));
     let dotted = checksums::checksum_from(around, b".");
-    let own = Text {
-        given: true,
-        start,
-        len,
-    };
-    checksums::checksum_from(dotted, name_rules::text_bytes(set, own))
+    checksums::checksum_from(dotted, name_of(set, row))
 }
 
 // For each place of `sums`, the checksum of the full name of the row there.
-fn sum_rows(set: &[u8], t: &[usize], sums: &mut [u64])
-    ensures { sums.new ≡ tab (length sums.old) (row_sum set.now t.now) }
+fn sum_rows(set: &[u8], rows: &[Declaration], sums: &mut [u64])
+    ensures { sums.new ≡ tab (length sums.old) (row_sum set.now rows.now) }
 {
     let mut i = 0;
     while i < sums.len() {
-        sums[i] = row_sum(set, t, sums, i);
+        sums[i] = row_sum(set, rows, sums, i);
         i += 1;
     }
 }
@@ -262,10 +268,10 @@ fn chain(sums: &mut [u64])
 }
 
 // For each place of `sums`, the checksum of the full name of the row there, with the chains of the rows.
-pub fn fill_sums(set: &[u8], t: &[usize], sums: &mut [u64])
-    ensures { sums.new ≡ row_sums set.now t.now (length sums.old) }
+pub fn fill_sums(set: &[u8], rows: &[Declaration], sums: &mut [u64])
+    ensures { sums.new ≡ row_sums set.now rows.now (length sums.old) }
 {
-    sum_rows(set, t, sums);
+    sum_rows(set, rows, sums);
     chain(sums);
 }
 
@@ -273,7 +279,7 @@ pub fn fill_sums(set: &[u8], t: &[usize], sums: &mut [u64])
 // where `sums` has those of the rows.
 pub fn last_like(sums: &[u64], count: usize, sum: u64) -> usize
     ensures upper_bound { result ≤ count }
-    ensures by_index { (set t : List ℕ) → sums.now ≡ row_sums set t (length sums.now) → Others set t sum result count }
+    ensures by_index { (set : List ℕ) (rows : List Declaration) → sums.now ≡ row_sums set rows (length sums.now) → Others set rows sum result count }
 {
     let n = chained(sums.len());
     if count != n {
@@ -293,7 +299,7 @@ pub fn last_like(sums: &[u64], count: usize, sum: u64) -> usize
 // The same of the rows before row `k`, which may have it.
 pub fn like_before(sums: &[u64], k: usize, sum: u64) -> usize
     ensures upper_bound { result ≤ k }
-    ensures by_index { (set t : List ℕ) → sums.now ≡ row_sums set t (length sums.now) → Others set t sum result k }
+    ensures by_index { (set : List ℕ) (rows : List Declaration) → sums.now ≡ row_sums set rows (length sums.now) → Others set rows sum result k }
 {
     let n = chained(sums.len());
     if n <= k {
@@ -328,20 +334,14 @@ fn sums_apart(sums: &[u64], i: usize, sum: u64) -> bool
 
 // The first `end` bytes of a name, without a dot and the own name of the row with the code at their end: what is left is to be the
 // full name of what the row stands in.
-fn strip(set: &[u8], t: &[usize], name: &[u8], code: usize, end: usize) -> Rest
+fn strip(set: &[u8], rows: &[Declaration], name: &[u8], code: usize, end: usize) -> Rest
     requires { (0 < code) × (end ≤ length name.now) }
-    ensures { Stripped set.now t.now name.now code end result }
+    ensures { Stripped set.now rows.now name.now code end result }
 {
     let i = code - 1;
-    let start = declarations::cell(t, i, 0);
-    let len = declarations::cell(t, i, 1);
-    let up = above(declarations::cell(t, i, 2), i);
-    let text = Text {
-        given: true,
-        start,
-        len,
-    };
-    let own = name_rules::text_bytes(set, text);
+    let row = declarations::row_at(rows, i);
+    let up = above(i, row);
+    let own = name_of(set, row);
     let n = own.len();
     if end <= n {
         return Rest {
@@ -368,8 +368,15 @@ fn strip(set: &[u8], t: &[usize], name: &[u8], code: usize, end: usize) -> Rest
 }
 
 // Is this the full name of the row? The answer is right where `sums` has the checksums of the rows and `sum` is that of the name.
-pub fn is_named(set: &[u8], t: &[usize], sums: &[u64], name: &[u8], sum: u64, row: usize) -> bool
-    ensures { sums.now ≡ row_sums set.now t.now (length sums.now) → sum ≡ sum_of name.now → result ≡ named set.now t.now name.now row }
+pub fn is_named(
+    set: &[u8],
+    rows: &[Declaration],
+    sums: &[u64],
+    name: &[u8],
+    sum: u64,
+    row: usize,
+) -> bool
+    ensures { sums.now ≡ row_sums set.now rows.now (length sums.now) → sum ≡ sum_of name.now → result ≡ named set.now rows.now name.now row }
 {
     if 65535 < row {
         return false;
@@ -380,7 +387,7 @@ pub fn is_named(set: &[u8], t: &[usize], sums: &[u64], name: &[u8], sum: u64, ro
     let mut code = row + 1;
     let mut end = name.len();
     while code != 0 {
-        let rest = strip(set, t, name, code, end);
+        let rest = strip(set, rows, name, code, end);
         if !rest.good {
             return false;
         }
@@ -391,38 +398,36 @@ pub fn is_named(set: &[u8], t: &[usize], sums: &[u64], name: &[u8], sum: u64, ro
 }
 
 // Is a row of this kind wanted: any declaration (0), an enum (1), or a message (2)?
-fn is_wanted(sort: usize, kind: usize) -> bool
-    ensures { result ≡ wanted sort kind }
+#[tactic(auto, unfolding(crate::specs::LookUp::wanted, base::specs::Choose::choose))]
+fn is_wanted(sort: usize, kind: Kind) -> bool
+    ensures { result ≡ wanted sort (kind_number kind) }
 {
+    let number = kind.number();
     if sort == 0 {
-        return kind != 0;
+        return number != 0;
     }
     if sort == 1 {
-        return kind == 1;
+        return number == 1;
     }
-    if kind < 2 {
-        return false;
-    }
-    true
+    number >= 2
 }
 
 fn row_fits(
     set: &[u8],
-    t: &[usize],
+    rows: &[Declaration],
     sums: &[u64],
     name: &[u8],
     sum: u64,
     sort: usize,
     row: usize,
 ) -> bool
-    ensures { sums.now ≡ row_sums set.now t.now (length sums.now) → sum ≡ sum_of name.now → result ≡ fits set.now t.now name.now sort row }
+    ensures { sums.now ≡ row_sums set.now rows.now (length sums.now) → sum ≡ sum_of name.now → result ≡ fits set.now rows.now name.now sort row }
 {
     if sums_apart(sums, row, sum) {
         return false;
     }
-    let kind = declarations::cell(t, row, 4);
-    if is_wanted(sort, kind) {
-        return is_named(set, t, sums, name, sum, row);
+    if is_wanted(sort, declarations::row_at(rows, row).kind) {
+        return is_named(set, rows, sums, name, sum, row);
     }
     false
 }
@@ -431,13 +436,13 @@ fn row_fits(
 // where there is none. The answer is right where `sums` has the checksums of the rows.
 pub fn find_row(
     set: &[u8],
-    t: &[usize],
+    rows: &[Declaration],
     count: usize,
     sums: &[u64],
     name: &[u8],
     sort: usize,
 ) -> usize
-    ensures { sums.now ≡ row_sums set.now t.now (length sums.now) → result ≡ find_row set.now t.now name.now sort count }
+    ensures { sums.now ≡ row_sums set.now rows.now (length sums.now) → result ≡ find_row set.now rows.now name.now sort count }
 {
     let sum = checksums::checksum(name);
     let mut first = count;
@@ -445,7 +450,7 @@ pub fn find_row(
     while 0 < j {
         let k = j - 1;
         let next = like_before(sums, k, sum);
-        if row_fits(set, t, sums, name, sum, sort, k) {
+        if row_fits(set, rows, sums, name, sum, sort, k) {
             first = k;
         }
         j = next;
@@ -454,17 +459,17 @@ pub fn find_row(
 }
 
 // Do two rows have one full name?
-fn same_name(set: &[u8], t: &[usize], i: usize, j: usize) -> bool
+fn same_name(set: &[u8], rows: &[Declaration], i: usize, j: usize) -> bool
     requires { (i < 65536) × (j < 65536) }
-    ensures { result ≡ same (full set.now t.now (i + 1)) (full set.now t.now (j + 1)) }
+    ensures { result ≡ same (full set.now rows.now (i + 1)) (full set.now rows.now (j + 1)) }
 {
     let first = i + 1;
     let second = j + 1;
-    let mut a = enter(set, t, first);
-    let mut b = enter(set, t, second);
+    let mut a = enter(set, rows, first);
+    let mut b = enter(set, rows, second);
     loop {
-        let x = read_back(set, t, a);
-        let y = read_back(set, t, b);
+        let x = read_back(set, rows, a);
+        let y = read_back(set, rows, b);
         if !x.found {
             return !y.found;
         }
@@ -480,15 +485,15 @@ fn same_name(set: &[u8], t: &[usize], i: usize, j: usize) -> bool
 }
 
 // Does the declaration in row `j` have the full name of row `i`?
-fn row_same(set: &[u8], t: &[usize], i: usize, j: usize) -> bool
+#[tactic(auto, unfolding(crate::specs::LookUp::same_row, declarations::specs::Rows::kind_number, base::specs::Choose::choose))]
+fn row_same(set: &[u8], rows: &[Declaration], i: usize, j: usize) -> bool
     requires { (i < 65536) × (j < 65536) }
-    ensures { result ≡ same_row set.now t.now i j }
+    ensures { result ≡ same_row set.now rows.now i j }
 {
-    let kind = declarations::cell(t, j, 4);
-    if kind == 0 {
-        return false;
+    match declarations::row_at(rows, j).kind {
+        Kind::Package => false,
+        Kind::Enum | Kind::Message(_) => same_name(set, rows, j, i),
     }
-    same_name(set, t, j, i)
 }
 
 // Have two rows other checksums?
@@ -505,7 +510,7 @@ fn rows_apart(sums: &[u64], i: usize, j: usize) -> bool
 // The last row before row `j` that may have the full name of row `i`, counted from 1; 0 where none has.
 fn same_before(sums: &[u64], i: usize, j: usize) -> usize
     ensures upper_bound { result ≤ j }
-    ensures by_index { (set t : List ℕ) → sums.now ≡ row_sums set t (length sums.now) → Others set t (row_sum set t i) result j }
+    ensures by_index { (set : List ℕ) (rows : List Declaration) → sums.now ≡ row_sums set rows (length sums.now) → Others set rows (row_sum set rows i) result j }
 {
     if sums.len() <= i {
         return j;
@@ -515,8 +520,8 @@ fn same_before(sums: &[u64], i: usize, j: usize) -> usize
 }
 
 // Is the full name of the row declared in a row before it? The answer is right where `sums` has the checksums of the rows.
-pub fn declared_before(set: &[u8], t: &[usize], sums: &[u64], row: usize) -> bool
-    ensures { sums.now ≡ row_sums set.now t.now (length sums.now) → result ≡ declared_before set.now t.now row }
+pub fn declared_before(set: &[u8], rows: &[Declaration], sums: &[u64], row: usize) -> bool
+    ensures { sums.now ≡ row_sums set.now rows.now (length sums.now) → result ≡ declared_before set.now rows.now row }
 {
     if 65535 < row {
         return false;
@@ -526,7 +531,7 @@ pub fn declared_before(set: &[u8], t: &[usize], sums: &[u64], row: usize) -> boo
         let k = j - 1;
         let next = same_before(sums, row, k);
         if !rows_apart(sums, row, k) {
-            if row_same(set, t, row, k) {
+            if row_same(set, rows, row, k) {
                 return true;
             }
         }

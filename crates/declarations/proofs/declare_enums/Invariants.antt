@@ -1,10 +1,7 @@
-use Rattle.declarations.proofs.EnumLaws.{Going}
 use lib.ListN.{length}
-use Prim.Native.Nat.{◌-◌}
+use Rattle.declarations.specs.Rows.{state, places, declare_enums}
+use Rattle.declarations.proofs.EnumLaws.{Going}
 use Rattle.declarations.proofs.declare_enums.Given as goal
 
-abbrev pub invariant-loop-f : goal.invariant-loop-f
-invariant-loop-f l = Going l.set l.from l.to l.number l.file l.up l.s l.initial.t (record { rows = l.initial.k; messages = l.messages }) l.t l.at l.k l.messages
-
-abbrev pub decreases-loop-f : goal.decreases-loop-f
-decreases-loop-f l = length l.s - l.at
+abbrev pub invariant-loop-place : goal.invariant-loop-place
+invariant-loop-place l = Going l.set l.file l.up (declare_enums l.set l.file l.up (places l.set l.number l.fn.part) (state l.fn.rows l.fn.counted)) (length l.fn.rows) l.place-iterator l.rows l.count

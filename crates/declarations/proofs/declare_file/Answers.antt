@@ -1,21 +1,23 @@
 use Rattle.declarations.proofs.FileLaws.{no_package, package_full, package_put}
 use Rattle.declarations.proofs.RoomLaws.{room_is}
 use native.Mathlib.Omega.{arith}
-use mathlib.Core.Path.{sym, ◌∙◌, ap}
-use mathlib.Core.Bool.{not}
+use mathlib.Core.Path.{sym, ◌∙◌}
 use Rattle.declarations.proofs.declare_file.Goals as goal
 
-pub returns-then-not-room_for : goal.returns-then-not-room_for
-returns-then-not-room_for c = package_full _ _ _ _ _ _ c.file_view.ensures c.if-package.true _ c.room_for.ensures (ap not c.if-not-room_for.true) c.requires.2
+pub returns-then-not-package : goal.returns-then-not-package
+returns-then-not-package c = no_package _ _ _ _ _ _ c.file_view.ensures c.if-not-package.true _ _ c.declare_members.ensures
 
-pub overflow_add-rows : goal.overflow_add-rows
-overflow_add-rows c = omega (arith, room_is _ _ (sym c.room_for.ensures ∙ c.if-not-room_for.false))
+pub returns-then-not-has_room : goal.returns-then-not-has_room
+returns-then-not-has_room c = package_full _ _ _ _ _ _ c.file_view.ensures c.if-not-package.false _ c.has_room.ensures c.if-not-has_room.true c.requires
 
-pub put_row-requires : goal.put_row-requires
-put_row-requires c = room_is _ _ (sym c.room_for.ensures ∙ c.if-not-room_for.false)
+pub offset_bounds-rows-count : goal.offset_bounds-rows-count
+offset_bounds-rows-count c = omega (arith, room_is _ _ (sym c.has_room.ensures ∙ c.if-not-has_room.false))
 
-pub returns-then-package : goal.returns-then-package
-returns-then-package c = package_put _ _ _ _ _ _ c.file_view.ensures c.if-package.true _ c.room_for.ensures (ap not c.if-not-room_for.false) _ c.put_row.ensures _ _ c.declare_members.ensures
+pub bounds-rows-count : goal.bounds-rows-count
+bounds-rows-count c = (room_is _ _ (sym c.has_room.ensures ∙ c.if-not-has_room.false)).1
+
+pub overflow_add-own : goal.overflow_add-own
+overflow_add-own c = omega (arith, room_is _ _ (sym c.has_room.ensures ∙ c.if-not-has_room.false))
 
 pub returns : goal.returns
-returns c = no_package _ _ _ _ _ _ c.file_view.ensures c.if-package.false _ _ c.declare_members-2.ensures
+returns c = package_put _ _ _ _ _ _ c.file_view.ensures c.if-not-package.false _ c.has_room.ensures c.if-not-has_room.false _ _ c.declare_members-2.ensures

@@ -2,20 +2,17 @@ use Rattle.declarations.proofs.RoomLaws.{room_is}
 use native.Mathlib.Omega.{arith}
 use Rattle.declarations.proofs.declare_message.Goals as goal
 
-pub overflow_add-kind : goal.overflow_add-kind
-overflow_add-kind c = omega (arith, c.requires.start_le_end.2, room_is _ _ c.requires.rows_value)
+pub overflow_cast-kind : goal.overflow_cast-kind
+overflow_cast-kind c = omega (arith, c.requires.counted, room_is _ _ c.requires.room)
 
-pub overflow_add-rows : goal.overflow_add-rows
-overflow_add-rows c = omega (arith, c.requires.start_le_end.2, room_is _ _ c.requires.rows_value)
+pub offset_bounds-rows-count : goal.offset_bounds-rows-count
+offset_bounds-rows-count c = omega (arith, room_is _ _ c.requires.room)
 
-pub overflow_add-messages : goal.overflow_add-messages
-overflow_add-messages c = omega (arith, c.requires.start_le_end.2, room_is _ _ c.requires.rows_value)
+pub bounds-rows-count : goal.bounds-rows-count
+bounds-rows-count c = (room_is _ _ c.requires.room).1
 
-pub put_row-requires : goal.put_row-requires
-put_row-requires c = room_is _ _ c.requires.rows_value
+pub overflow_add-own : goal.overflow_add-own
+overflow_add-own c = omega (arith, room_is _ _ c.requires.room)
 
-pub declare_enums-requires : goal.declare_enums-requires
-declare_enums-requires c = (c.requires.start_le_end.0, c.requires.start_le_end.1, omega (arith, c.requires.start_le_end.2))
-
-pub returns : goal.returns
-returns c = rw (← c.declaration_row.ensures, ← c.put_row.ensures) c.declare_enums.ensures
+pub overflow_add-own-2 : goal.overflow_add-own-2
+overflow_add-own-2 c = omega (arith, c.requires.counted, room_is _ _ c.requires.room)

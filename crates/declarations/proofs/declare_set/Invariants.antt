@@ -1,10 +1,9 @@
-use Rattle.declarations.proofs.FileLaws.{Going}
 use lib.ListN.{length}
-use Prim.Native.Nat.{◌-◌}
+use Rattle.std.specs.Iterator.Adapters.{enumerate_source, enumerate_count}
+use Prim.Native.Nat.{◌+◌, ◌≤◌}
+use Rattle.declarations.specs.Rows.{declared}
+use Rattle.declarations.proofs.FileLaws.{Going}
 use Rattle.declarations.proofs.declare_set.Given as goal
 
-abbrev pub invariant-loop-f : goal.invariant-loop-f
-invariant-loop-f l = Going l.set l.initial.t l.t l.at l.file l.k l.m
-
-abbrev pub decreases-loop-f : goal.decreases-loop-f
-decreases-loop-f l = length l.set - l.at
+abbrev pub invariant-loop-file : goal.invariant-loop-file
+invariant-loop-file l = Going l.set (declared l.set l.fn.rows) (length l.fn.rows) (enumerate_count l.file-iterator) (enumerate_source l.file-iterator) l.rows l.count

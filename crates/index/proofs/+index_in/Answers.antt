@@ -1,64 +1,41 @@
-use Rattle.wire.proofs.RecordsLaws.{places, length_part}
-use Rattle.wire.proofs.StepLaws.{lies}
-use native.Mathlib.Omega.{arith}
-use borrow.Author.Rules.{rules}
-use mathlib.Core.Path.{refl}
+use Rattle.std.proofs.Common.{rules, refl, ap, arith, length}
+use Rattle.wire.specs.Message.{record_seen, fields_in}
+use Rattle.index.proofs.RoomLaws.{field_bytes}
+use Rattle.index.proofs.SeenLaws.{forest_of}
 use Rattle.index.specs.Tree.{forest_in, rows, fill, size}
-use Rattle.index.proofs.SizeLaws.{ends_in}
-use Rattle.index.proofs.TreeLaws.{forest_end, forest_fault}
-use Rattle.index.proofs.IndexLaws.{going_start, going_end, going_skip, going_node}
-use Prim.Native.Nat.{◌-◌}
-use Rattle.std.proofs.lemmas.Grind.{common_steps}
+use Rattle.index.proofs.IndexLaws.{going_start, going_end, going_skip, inner_fits, going_node}
+use Rattle.index.proofs.+index_in.Goals.{in_default-via-in-Err-1, in_default-via-in-Ok+else-record-number}
 use Rattle.index.proofs.+index_in.Goals as goal
 
 pub returns-then-left-eq0 : goal.returns-then-left-eq0
 unfolding forest_in rows fill size
 returns-then-left-eq0 t c = (rw c.if-left-eq0.true (record { table = refl; counted = omega arith }), omega arith)
 
-pub loop-f-init : goal.loop-f-init
-loop-f-init t c = going_start _ _ _ _ _ _ _ _ c.if-left-eq0.false
-
-pub shape_of-t-in-End : goal.shape_of-t-in-End
-shape_of-t-in-End t c = c.loop-f.invariant.long
-
-pub returns-in-End : goal.returns-in-End
-returns-in-End t c = (going_end _ _ _ _ _ _ _ _ _ _ _ c.loop-f.invariant (forest_end (forest_in (c.args.left - 1) 3) _ _ _ _ _ c.read_step.ensures c.in-End.is), omega (arith, c.loop-f.invariant.room))
-
-pub shape_of-t-in-Fault : goal.shape_of-t-in-Fault
-shape_of-t-in-Fault t c = c.loop-f.invariant.long
-
-pub returns-in-Fault : goal.returns-in-Fault
-returns-in-Fault t c = (going_end _ _ _ _ _ _ _ _ _ _ _ c.loop-f.invariant (forest_fault (forest_in (c.args.left - 1) 3) _ _ _ _ _ c.read_step.ensures _ c.in-Fault.is), omega (arith, c.loop-f.invariant.room))
-
-pub end_of-end-requires : goal.end_of-end-requires
-end_of-end-requires t c = search places
-
-pub overflow_add-from : goal.overflow_add-from
-overflow_add-from t c = grind (arith, common_steps, lies)
-
-pub overflow_add-to : goal.overflow_add-to
-overflow_add-to t c = grind (arith, common_steps, lies)
-
-pub short-requires : goal.short-requires
-short-requires t c = search (rules, lies)
+pub loop-record-init : goal.loop-record-init
+loop-record-init t c = going_start _ _ _ _ _ _ _ _ _ (search rules) c.if-left-eq0.false
 
 pub index_in-after-requires : goal.index_in-after-requires
-index_in-after-requires t c = search (rules, length_part, lies, ends_in)
+index_in-after-requires t c =
+    let f = inner_fits _ _ _ _ _ _ _ _ _ _ _ c.next.new.self (record_seen c.in-Ok.record) (search rules) c.loop-record.invariant c.requires.room.0 c.requires.room.1 _ (ap length c.value_bytes-bytes.ensures) in
+    (omega (arith, c.decreases, c.if-left-eq0.false), (f, (c.requires.numbers.0, omega (arith, f.1))))
 
-pub made_row-requires : goal.made_row-requires
-made_row-requires t c = search (rules, length_part, lies, ends_in)
+pub made_row-requires-clause-numbers : goal.made_row-requires-clause-numbers
+made_row-requires-clause-numbers t c =
+    let f = inner_fits _ _ _ _ _ _ _ _ _ _ _ c.next.new.self (record_seen c.in-Ok.record) (search rules) c.loop-record.invariant c.requires.room.0 c.requires.room.1 _ (ap length c.value_bytes-bytes.ensures) in
+    (c.requires.numbers.0, c.requires.numbers.1, omega (arith, f.1, c.index_in-after.ensures.1))
 
-pub loop-f-smaller-then-f-number : goal.loop-f-smaller-then-f-number
-loop-f-smaller-then-f-number t c = search places
+pub loop-record-preserved-in-loop-record : goal.loop-record-preserved-in-loop-record
+loop-record-preserved-in-loop-record t c =
+    going_node _ _ _ _ _ _ _ _ _ _ _ _ (record_seen c.in-Ok.record) (search rules) c.loop-record.invariant c.if-record-number.true _ c.value_bytes-bytes.ensures _ refl
+    _ _ c.index_in-after.ensures.0 c.index_in-after.ensures.1 _ c.made_row.ensures _ c.put_row.ensures
 
-pub loop-f-preserved-then-f-number : goal.loop-f-preserved-then-f-number
-loop-f-preserved-then-f-number t c = going_node _ _ _ _ _ _ _ _ _ _ _ c.loop-f.invariant _ c.read_step.ensures _ c.in-Found.is c.if-f-number.true _ c.end_of-end.ensures.0 c.end_of-end.ensures.1 c.end_of-end.ensures.2 _ _ _ c.short.ensures c.index_in-after.ensures.0 c.index_in-after.ensures.1 _ c.made_row.ensures _ c.put_row.ensures
+pub loop-record-preserved : goal.loop-record-preserved
+unfolding fields_in field_bytes forest_of
+loop-record-preserved t c =
+    elim c.in_default.branch [
+      | in_default-via-in-Err-1 w ↦ search rules
+      | in_default-via-in-Ok+else-record-number w ↦ going_skip _ _ _ _ _ _ _ _ _ _ _ _ (record_seen w.in-Ok.record) (search rules) c.loop-record.invariant w.if-record-number.false
+    ]
 
-pub loop-f-smaller : goal.loop-f-smaller
-loop-f-smaller t c = search places
-
-pub loop-f-preserved : goal.loop-f-preserved
-loop-f-preserved t c = going_skip _ _ _ _ _ _ _ _ _ _ _ c.loop-f.invariant _ c.read_step.ensures _ c.in-Found.is c.if-f-number.false
-
-pub slice_bounds-index_in-end : goal.slice_bounds-index_in-end
-slice_bounds-index_in-end t c = search (rules, ends_in)
+pub returns : goal.returns
+returns t c = going_end _ _ _ _ _ _ _ _ _ _ _ (search rules) c.loop-record.invariant

@@ -1,10 +1,9 @@
-use Rattle.map_entries.proofs.PassLaws.{Going}
-use Prim.Native.Nat.{◌-◌}
 use lib.ListN.{length}
+use Rattle.base.specs.Lists.{all_of}
+use Rattle.descriptor.specs.Decode.{entries, parts}
+use Rattle.map_entries.specs.Named.{part_use, tally}
+use Rattle.map_entries.proofs.PassLaws.{Going}
 use Rattle.map_entries.proofs.note_fields.Given as goal
 
-abbrev pub invariant-loop-f : goal.invariant-loop-f
-invariant-loop-f l = Going l.set l.t l.count (l.kind - 2) l.s l.initial.who l.who l.at
-
-abbrev pub decreases-loop-f : goal.decreases-loop-f
-decreases-loop-f l = length l.s - l.at
+abbrev pub invariant-loop-part : goal.invariant-loop-part
+invariant-loop-part l = Going l.set l.rows l.count l.number (tally l.set l.rows l.count (all_of (part_use l.number) (parts 2 (entries l.fn.message))) l.fn.who) (length l.fn.who) l.part-iterator l.who

@@ -1,11 +1,14 @@
-use Rattle.set_rules.proofs.RowCounts.{room_within, room_short}
-use lib.ListN.{length-replicate}
+use mathlib.Core.List.{List}
 use Prim.Native.Nat.{ℕ}
+use lib.ListN.{length-replicate}
 use native.Mathlib.Omega.{arith}
+use Rattle.declarations.specs.Rows.{no_row}
+use Rattle.declarations.specs.declared.Declaration.{Declaration as Row}
+use Rattle.set_rules.proofs.RowCounts.{room_within, room_short}
 use Rattle.set_rules.proofs.judge_names.Goals as goal
 
-pub judge_by-requires : goal.judge_by-requires
-judge_by-requires c = room_short _ _ _ c.if-set-le-SHORT.true (rw (length-replicate {A = ℕ} _ 0) (omega arith)) (rw (length-replicate {A = ℕ} _ 0) (omega arith))
+pub returns-then-set-le-SHORT : goal.returns-then-set-le-SHORT
+returns-then-set-le-SHORT c = λ _. c.judge_within.ensures (room_short _ _ _ c.if-set-le-SHORT.true (rw (length-replicate {A = Row} 151 no_row) (omega arith)) (rw (length-replicate {A = ℕ} 151 0) (omega arith)))
 
-pub judge_by-requires-2 : goal.judge_by-requires-2
-judge_by-requires-2 c = room_within _ _ _ c.requires (rw (length-replicate {A = ℕ} _ 0) (omega arith)) (rw (length-replicate {A = ℕ} _ 0) (omega arith))
+pub returns : goal.returns
+returns c = λ passed. c.judge_within-2.ensures (room_within _ _ _ passed (rw (length-replicate {A = Row} 545 no_row) (omega arith)) (rw (length-replicate {A = ℕ} 545 0) (omega arith)))

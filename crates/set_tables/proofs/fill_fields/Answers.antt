@@ -8,7 +8,7 @@ pub put_settings-requires-2 : goal.put_settings-requires-2
 put_settings-requires-2 c = fresh_bytes _ 2048 (many_there _ c.if-set-le-SHORT.false)
 
 pub returns-then-set-le-SHORT : goal.returns-then-set-le-SHORT
-returns-then-set-le-SHORT c = fresh_fields _ _ 1057 (few_declared _ c.if-set-le-SHORT.true) _ c.put_settings.ensures _ _ _ c.fields_by.ensures
+returns-then-set-le-SHORT c = fresh_fields _ _ 151 (few_declared _ c.if-set-le-SHORT.true) _ c.put_settings.ensures _ _ _ c.fields_by.ensures
 
 pub returns : goal.returns
-returns c = fresh_fields _ _ 3815 (many_declared _ c.if-set-le-SHORT.false) _ c.put_settings-2.ensures _ _ _ c.fields_by-2.ensures
+returns c = fresh_fields _ _ 545 (many_declared _ c.if-set-le-SHORT.false) _ c.put_settings-2.ensures _ _ _ c.fields_by-2.ensures

@@ -1,12 +1,16 @@
-use Rattle.std.proofs.Common.{lt-ltb, le-ltb}
+use mathlib.Core.Path.{◌≡◌, refl}
+use mathlib.Core.Logic.{⊎_elim}
+use Prim.Native.Nat.{◌+◌, ◌-◌}
+use native.Mathlib.Omega.{arith}
 use Rattle.base.specs.Choose.{choose}
 use Rattle.field_columns.specs.Columns.{byte_of}
+use Rattle.declarations.specs.Rows.{kind_number}
 use Rattle.targets.proofs.number_of.Goals as goal
 
-pub returns-then-n-lt256 : goal.returns-then-n-lt256
-unfolding byte_of choose
-returns-then-n-lt256 c = rw (← c.saturating_sub-n.ensures, lt-ltb _ 256 c.if-n-lt256.true)
+pub returns-in-Package : goal.returns-in-Package
+unfolding byte_of kind_number choose
+returns-in-Package c = ⊎_elim (λ e. rw e refl) (λ e. rw e refl) c.in-Package.is
 
-pub returns : goal.returns
-unfolding byte_of choose
-returns c = rw (← c.saturating_sub-n.ensures, le-ltb _ 256 c.if-n-lt256.false)
+pub returns-in-Message : goal.returns-in-Message
+unfolding kind_number
+returns-in-Message c = let z : c.in-Message.number + 2 - 2 ≡ c.in-Message.number = omega arith in rw (c.in-Message.is, z) c.index_of.ensures
