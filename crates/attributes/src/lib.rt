@@ -1,4 +1,4 @@
-// code_generator.rs: the lines that stand before a declaration, a field or a variant.
+//! code_generator.rs: the lines that stand before a declaration, a field or a variant.
 #![tactic(auto)]
 
 ghost use Rattle.std.specs.Prelude.{[], ◌++◌};
@@ -10,6 +10,10 @@ ghost use Rattle.joined.specs.Joined.{fits};
 ghost use Rattle.code_generator.specs.Piece.{flat, when};
 ghost use Rattle.code_generator.specs.Attributes.{line, end, attributes, derive, append_field_attributes, append_prost_path_attribute, append_skip_debug};
 ghost use Rattle.attributes.specs.Lines.{attribute};
+
+pub mod writing;
+
+// What follows serves the crates that write over a slice from a place.
 
 // A line, or its start, at the depth d.
 pub fn put_line(t: &mut [u8], at: usize, d: usize, text: &[u8]) -> usize

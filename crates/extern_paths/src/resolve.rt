@@ -1,7 +1,7 @@
 //! What extern paths make of a full name: whether one takes it, and what is written for it.
 ghost use Rattle.std.specs.Prelude.{◌≡◌, true, false, ◌++◌, ◌+◌, ◌^◌, ◌<◌, ◌≤◌, length, IfSome, IfNone, []};
 ghost use Rattle.base.specs.Bytes.{b};
-ghost use Rattle.writer.specs.Wrote.{Wrote};
+ghost use Rattle.writer.specs.Writing.{◌▻◌};
 ghost use Rattle.options.specs.Settings.{settings, prost_path};
 ghost use Rattle.path.specs.Worth.{weighed, best_of, none_yet};
 ghost use Rattle.split.specs.Split.{split};
@@ -14,7 +14,9 @@ ghost use Rattle.extern_paths.specs.Seen.{extern_seen};
 use crate::prost_types::{PATHS, VALUES};
 use options::{Kind, Options};
 use path::Best;
-use split::{Parts, word};
+use rust_paths::writing::{put_behind, put_rust_path};
+use split::{Parts, Separator, word};
+use writer::Text;
 
 /// An extern path: the full name or prefix that it takes, and what stands for that in Rust, in two pieces. The second piece is
 /// empty or begins with a `::`.
@@ -32,7 +34,7 @@ fn best_word(s: &[u8], best: Best, first: usize, ident: &[u8]) -> Best
     ensures { result ≡ best_word (weighed false ident.now) best first (split (b " ") s.now) }
 {
     let mut most = best;
-    for (number, path) in Parts::new(s, b" ").enumerate() {
+    for (number, path) in Parts::new(s, Separator::Blank).enumerate() {
         most = most.improved(first + number, path::worth(ident, false, path));
     }
     most
@@ -103,6 +105,7 @@ fn numbered_prost_type<'a>(options: &Options<'a>, own: &'a [u8], j: usize) -> Ex
 /// The extern path that takes a full name, if one does.
 pub fn find<'a>(options: &Options<'a>, ident: &[u8]) -> Option<ExternPath<'a>>
     ensures none { IfNone result (resolve_ident options.now ident.now ≡ []) }
+    ensures free { IfNone result (taken options.now ident.now ≡ false) }
     ensures some { IfSome result (λ e. resolve_by (extern_seen e) ident.now ≡ resolve_ident options.now ident.now) }
     ensures tail { IfSome result (λ e. is_tail e.tail.now ≡ true) }
 {
@@ -124,16 +127,27 @@ pub fn find<'a>(options: &Options<'a>, ident: &[u8]) -> Option<ExternPath<'a>>
 }
 
 /// Writes what stands for a name that an extern path takes.
-fn put_by(t: &mut [u8], at: usize, e: &ExternPath<'_>, ident: &[u8]) -> usize
-    requires { is_tail e.now.tail.now ≡ true }
-    ensures { Wrote t.old at (extern_text (resolve_by (extern_seen e.now) ident.now)) t.new result }
+fn put_by(text: &mut Text<'_>, by: &ExternPath<'_>, ident: &[u8])
+    requires { is_tail by.now.tail.now ≡ true }
+    ensures { text.new ≡ text.old ▻ extern_text (resolve_by (extern_seen by.now) ident.now) }
 {
-    if e.path == ident {
-        return writer::put_two(t, at, e.value, e.tail);
+    if by.path == ident {
+        text.put(by.value);
+        text.put(by.tail);
+    } else {
+        put_rust_path(text, by.value, by.tail);
+        let behind = by.path.len() + 1;
+        put_behind(text, ident, behind);
     }
-    let a = rust_paths::put_rust_path(t, at, e.value, e.tail);
-    let behind = e.path.len() + 1;
-    rust_paths::put_behind(t, a, ident, behind)
+}
+
+/// Writes what stands for a full name that an extern path takes; nothing for another.
+pub fn resolve_ident(text: &mut Text<'_>, options: &Options<'_>, ident: &[u8])
+    ensures { text.new ≡ text.old ▻ extern_text (resolve_ident options.now ident.now) }
+{
+    if let Some(by) = find(options, ident) {
+        put_by(text, &by, ident);
+    }
 }
 
 // What follows serves the crates that pass an options file as its bytes.
@@ -143,14 +157,4 @@ pub fn is_taken(bytes: &[u8], ident: &[u8]) -> bool
     ensures { result ≡ taken (settings bytes.now) ident.now }
 {
     takes(&Options::new(bytes), ident)
-}
-
-/// Writes what stands for a full name that an extern path takes; nothing for another.
-pub fn resolve_ident(t: &mut [u8], at: usize, bytes: &[u8], ident: &[u8]) -> usize
-    ensures { Wrote t.old at (extern_text (resolve_ident (settings bytes.now) ident.now)) t.new result }
-{
-    match find(&Options::new(bytes), ident) {
-        Some(e) => put_by(t, at, &e, ident),
-        None => at,
-    }
 }

@@ -1,139 +1,129 @@
-// A field's tag.
+//! A field's tag.
 #![tactic(auto)]
 
 ghost use Rattle.std.specs.Prelude.{◌≡◌};
-ghost use Rattle.writer.specs.Wrote.{Wrote};
-ghost use Rattle.options.specs.Settings.{settings};
-ghost use Rattle.descriptor.specs.Views.{field_of};
-ghost use Rattle.code_generator.specs.Piece.{flat, spelt};
+ghost use Rattle.code_generator.specs.Piece.{piece, name};
+ghost use Rattle.code_generator.specs.Writing.{◌⊳◌};
 ghost use Rattle.code_generator.specs.Fields.{optional, unpacked, label_tag, bytes_annotation, enum_value, default_text, default_tag, field_tag};
 
-use descriptor::FieldView;
+use descriptor::{FieldDescriptor, LABEL_OPTIONAL};
+use options::Options;
+use resolve::writing::field_type_tag;
+use writer::Text;
 
-pub fn optional(proto3: bool, s: &[u8], f: FieldView) -> bool
-    ensures { result ≡ optional proto3 (field_of s.now f) }
+// Label
+const LABEL_REQUIRED: u32 = 2;
+
+/// Is a field's value an `Option`?
+#[tactic(auto, unfolding(code_generator::specs::Fields::optional))]
+pub fn optional(proto3: bool, field: &FieldDescriptor<'_>) -> bool
+    ensures { result ≡ optional proto3 field.now }
 {
-    if f.optional {
-        return true;
-    }
-    if accessors::label(s, f) != 1 {
+    field.proto3_optional || (field.label() == LABEL_OPTIONAL && (field.is_message() || !proto3))
+}
+
+/// Is a repeated field that could be packed not packed?
+#[tactic(auto, unfolding(code_generator::specs::Fields::unpacked))]
+fn is_unpacked(proto3: bool, field: &FieldDescriptor<'_>) -> bool
+    ensures { result ≡ unpacked proto3 field.now }
+{
+    if !field_types::can_pack(field.kind()) {
         return false;
     }
-    if accessors::kind(s, f) == 11 {
-        return true;
+    match field.options {
+        Some(options) => !options.packed,
+        None => !proto3,
     }
-    !proto3
 }
 
-// Is a repeated field that could be packed not packed?
-fn unpacked(proto3: bool, s: &[u8], f: FieldView) -> bool
-    ensures { result ≡ unpacked proto3 (field_of s.now f) }
+#[tactic(auto, unfolding(code_generator::specs::Fields::label_tag))]
+fn label_tag(text: &mut Text<'_>, proto3: bool, field: &FieldDescriptor<'_>)
+    ensures { text.new ≡ text.old ⊳ label_tag proto3 field.now }
 {
-    let kind = accessors::kind(s, f);
-    let can = field_types::can_pack(kind);
-    if can {
-        if f.options {
-            return !f.packed;
+    match field.label() {
+        LABEL_OPTIONAL => text.put_if(optional(proto3, field), b", optional"),
+        LABEL_REQUIRED => text.put(b", required"),
+        _ => {
+            text.put(b", repeated");
+            text.put_if(is_unpacked(proto3, field), b", packed = \"false\"");
         }
-        return !proto3;
     }
-    false
 }
 
-fn label_tag(t: &mut [u8], at: usize, proto3: bool, s: &[u8], f: FieldView) -> usize
-    ensures { Wrote t.old at (flat (label_tag proto3 (field_of s.now f))) t.new result }
+/// The type of a bytes field; `bytes`: it is `Bytes`.
+#[tactic(auto, unfolding(code_generator::specs::Fields::bytes_annotation))]
+fn bytes_annotation(text: &mut Text<'_>, field: &FieldDescriptor<'_>, bytes: bool)
+    ensures { text.new ≡ text.old ⊳ bytes_annotation field.now bytes }
 {
-    let label = accessors::label(s, f);
-    if label == 1 {
-        let is = optional(proto3, s, f);
-        return writer::put_if(t, at, is, b", optional");
+    if field.sort() == b'y' {
+        text.put(b" = \"");
+        text.put(collections::bytes_type(bytes).annotation());
+        text.put(b"\"");
     }
-    if label == 2 {
-        return writer::put(t, at, b", required");
-    }
-    let a = writer::put(t, at, b", repeated");
-    let is = unpacked(proto3, s, f);
-    writer::put_if(t, a, is, b", packed = \"false\"")
 }
 
-// asbytes: the field's bytes_type is `Bytes`.
-fn bytes_annotation(t: &mut [u8], at: usize, s: &[u8], f: FieldView, asbytes: bool) -> usize
-    ensures { Wrote t.old at (flat (bytes_annotation (field_of s.now f) asbytes)) t.new result }
+/// The name of an enum's value that is a default.
+#[tactic(auto, unfolding(code_generator::specs::Fields::enum_value))]
+fn enum_value(text: &mut Text<'_>, options: &Options<'_>, field: &FieldDescriptor<'_>, value: &[u8])
+    ensures { text.new ≡ text.old ⊳ piece (name (enum_value options.now field.now value.now)) }
 {
-    let sort = accessors::sort(s, f);
-    if sort == b'y' {
-        let a = writer::put(t, at, b" = \"");
-        let kind = collections::bytes_type(asbytes);
-        let a = collections::put_bytes_annotation(t, a, kind);
-        return writer::put(t, a, b"\"");
+    if options.strips_enum_prefix() {
+        ident::text::put_variant(text, way::last_name(field.type_name()), value);
+    } else {
+        ident::text::put_upper_camel(text, value);
     }
-    at
 }
 
-// The name of an enum's value v that is a default.
-fn enum_value(t: &mut [u8], at: usize, o: &[u8], s: &[u8], f: FieldView, v: &[u8]) -> usize
-    ensures { Wrote t.old at (spelt (enum_value (settings o.now) (field_of s.now f) v.now)) t.new result }
+/// A default's value in a tag.
+#[tactic(auto, unfolding(code_generator::specs::Fields::default_text))]
+fn default_text(
+    text: &mut Text<'_>,
+    options: &Options<'_>,
+    field: &FieldDescriptor<'_>,
+    value: &[u8],
+)
+    ensures { text.new ≡ text.old ⊳ default_text options.now field.now value.now }
 {
-    let strip = options::strips(o);
-    if strip {
-        let name = accessors::type_name(s, f);
-        let last = way::last_name(name);
-        let named = ident::put_variant(t, at, last, v);
-        return named.next;
+    match field.sort() {
+        b'y' => {
+            text.put(b"b\\\"");
+            c_escaping::escape_unescaped(text, value);
+            text.put(b"\\\"");
+        }
+        b'e' => enum_value(text, options, field, value),
+        _ => literal::escape_text(text, value),
     }
-    let named = ident::put_upper_camel(t, at, v);
-    named.next
 }
 
-// The default v in a tag.
-fn default_text(t: &mut [u8], at: usize, o: &[u8], s: &[u8], f: FieldView, v: &[u8]) -> usize
-    ensures { Wrote t.old at (flat (default_text (settings o.now) (field_of s.now f) v.now)) t.new result }
+#[tactic(auto, unfolding(code_generator::specs::Fields::default_tag))]
+fn default_tag(text: &mut Text<'_>, options: &Options<'_>, field: &FieldDescriptor<'_>)
+    ensures { text.new ≡ text.old ⊳ default_tag options.now field.now }
 {
-    let sort = accessors::sort(s, f);
-    if sort == b'y' {
-        let a = writer::put(t, at, b"b\\\"");
-        let a = c_escaping::put_unescaped(t, a, v);
-        return writer::put(t, a, b"\\\"");
+    if let Some(value) = field.default_value {
+        text.put(b"\", default = \"");
+        default_text(text, options, field, value);
     }
-    if sort == b'e' {
-        return enum_value(t, at, o, s, f, v);
-    }
-    literal::put_text(t, at, v)
 }
 
-fn default_tag(t: &mut [u8], at: usize, o: &[u8], s: &[u8], f: FieldView) -> usize
-    ensures { Wrote t.old at (flat (default_tag (settings o.now) (field_of s.now f))) t.new result }
-{
-    let v = f.default;
-    if v.given {
-        let a = writer::put(t, at, b"\", default = \"");
-        let x = name_rules::text_bytes(s, v);
-        return default_text(t, a, o, s, f, x);
-    }
-    at
-}
-
-// A field's tag, from behind `#[prost(` on. scope: where the struct stands.
+/// A field's tag, from behind `#[prost(` on. `scope` is where the struct stands; `bytes`: the field's bytes are `Bytes`.
+#[tactic(auto, unfolding(code_generator::specs::Fields::field_tag))]
 pub fn field_tag(
-    t: &mut [u8],
-    at: usize,
-    o: &[u8],
+    text: &mut Text<'_>,
+    options: &Options<'_>,
     proto3: bool,
     scope: &[u8],
-    s: &[u8],
-    f: FieldView,
+    field: &FieldDescriptor<'_>,
     boxed: bool,
-    asbytes: bool,
-) -> usize
-    ensures { Wrote t.old at (flat (field_tag (settings o.now) proto3 scope.now (field_of s.now f) boxed asbytes)) t.new result }
+    bytes: bool,
+)
+    ensures { text.new ≡ text.old ⊳ field_tag options.now proto3 scope.now field.now boxed bytes }
 {
-    let a = resolve::field_type_tag(t, at, o, scope, s, f);
-    let a = bytes_annotation(t, a, s, f, asbytes);
-    let a = label_tag(t, a, proto3, s, f);
-    let a = writer::put_if(t, a, boxed, b", boxed");
-    let a = writer::put(t, a, b", tag = \"");
-    let number = accessors::number(s, f);
-    let a = writer::put_number(t, a, number);
-    let a = default_tag(t, a, o, s, f);
-    writer::put(t, a, b"\")]\n")
+    field_type_tag(text, options, scope, field);
+    bytes_annotation(text, field, bytes);
+    label_tag(text, proto3, field);
+    text.put_if(boxed, b", boxed");
+    text.put(b", tag = \"");
+    text.put_number(field.number());
+    default_tag(text, options, field);
+    text.put(b"\")]\n");
 }

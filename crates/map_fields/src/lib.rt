@@ -1,77 +1,95 @@
-// A map field's tag and line. A map entry is its bytes e and the views of its key and its value.
+//! A map field's tag and line.
 #![tactic(auto)]
 
-ghost use Rattle.std.specs.Prelude.{[]};
-ghost use Rattle.writer.specs.Wrote.{Wrote};
-ghost use Rattle.options.specs.Settings.{settings};
-ghost use Rattle.descriptor.specs.Views.{field_of};
-ghost use Rattle.code_generator.specs.Piece.{flat};
+ghost use Rattle.std.specs.Prelude.{◌≡◌, []};
+ghost use Rattle.code_generator.specs.Writing.{◌⊳◌};
 ghost use Rattle.code_generator.specs.MapFields.{map_tag, map_open, map_line};
-ghost use Rattle.map_fields.specs.Entry.{entry};
 
-use descriptor::FieldView;
-use field_lines::line_start;
+use descriptor::FieldDescriptor;
+use field_lines::writing::line_start;
+use options::Options;
+use resolve::writing::{field_type_tag, map_value_type_tag, put_prost, resolve_type};
+use std::marker::Model;
+use writer::Text;
 
-// A map field's tag, from behind `#[prost(` on. btree: the map is a BTreeMap.
-pub fn map_tag(
-    t: &mut [u8],
-    at: usize,
-    o: &[u8],
-    scope: &[u8],
-    s: &[u8],
-    f: FieldView,
-    e: &[u8],
-    key: FieldView,
-    value: FieldView,
-    btree: bool,
-) -> usize
-    ensures { Wrote t.old at (flat (map_tag (settings o.now) scope.now (field_of s.now f) (entry e.now key value) btree)) t.new result }
-{
-    let kind = collections::map_type(btree);
-    let a = collections::put_map_annotation(t, at, kind);
-    let a = writer::put(t, a, b" = \"");
-    let a = resolve::field_type_tag(t, a, o, scope, e, key);
-    let a = writer::put(t, a, b", ");
-    let a = resolve::map_value_type_tag(t, a, o, scope, e, value);
-    let a = writer::put(t, a, b"\", tag = \"");
-    let number = accessors::number(s, f);
-    let a = writer::put_number(t, a, number);
-    writer::put(t, a, b"\")]\n")
+/// The fields of a map entry.
+#[derive(Drop)]
+pub struct MapEntry<'a> {
+    pub key: FieldDescriptor<'a>,
+    pub value: FieldDescriptor<'a>,
 }
 
-fn map_open(t: &mut [u8], at: usize, o: &[u8], btree: bool) -> usize
-    ensures { Wrote t.old at (flat (map_open (settings o.now) btree)) t.new result }
+impl<'a> Model for MapEntry<'a> {
+    ghost use Rattle.code_generator.specs.MapFields.{MapEntry};
+
+    ghost Value = { MapEntry };
+
+    ghost view = { λ entry. record { key = entry.key; value = entry.value } };
+}
+
+/// What the options set for a map field.
+#[derive(Clone, Copy)]
+pub struct MapSettings {
+    /// The map is a `BTreeMap`.
+    pub btree: bool,
+    /// The key's bytes are `Bytes`.
+    pub key_bytes: bool,
+    /// The value's bytes are `Bytes`.
+    pub value_bytes: bool,
+}
+
+/// A map field's tag, from behind `#[prost(` on. `btree`: the map is a `BTreeMap`.
+#[tactic(auto, unfolding(code_generator::specs::MapFields::map_tag))]
+pub fn map_tag(
+    text: &mut Text<'_>,
+    options: &Options<'_>,
+    scope: &[u8],
+    field: &FieldDescriptor<'_>,
+    entry: &MapEntry<'_>,
+    btree: bool,
+)
+    ensures { text.new ≡ text.old ⊳ map_tag options.now scope.now field.now entry.now btree }
+{
+    text.put(collections::map_type(btree).annotation());
+    text.put(b" = \"");
+    field_type_tag(text, options, scope, &entry.key);
+    text.put(b", ");
+    map_value_type_tag(text, options, scope, &entry.value);
+    text.put(b"\", tag = \"");
+    text.put_number(field.number());
+    text.put(b"\")]\n");
+}
+
+#[tactic(auto, unfolding(code_generator::specs::MapFields::map_open))]
+fn map_open(text: &mut Text<'_>, options: &Options<'_>, btree: bool)
+    ensures { text.new ≡ text.old ⊳ map_open options.now btree }
 {
     if btree {
-        let a = resolve::put_prost(t, at, o);
-        return writer::put(t, a, b"::alloc::collections::BTreeMap<");
+        put_prost(text, options);
+        text.put(b"::alloc::collections::BTreeMap<");
+    } else {
+        text.put(b"::std::collections::HashMap<");
     }
-    writer::put(t, at, b"::std::collections::HashMap<")
 }
 
-// A map field's line at the depth d. keybytes, valuebytes: bytes_type of the key and of the value is `Bytes`.
+/// A map field's line. `scope` is where the struct stands.
+#[tactic(auto, unfolding(code_generator::specs::MapFields::map_line))]
 pub fn map_line(
-    t: &mut [u8],
-    at: usize,
-    o: &[u8],
-    d: usize,
+    text: &mut Text<'_>,
+    options: &Options<'_>,
+    depth: usize,
     scope: &[u8],
-    s: &[u8],
-    f: FieldView,
-    e: &[u8],
-    key: FieldView,
-    value: FieldView,
-    btree: bool,
-    keybytes: bool,
-    valuebytes: bool,
-) -> usize
-    ensures { Wrote t.old at (flat (map_line (settings o.now) d scope.now [] (field_of s.now f) (entry e.now key value) btree keybytes valuebytes)) t.new result }
+    field: &FieldDescriptor<'_>,
+    entry: &MapEntry<'_>,
+    settings: MapSettings,
+)
+    ensures { text.new ≡ text.old ⊳ map_line options.now depth scope.now [] field.now entry.now settings.btree settings.key_bytes settings.value_bytes }
 {
-    let a = line_start(t, at, d, s, f);
-    let a = map_open(t, a, o, btree);
-    let a = resolve::resolve_type(t, a, o, scope, e, key, keybytes);
-    let a = writer::put(t, a, b", ");
-    let a = resolve::resolve_type(t, a, o, scope, e, value, valuebytes);
-    let a = writer::put(t, a, b">");
-    writer::put(t, a, b",\n")
+    line_start(text, depth, field);
+    map_open(text, options, settings.btree);
+    resolve_type(text, options, scope, &entry.key, settings.key_bytes);
+    text.put(b", ");
+    resolve_type(text, options, scope, &entry.value, settings.value_bytes);
+    text.put(b">");
+    text.put(b",\n");
 }

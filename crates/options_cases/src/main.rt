@@ -9,6 +9,7 @@ use std::alloc::{AllocError, Global};
 use std::io::Write;
 use std::rt::Files;
 use std::{fs, io};
+use writer::Text;
 
 /// The kind of a type attribute.
 const TYPE_ATTRIBUTE: u16 = 5;
@@ -57,7 +58,9 @@ fn put_extern(text: &mut Vec<u8>, options: &[u8], name: &[u8]) -> io::Result<()>
         return text.write_all(b"-");
     }
     let mut buffer = [0u8; 4096];
-    let end = extern_paths::resolve::resolve_ident(&mut buffer, 0, options, name);
+    let mut written = Text::new(&mut buffer);
+    extern_paths::resolve::resolve_ident(&mut written, &Options::new(options), name);
+    let end = written.length;
     text.write_all(buffer.get(..end).unwrap_or(b"too long"))
 }
 

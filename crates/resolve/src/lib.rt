@@ -1,4 +1,4 @@
-// code_generator.rs, resolve_ident and resolve_type: the paths and types that a text names, and the types in tags.
+//! code_generator.rs, resolve_ident and resolve_type: the paths and types that a text names, and the types in tags.
 #![tactic(auto)]
 
 ghost use Rattle.std.specs.Prelude.{◌≡◌, ◌||◌, eqb};
@@ -9,7 +9,13 @@ ghost use Rattle.descriptor.specs.Views.{field_of};
 ghost use Rattle.code_generator.specs.Piece.{flat};
 ghost use Rattle.code_generator.specs.Resolve.{prost, resolve_ident, resolve_bytes, resolve_type, tag_ident, field_type_tag, map_value_type_tag};
 
+pub mod writing;
+
 use descriptor::FieldView;
+use options::Options;
+use writer::Text;
+
+// What follows serves the crates that write over a slice from a place, or that hold views of a set's bytes.
 
 // prost_path
 pub fn put_prost(t: &mut [u8], at: usize, o: &[u8]) -> usize
@@ -22,11 +28,12 @@ pub fn put_prost(t: &mut [u8], at: usize, o: &[u8]) -> usize
 pub fn resolve_ident(t: &mut [u8], at: usize, o: &[u8], scope: &[u8], ident: &[u8]) -> usize
     ensures { Wrote t.old at (flat (resolve_ident (settings o.now) scope.now ident.now)) t.new result }
 {
-    let taken = extern_paths::resolve::is_taken(o, ident);
-    if taken {
-        return extern_paths::resolve::resolve_ident(t, at, o, ident);
-    }
-    way::put_way(t, at, scope, ident)
+    let mut text = Text {
+        buffer: t,
+        length: at,
+    };
+    writing::resolve_ident(&mut text, &Options::new(o), scope, ident);
+    text.next(at)
 }
 
 // The Rust type of bytes: `Bytes`, or a Vec.

@@ -177,8 +177,7 @@ module _ (p q : List ℕ) (n : ℕ) (e : n ≡ cut p) (h : is_tail q ≡ true) (
       let l : suc (suc n) ≡ length p + (2 - (length p - n)) = omega arith in
       rw l (drop-append-add p q (2 - (length p - n)))
 
-  pub cut_split : split (b "::") (p ++ q) ≡ split (b "::") (take (n - 0) (drop 0 p)) ++ split (b "::") (drop (2 - (length p - n)) q)
+  pub cut_split : split (b "::") (p ++ q) ≡ split (b "::") (take n p) ++ split (b "::") (drop (2 - (length p - n)) q)
   unfolding cuts
   cut_split =
-      let z : n - 0 ≡ n = omega arith in
-      rw (z, ← behind, e) (rw (tail_is q h f) (cuts_are p (drop 2 q)))
+      rw (← behind, e) (rw (tail_is q h f) (cuts_are p (drop 2 q)))

@@ -3,19 +3,22 @@ use mathlib.Core.Path.{◌≡◌, refl, sym, ap, ◌∙◌}
 use mathlib.Core.Bool.{Bool, true, false}
 use mathlib.Core.List.{List, [], ◌∷◌, ◌++◌, map, map-append, append-nil, append_assoc}
 use native.Mathlib.Decide.{dec_le}
-use Prim.Native.Nat.{ℕ, min, ◌+◌, ◌-◌, ◌≤◌, ◌<◌}
+use Prim.Native.Nat.{ℕ, min, ◌-◌, ◌≤◌}
 use native.Mathlib.Omega.{arith}
-use lib.ListN.{length, take, drop, drop_of_length-le}
+use lib.ListN.{length, take, drop, length-drop, drop_of_length-le}
+use lib.Seq.{take_all}
 use Rattle.std.specs.Str.{bytes_eq}
 use Rattle.base.specs.Bytes.{b}
-use Rattle.writer.specs.Wrote.{Wrote, ◌►◌, named}
+use Rattle.writer.specs.declared.text.Text.{Text}
+use Rattle.writer.specs.Text.{pick}
+use Rattle.writer.specs.Writing.{◌▻◌}
+use Rattle.writer.proofs.TextLaws.{put-nothing, appended}
 use Rattle.heck.specs.Case.{join}
-use Rattle.heck.proofs.Partly.{Partly}
 use Rattle.ident.specs.Ident.{to_snake, to_upper_camel}
-use Rattle.split.specs.Split.{begins, split, first_part}
+use Rattle.split.specs.Split.{split, first_part}
 use Rattle.rust_paths.specs.Segments.{Segment, snake, written, first_segment, rust_path, extern_text}
 use Rattle.rust_paths.specs.Parts.{led, segments, led_parts, path_text, is_tail}
-use Rattle.split.proofs.SplitLaws.{begins_starts, Parted, parts_behind, split_is, parts_last, parts_more}
+use Rattle.split.proofs.SplitLaws.{begins_starts, parts_behind, split_is}
 
 -- ---- texts with a `::` between them
 join_led : (x : List ℕ) (xs : List (List ℕ)) → join (b "::") (x ∷ xs) ≡ x ++ led xs
@@ -54,31 +57,38 @@ unfolding led
 seg_more true x y ys = refl
 seg_more false x y ys = refl
 
-module _ (sep s : List ℕ) (from e : ℕ) (z : 0 < length sep) (d : Parted sep s from e) (c : Bool) where
-  pub led_more : e < length s → led_parts c sep (drop from s) ≡ (b "::" ++ to_snake (take (e - from) (drop from s))) ++ led_parts c sep (drop (e + length sep) s)
-  unfolding led_parts
-  led_more l = rw (parts_more sep s from e z d l, split_is sep (drop (e + length sep) s) z) (seg_more c _ _ _)
+led_last : (c : Bool) (x : List ℕ) → led (map written (segments c (x ∷ []))) ≡ b "::" ++ pick c (to_upper_camel x) (to_snake x)
+unfolding led
+led_last true x = rw append-nil refl
+led_last false x = rw append-nil refl
 
-  pub led_camel : length s ≤ e → c ≡ true → led_parts c sep (drop from s) ≡ b "::" ++ to_upper_camel (take (e - from) (drop from s))
-  unfolding led_parts led
-  led_camel l t = rw (parts_last sep s from e z d l, t, append-nil) refl
+-- as they are written into a text: none is left, one is, more are
+pub none_led : (t : Text) (c : Bool) → t ≡ t ▻ led (map written (segments c []))
+unfolding led
+none_led t true = sym (put-nothing t)
+none_led t false = sym (put-nothing t)
 
-  pub led_snake : length s ≤ e → c ≡ false → led_parts c sep (drop from s) ≡ b "::" ++ to_snake (take (e - from) (drop from s))
-  unfolding led_parts led
-  led_snake l t = rw (parts_last sep s from e z d l, t, append-nil) refl
+module _ (t : Text) (c : Bool) where
+  pub last_led : (t₁ t₂ : Text) (x : List ℕ) → t₁ ≡ t ▻ b "::" → t₂ ≡ t₁ ▻ pick c (to_upper_camel x) (to_snake x) → t₂ ≡ t ▻ led (map written (segments c (x ∷ [])))
+  last_led t₁ t₂ x e f = appended t t₁ t₂ _ _ e f ∙ ap (λ (p : List ℕ). t ▻ p) (sym (led_last c x))
 
-module _ (s : List ℕ) (e : ℕ) (d : Parted (b "::") s 0 e) where
-  pub path_last : length s ≤ e → path_text s ≡ written (first_segment (take (e - 0) (drop 0 s)))
-  unfolding path_text extern_text
-  path_last l = rw (parts_last (b "::") s 0 e (omega arith) d l) refl
+  pub more_led : (t₁ t₂ : Text) (x y : List ℕ) (ys : List (List ℕ)) → t₁ ≡ t ▻ b "::" → t₂ ≡ t₁ ▻ to_snake x → t₂ ▻ led (map written (segments c (y ∷ ys))) ≡ t ▻ led (map written (segments c (x ∷ (y ∷ ys))))
+  more_led t₁ t₂ x y ys e f = appended t t₂ _ _ _ (appended t t₁ t₂ _ _ e f) refl ∙ ap (λ (p : List ℕ). t ▻ p) (sym (seg_more c x y ys))
 
-  pub path_more : e < length s → path_text s ≡ written (first_segment (take (e - 0) (drop 0 s))) ++ led_parts false (b "::") (drop (e + 2) s)
-  unfolding path_text extern_text led_parts
-  path_more l = rw (parts_more (b "::") s 0 e (omega arith) d l) (join_led (written (first_segment (take (e - 0) (drop 0 s)))) (map written (map snake (split (b "::") (drop (e + 2) s)))))
+-- the parts of what is left of a text
+pub rest_led : (t u : Text) (c : Bool) (sep s : List ℕ) (n : ℕ) (xs : List (List ℕ)) → xs ≡ split sep (take (length s - n) (drop n s)) → u ≡ t ▻ led (map written (segments c xs)) → u ≡ t ▻ led_parts c sep (drop n s)
+unfolding led_parts
+rest_led t u c sep s n xs e f =
+    f ∙ ap (λ (l : List (List ℕ)). t ▻ led (map written (segments c l))) (rw (take_all (length s - n) (drop n s) (rw length-drop (omega arith))) at e)
 
--- ---- the last of a text is written
-pub ended : {t t₁ t₂ p q rest : List ℕ} {at r₁ r₂ : ℕ} → Partly t at p t₁ r₁ rest → rest ≡ q → Wrote t₁ r₁ q t₂ r₂ → Wrote t at p t₂ r₂
-ended w e v = named (ap (λ (l : List ℕ). w.front ++ l) (sym e) ∙ w.left) (w.wrote ► v)
+-- a path by its first part
+pub path_first : (s x : List ℕ) (xs : List (List ℕ)) → split (b "::") s ≡ x ∷ xs → path_text s ≡ written (first_segment x) ++ led (map written (segments false xs))
+unfolding path_text extern_text
+path_first s x xs e = rw e (join_led (written (first_segment x)) (map written (map snake xs)))
+
+-- a text has a first part
+pub no_part : (s : List ℕ) → split (b "::") s ≡ [] → ⊥
+no_part s e = let p = split_is (b "::") s (omega arith) in cc
 
 pub empty_tail : (p q : List ℕ) → length q ≡ 0 → p ≡ p ++ q
 empty_tail p [] h = sym (append-nil p)

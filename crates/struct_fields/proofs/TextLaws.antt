@@ -1,51 +1,45 @@
 -- The fields of a struct, one field on. Assumes nothing.
-use mathlib.Core.Path.{◌≡◌, ap, ◌∙◌}
+use mathlib.Core.Path.{◌≡◌, refl, sym, ap, ◌∙◌}
 use mathlib.Core.Bool.{Bool, true, false}
-use mathlib.Core.Option.{Option, some, none}
-use mathlib.Core.List.{List, [], ◌++◌}
-use Prim.Native.Nat.{ℕ, ◌+◌, ◌-◌, ◌<◌, ◌≤◌}
+use mathlib.Core.List.{List, ◌∷◌}
+use Prim.Native.Nat.{ℕ, suc, ◌+◌, ◌-◌, ◌<◌, ◌≤◌}
+use native.Mathlib.Omega.{arith}
+use native.Mathlib.Numerals.{add-one}
+use lib.Dec.{eqb}
 use Rattle.base.specs.Choose.{choose}
+use Rattle.writer.specs.declared.text.Text.{Text as Buffered}
 use Rattle.descriptor.specs.Descriptor.{Bytes}
 use Rattle.options.specs.Settings.{Setting}
 use Rattle.text_tables.specs.Rows.{field_row}
-use Rattle.text_tables.specs.declared.FieldRow.{FieldRow}
-use Rattle.members.specs.Members.{map_entry_at, numbers_with}
-use Rattle.members.proofs.MemberLaws.{numbers_end, numbers_found, numbers_skip}
-use Rattle.code_generator.specs.Piece.{flat}
-use Rattle.code_generator.specs.MapFields.{MapEntry}
-use Rattle.map_fields.specs.Entry.{entry}
-use Rattle.struct_fields.specs.StructFields.{plain_text, map_text, field_or_map, field_text, field_texts}
-use Rattle.struct_fields.specs.Entries.{given_entry}
-use Rattle.struct_fields.specs.declared.EntryFields.{EntryFields}
+use Rattle.members.specs.Members.{numbers_with}
+use Rattle.code_generator.specs.Piece.{when}
+use Rattle.code_generator.specs.Writing.{◌⊳◌}
+use Rattle.struct_fields.specs.StructFields.{field_text, field_texts}
 
 module _ (rs : List Setting) (set t : List ℕ) (proto3 : Bool) (d : ℕ) (scope full : Bytes) where
-  -- a field by what it names
-  module _ (k : ℕ) (e : List ℕ) (r : EntryFields) (is : given_entry e r ≡ map_entry_at set t k) where
-    pub as_map : r.found ≡ true → flat (map_text rs set t proto3 d scope full k (entry e r.key r.value)) ≡ flat (field_text rs set t proto3 d scope full k)
-    unfolding field_text choose
-    as_map h =
-        let q : some (entry e r.key r.value) ≡ given_entry e r = rw h in
-        ap (λ (x : Option MapEntry). flat (field_or_map rs set t proto3 d scope full k x)) (q ∙ is)
+  -- the fields in no oneof from k on, below last, behind what is written
+  unfoldable pub behind : Buffered → ℕ → ℕ → Buffered
+  behind x last k = x ⊳ field_texts rs set t proto3 d scope full (numbers_with t 0 (last - k) k)
 
-    pub as_plain : r.found ≡ false → flat (plain_text rs set t proto3 d scope full k) ≡ flat (field_text rs set t proto3 d scope full k)
-    unfolding field_text choose
-    as_plain h =
-        let q : none ≡ given_entry e r = rw h in
-        ap (λ (x : Option MapEntry). flat (field_or_map rs set t proto3 d scope full k x)) (q ∙ is)
+  pub none_behind : (x : Buffered) (last k : ℕ) → last ≤ k → behind x last k ≡ x
+  unfolding behind field_texts numbers_with
+  none_behind x last k h = let e : last - k ≡ 0 = omega arith in rw e refl
 
-  -- the fields in no oneof from k on, below last
-  abbrev pub texts_from : ℕ → ℕ → Bytes
-  texts_from last k = flat (field_texts rs set t proto3 d scope full (numbers_with t 0 (last - k) k))
+  one_more : (x : Buffered) (k n : ℕ) → (x ⊳ when (eqb (field_row t k).oneof 0) (field_text rs set t proto3 d scope full k)) ⊳ field_texts rs set t proto3 d scope full (numbers_with t 0 n (suc k)) ≡ x ⊳ field_texts rs set t proto3 d scope full (numbers_with t 0 (suc n) k)
+  unfolding field_texts numbers_with choose
+  one_more x k n =
+      elim (eqb (field_row t k).oneof 0) as (λ c. (x ⊳ when c (field_text rs set t proto3 d scope full k)) ⊳ field_texts rs set t proto3 d scope full (numbers_with t 0 n (suc k)) ≡ x ⊳ field_texts rs set t proto3 d scope full (choose c (k ∷ numbers_with t 0 n (suc k)) (numbers_with t 0 n (suc k))))
+      [ true ↦ refl | false ↦ refl ]
 
-  module _ (last k : ℕ) where
-    pub texts_end : last ≤ k → texts_from last k ≡ []
-    unfolding field_texts
-    texts_end h = ap (λ (ks : List ℕ). flat (field_texts rs set t proto3 d scope full ks)) (numbers_end t last k 0 h)
+  pub one_behind : (x y : Buffered) (last k : ℕ) → k < last → y ≡ x ⊳ when (eqb (field_row t k).oneof 0) (field_text rs set t proto3 d scope full k) → behind y last (k + 1) ≡ behind x last k
+  unfolding behind
+  one_behind x y last k h e =
+      let n : last - k ≡ suc (last - (k + 1)) = omega arith in
+      ap (λ (u : Buffered). u ⊳ field_texts rs set t proto3 d scope full (numbers_with t 0 (last - (k + 1)) (k + 1))) e
+      ∙ ap (λ (m : ℕ). (x ⊳ when (eqb (field_row t k).oneof 0) (field_text rs set t proto3 d scope full k)) ⊳ field_texts rs set t proto3 d scope full (numbers_with t 0 (last - (k + 1)) m)) (add-one k)
+      ∙ one_more x k (last - (k + 1))
+      ∙ ap (λ (m : ℕ). x ⊳ field_texts rs set t proto3 d scope full (numbers_with t 0 m k)) (sym n)
 
-    module _ (h : k < last) (row : FieldRow) (is : row ≡ field_row t k) where
-      pub texts_more : row.oneof ≡ 0 → texts_from last k ≡ flat (field_text rs set t proto3 d scope full k) ++ texts_from last (k + 1)
-      unfolding field_texts
-      texts_more e = ap (λ (ks : List ℕ). flat (field_texts rs set t proto3 d scope full ks)) (numbers_found t last k h row is 0 e)
-
-      pub texts_skip : (row.oneof ≡ 0 → ⊥) → texts_from last k ≡ texts_from last (k + 1)
-      texts_skip ne = ap (λ (ks : List ℕ). flat (field_texts rs set t proto3 d scope full ks)) (numbers_skip t last k h row is 0 ne)
+  pub all_written : (x y : Buffered) (first last k : ℕ) → last ≤ k → behind y last k ≡ behind x last first → y ≡ x ⊳ field_texts rs set t proto3 d scope full (numbers_with t 0 (last - first) first)
+  unfolding behind
+  all_written x y first last k h e = sym (none_behind y last k h) ∙ e

@@ -1,2 +1,1 @@
 pub mod StructFields
-pub mod Entries

@@ -1,177 +1,148 @@
-// code_generator.rs, append_field and append_map_field: the fields of a struct.
+//! code_generator.rs, append_field and append_map_field: the fields of a struct.
 #![tactic(auto)]
 
-ghost use Rattle.std.specs.Prelude.{◌≡◌, Bool, ◌-◌};
+ghost use Rattle.std.specs.Prelude.{◌≡◌, ◌-◌, eqb, map};
 ghost use Rattle.writer.specs.Wrote.{Wrote};
-ghost use Rattle.wire.specs.Contents.{value_of};
-ghost use Rattle.descriptor.specs.Decode.{bytes_in, decode_field};
-ghost use Rattle.descriptor.specs.Views.{field_of};
 ghost use Rattle.options.specs.Settings.{settings};
-ghost use Rattle.map_fields.specs.Entry.{entry};
+ghost use Rattle.descriptor.specs.Decode.{entries, parts, decode_field};
+ghost use Rattle.descriptor.specs.Seen.{option_seen};
+ghost use Rattle.text_tables.specs.Rows.{field_row};
 ghost use Rattle.members.specs.Members.{map_entry_at, numbers_with};
-ghost use Rattle.code_generator.specs.Piece.{flat};
+ghost use Rattle.code_generator.specs.MapFields.{entry_of};
+ghost use Rattle.code_generator.specs.Piece.{flat, when};
+ghost use Rattle.code_generator.specs.Writing.{◌⊳◌};
 ghost use Rattle.struct_fields.specs.StructFields.{plain_text, map_text, field_text, field_texts};
-ghost use Rattle.struct_fields.specs.Entries.{given_entry, entry_in, entry_bytes};
 
-use descriptor::FieldView;
-use wire::{Record, Step};
+use attributes::writing::{append_deprecated, append_field_attributes, put_line};
+use context::Context;
+use descriptor::FieldDescriptor;
+use field_lines::writing::field_line;
+use field_tags::field_tag;
+use map_fields::{MapEntry, MapSettings, map_line, map_tag};
+use members::of_message::{boxed_at, field_at, is_deprecated, setting};
+use options::{Kind, Options};
+use parts::Parts;
+use std::ops::Range;
+use writer::Text;
 
-// The key and the value of a map entry, where it has both: their places are in the bytes of the entry.
-#[derive(Drop)]
-pub struct EntryFields {
-    pub found: bool,
-    pub key: FieldView,
-    pub value: FieldView,
+/// The struct whose fields are written.
+#[derive(Clone, Copy)]
+pub struct Struct<'a> {
+    pub proto3: bool,
+    /// How deep its fields stand.
+    pub depth: usize,
+    /// Where it stands.
+    pub scope: &'a [u8],
+    /// The message's full name.
+    pub full: &'a [u8],
 }
 
-// The field whose part a record holds; one of another wire type has no bytes.
-fn field_in(e: &[u8], f: Record) -> FieldView
-    ensures { field_of e.now result ≡ decode_field (bytes_in (value_of e.now f)) }
+/// The first two fields of the map entry whose bytes these are, where it has two.
+fn entry_fields(entry: &[u8]) -> Option<MapEntry<'_>>
+    ensures { option_seen result ≡ entry_of (map decode_field (parts 2 (entries entry.now))) }
 {
-    let start = f.start;
-    let next = f.next;
-    if f.wiretype == 2 {
-        return descriptor::field_view(e, start, next);
-    }
-    descriptor::field_view(e, 0, 0)
+    let mut fields = Parts::new(entry, 2);
+    let key = fields.next()?;
+    let value = fields.next()?;
+    Some(MapEntry {
+        key: FieldDescriptor::new(key),
+        value: FieldDescriptor::new(value),
+    })
 }
 
-// The first two fields of the map entry whose part e is.
-fn entry_fields(e: &[u8]) -> EntryFields
-    ensures { given_entry e.now result ≡ entry_in e.now }
+/// The map entry that field k names, if it names one.
+#[tactic(auto, unfolding(members::specs::Members::map_entry_at, base::specs::Choose::choose))]
+fn map_entry_at<'a>(context: &Context<'a>, k: usize) -> Option<MapEntry<'a>>
+    ensures { option_seen result ≡ map_entry_at context.now.set context.now.fields k }
 {
-    let empty = descriptor::field_view(e, 0, 0);
-    let absent = EntryFields {
-        found: false,
-        key: empty,
-        value: empty,
-    };
-    let mut key = empty;
-    let mut met = false;
-    let mut at: usize = 0;
-    loop {
-        match wire::read_step(e, at) {
-            Step::End => return absent,
-            Step::Fault(_) => return absent,
-            Step::Found(f) => {
-                at = f.next;
-                if f.number == 2 {
-                    let value = field_in(e, f);
-                    if met {
-                        return EntryFields {
-                            found: true,
-                            key,
-                            value,
-                        };
-                    }
-                    key = value;
-                    met = true;
-                }
-            }
-        }
-    }
-}
-
-// The map entry that field k of the table names, with places in the bytes of the entry.
-pub fn map_entry_at(set: &[u8], fields: &[u16], k: usize) -> EntryFields
-    ensures { given_entry (entry_bytes set.now fields.now k) result ≡ map_entry_at set.now fields.now k }
-{
-    let row = text_tables::field_row(fields, k);
+    let row = text_tables::field_row(context.fields, k);
     if row.entryend == 0 {
-        let empty = descriptor::field_view(set, 0, 0);
-        return EntryFields {
-            found: false,
-            key: empty,
-            value: empty,
-        };
+        return None;
     }
-    entry_fields(descriptor::part_of(set, row.entry, row.entryend))
+    entry_fields(descriptor::part_of(context.set, row.entry, row.entryend))
 }
 
-// append_field: field k of the table. scope: where the struct stands; full: the message's full name.
-fn append_field(
-    t: &mut [u8],
-    at: usize,
-    o: &[u8],
-    set: &[u8],
-    fields: &[u16],
-    proto3: bool,
-    d: usize,
-    scope: &[u8],
-    full: &[u8],
-    k: usize,
-) -> usize
-    ensures { Wrote t.old at (flat (plain_text (settings o.now) set.now fields.now proto3 d scope.now full.now k)) t.new result }
+/// append_field: field k.
+#[tactic(auto, unfolding(crate::specs::StructFields::plain_text, crate::specs::StructFields::attributes_at, code_generator::specs::Attributes::append_deprecated))]
+fn append_field(text: &mut Text<'_>, context: &Context<'_>, of: &Struct<'_>, k: usize)
+    ensures { text.new ≡ text.old ⊳ plain_text context.now.options context.now.set context.now.fields of.now.proto3 of.now.depth of.now.scope.now of.now.full.now k }
 {
-    let f = members::field_at(set, fields, k);
-    let name = accessors::name(set, f);
-    let boxed = members::boxed_at(o, set, fields, k, full);
-    let asbytes = members::setting(o, 2, full, name);
-    let old = members::is_deprecated(set, f);
-    let a = attributes::append_deprecated(t, at, d, old);
-    let a = attributes::put_line(t, a, d, b"#[prost(");
-    let a = field_tags::field_tag(t, a, o, proto3, scope, set, f, boxed, asbytes);
-    let a = attributes::append_field_attributes(t, a, o, full, name, d);
-    field_lines::field_line(t, a, o, proto3, d, scope, set, f, boxed, asbytes)
+    let options = &context.options;
+    let field = field_at(context, k);
+    let name = field.name();
+    let boxed = boxed_at(context, k, of.full);
+    let bytes = setting(options, Kind::Bytes, of.full, name);
+    append_deprecated(text, of.depth, is_deprecated(&field));
+    put_line(text, of.depth, b"#[prost(");
+    field_tag(text, options, of.proto3, of.scope, &field, boxed, bytes);
+    append_field_attributes(text, options, of.full, name, of.depth);
+    field_line(
+        text, options, of.proto3, of.depth, of.scope, &field, boxed, bytes,
+    );
 }
 
-// append_map_field: field k of the table, with the bytes e of its map entry and the views of that.
+/// append_map_field: field k, which names a map entry.
+#[tactic(auto, unfolding(crate::specs::StructFields::map_text, crate::specs::StructFields::attributes_at))]
 fn append_map_field(
-    t: &mut [u8],
-    at: usize,
-    o: &[u8],
-    set: &[u8],
-    fields: &[u16],
-    d: usize,
-    scope: &[u8],
-    full: &[u8],
+    text: &mut Text<'_>,
+    context: &Context<'_>,
+    of: &Struct<'_>,
     k: usize,
-    e: &[u8],
-    key: FieldView,
-    value: FieldView,
-) -> usize
-    ensures { (proto3 : Bool) → Wrote t.old at (flat (map_text (settings o.now) set.now fields.now proto3 d scope.now full.now k (entry e.now key value))) t.new result }
+    entry: &MapEntry<'_>,
+)
+    ensures { text.new ≡ text.old ⊳ map_text context.now.options context.now.set context.now.fields of.now.proto3 of.now.depth of.now.scope.now of.now.full.now k entry.now }
 {
-    let f = members::field_at(set, fields, k);
-    let name = accessors::name(set, f);
-    let btree = members::setting(o, 3, full, name);
-    let keybytes = members::setting(o, 2, full, accessors::name(e, key));
-    let valuebytes = members::setting(o, 2, full, accessors::name(e, value));
-    let a = attributes::put_line(t, at, d, b"#[prost(");
-    let a = map_fields::map_tag(t, a, o, scope, set, f, e, key, value, btree);
-    let a = attributes::append_field_attributes(t, a, o, full, name, d);
-    map_fields::map_line(
-        t, a, o, d, scope, set, f, e, key, value, btree, keybytes, valuebytes,
-    )
+    let options = &context.options;
+    let field = field_at(context, k);
+    let name = field.name();
+    let settings = MapSettings {
+        btree: setting(options, Kind::BtreeMap, of.full, name),
+        key_bytes: setting(options, Kind::Bytes, of.full, entry.key.name()),
+        value_bytes: setting(options, Kind::Bytes, of.full, entry.value.name()),
+    };
+    put_line(text, of.depth, b"#[prost(");
+    map_tag(text, options, of.scope, &field, entry, settings.btree);
+    append_field_attributes(text, options, of.full, name, of.depth);
+    map_line(text, options, of.depth, of.scope, &field, entry, settings);
 }
 
-// Field k of the table: one that names a map entry is a map.
-fn field_or_map(
-    t: &mut [u8],
-    at: usize,
-    o: &[u8],
-    set: &[u8],
-    fields: &[u16],
-    proto3: bool,
-    d: usize,
-    scope: &[u8],
-    full: &[u8],
-    k: usize,
-) -> usize
-    ensures { Wrote t.old at (flat (field_text (settings o.now) set.now fields.now proto3 d scope.now full.now k)) t.new result }
+/// Field k: one that names a map entry is a map.
+#[tactic(auto, unfolding(crate::specs::StructFields::field_text))]
+fn field_or_map(text: &mut Text<'_>, context: &Context<'_>, of: &Struct<'_>, k: usize)
+    ensures { text.new ≡ text.old ⊳ field_text context.now.options context.now.set context.now.fields of.now.proto3 of.now.depth of.now.scope.now of.now.full.now k }
 {
-    let x = map_entry_at(set, fields, k);
-    if x.found {
-        let row = text_tables::field_row(fields, k);
-        let e = descriptor::part_of(set, row.entry, row.entryend);
-        let key = x.key;
-        let value = x.value;
-        return append_map_field(t, at, o, set, fields, d, scope, full, k, e, key, value);
+    match map_entry_at(context, k) {
+        Some(entry) => append_map_field(text, context, of, k, &entry),
+        None => append_field(text, context, of, k),
     }
-    append_field(t, at, o, set, fields, proto3, d, scope, full, k)
 }
 
-// The fields of a message that are in no oneof: those from `first` on, below `last`.
+/// Field k, where it is in no oneof.
+fn append_if_free(text: &mut Text<'_>, context: &Context<'_>, of: &Struct<'_>, k: usize)
+    ensures { text.new ≡ text.old ⊳ when (eqb (field_row context.now.fields k).oneof 0) (field_text context.now.options context.now.set context.now.fields of.now.proto3 of.now.depth of.now.scope.now of.now.full.now k) }
+{
+    if text_tables::oneof_at(context.fields, k) == 0 {
+        field_or_map(text, context, of, k);
+    }
+}
+
+/// The fields of a struct that are in no oneof, of those with these numbers.
+pub fn append_each_field(
+    text: &mut Text<'_>,
+    context: &Context<'_>,
+    of: &Struct<'_>,
+    fields: Range<usize>,
+)
+    ensures { text.new ≡ text.old ⊳ field_texts context.now.options context.now.set context.now.fields of.now.proto3 of.now.depth of.now.scope.now of.now.full.now (numbers_with context.now.fields 0 (fields.end - fields.start) fields.start) }
+{
+    for k in fields.start..fields.end {
+        append_if_free(text, context, of, k);
+    }
+}
+
+// What follows serves the crates that write over a slice from a place.
+
+/// The fields of a message that are in no oneof: those from `first` on, below `last`.
 pub fn append_fields(
     t: &mut [u8],
     at: usize,
@@ -187,15 +158,22 @@ pub fn append_fields(
 ) -> usize
     ensures { Wrote t.old at (flat (field_texts (settings o.now) set.now fields.now proto3 d scope.now full.now (numbers_with fields.now 0 (last - first) first))) t.new result }
 {
-    let mut a = at;
-    let mut k = first;
-    while k < last {
-        let row = text_tables::field_row(fields, k);
-        let this = k;
-        k = k + 1;
-        if row.oneof == 0 {
-            a = field_or_map(t, a, o, set, fields, proto3, d, scope, full, this);
-        }
-    }
-    a
+    let context = Context {
+        options: Options::new(o),
+        set,
+        messages: &[],
+        fields,
+    };
+    let of = Struct {
+        proto3,
+        depth: d,
+        scope,
+        full,
+    };
+    let mut text = Text {
+        buffer: t,
+        length: at,
+    };
+    append_each_field(&mut text, &context, &of, first..last);
+    text.next(at)
 }

@@ -1,181 +1,160 @@
 -- The names of a path, one after the other. Assumes nothing.
 use mathlib.Core.Path.{◌≡◌, refl, sym, ap, ◌∙◌}
-use mathlib.Core.Bool.{Bool, true, false}
-use mathlib.Core.List.{List, [], ◌∷◌, ◌++◌, append_assoc, append-nil}
+use mathlib.Core.Bool.{true, false, not}
+use borrow.Author.Tests.{not-true, not-false}
+use mathlib.Core.List.{List, [], ◌∷◌, ◌++◌, append_assoc}
 use Prim.Native.Nat.{ℕ, zero, suc, ◌+◌, ◌-◌, ◌≤◌, ◌<◌, min}
 use native.Mathlib.Omega.{arith}
-use native.Mathlib.Decide.{dec_lt}
-use borrow.Author.Tests.{le-leb, lt-leb, eq-eqb, ne_eqb}
-use lib.ListN.{length, take, drop, get_or}
-use lib.Seq.{drop-cons}
+use lib.ListN.{length, take, drop, length-drop}
+use lib.Seq.{take_all}
+use Rattle.std.proofs.Common.{Bor, Option, Some, None, add-one}
+use Rattle.std.specs.Str.{bytes_eq}
+use Rattle.std.specs.Option.{MatchOption}
 use Rattle.base.specs.Choose.{choose}
 use Rattle.base.specs.Bytes.{b, same}
+use Rattle.writer.specs.declared.text.Text.{Text}
 use Rattle.writer.specs.Text.{each}
+use Rattle.writer.specs.Writing.{◌▻◌}
+use Rattle.writer.proofs.TextLaws.{appended}
 use Rattle.ident.specs.Ident.{to_snake, to_upper_camel}
 use Rattle.descriptor.specs.Descriptor.{Bytes}
-use Rattle.extern_paths.specs.Split.{begins, split, first_part}
-use Rattle.split.proofs.SplitLaws.{part_stops, part_goes, part_ends, Parted, spans, parts_last, parts_more}
+use Rattle.path.proofs.FormLaws.{same_bytes}
+use Rattle.split.specs.Split.{split}
+use Rattle.split.proofs.SplitLaws.{split_is}
 use Rattle.code_generator.specs.Piece.{through, way_text}
 use Rattle.code_generator.specs.Resolve.{local_path, ident_path, ident_type, front, last_name, skip_common, way}
-use Rattle.way.specs.Names.{names, supers, downwards, Left}
-use Rattle.way.specs.declared.Places.{Places}
+use Rattle.way.specs.Names.{common, downwards}
 
--- ---- where a name ends
-module _ (s : List ℕ) (i : ℕ) (h : i < length s) where
-  dot_here : get_or s i 0 ≡ 46 → begins (b ".") (drop i s) ≡ true
-  unfolding begins
-  dot_here e = rw (drop-cons s i 0 h, eq-eqb (get_or s i 0) 46 e) refl
+-- ---- a text has a name
+pub some_name : (s : Bytes) → 0 < length (split (b ".") s)
+some_name s = rw (split_is (b ".") s (omega arith)) (omega arith)
 
-  no_dot : (get_or s i 0 ≡ 46 → ⊥) → begins (b ".") (drop i s) ≡ false
-  unfolding begins
-  no_dot n = rw (drop-cons s i 0 h, ne_eqb (get_or s i 0) 46 n) refl
+-- the last name of those from a name on
+pub last_cons : (x y : Bytes) (ys : List Bytes) → last_name (x ∷ (y ∷ ys)) ≡ last_name (y ∷ ys)
+last_cons x y ys = refl
 
-  pub name_stops : get_or s i 0 ≡ 46 → i ≡ i + first_part (b ".") (drop i s)
-  name_stops e = sym (part_stops s (b ".") i h (dot_here e))
+-- ---- names in common
+common_none : (ys : List Bytes) → common [] ys ≡ 0
+unfolding common
+common_none ys = refl
 
-  pub name_goes : (get_or s i 0 ≡ 46 → ⊥) → i + 1 + first_part (b ".") (drop (i + 1) s) ≡ i + first_part (b ".") (drop i s)
-  name_goes n = sym (part_goes s (b ".") i h (no_dot n))
+pub common_left : (n : ℕ) (xs ys : List Bytes) → xs ≡ [] → n + common xs ys ≡ n
+unfolding common
+common_left n xs ys e = rw e (omega arith)
 
-pub name_ends : (s : List ℕ) (i : ℕ) → length s ≤ i → i ≡ i + first_part (b ".") (drop i s)
-name_ends s i h = sym (part_ends s (b ".") i h)
+pub common_right : (n : ℕ) (xs ys : List Bytes) → ys ≡ [] → n + common xs ys ≡ n
+unfolding common
+common_right n [] ys e = omega arith
+common_right n (x ∷ xs) ys e = rw e (omega arith)
 
--- ---- before the last, and the last
-record NotEmpty (xs : List Bytes) : Type 0 where
-  first : Bytes
-  others : List Bytes
-  is : xs ≡ first ∷ others
+module _ (n : ℕ) (x y : Bytes) (xs ys : List Bytes) where
+  pub common_ends : not (bytes_eq x y) ≡ true → n + common (x ∷ xs) (y ∷ ys) ≡ n
+  unfolding common choose
+  common_ends e = let f : bytes_eq x y ≡ false = not-true (bytes_eq x y) e in rw (← same_bytes x y, f) (omega arith)
 
-front_cons : (x : Bytes) {xs : List Bytes} → NotEmpty xs → front (x ∷ xs) ≡ x ∷ front xs
-front_cons x n = rw n.is refl
+  pub common_goes : not (bytes_eq x y) ≡ false → n + 1 + common xs ys ≡ n + common (x ∷ xs) (y ∷ ys)
+  unfolding common choose
+  common_goes e = let f : bytes_eq x y ≡ true = not-false (bytes_eq x y) e in rw (← same_bytes x y, f) (omega arith)
 
-last_cons : (x : Bytes) {xs : List Bytes} → NotEmpty xs → last_name (x ∷ xs) ≡ last_name xs
-last_cons x n = rw n.is refl
+pub common_most : (xs ys : List Bytes) → common xs ys ≤ length xs
+unfolding common choose
+common_most [] ys = omega arith
+common_most (x ∷ xs) [] = omega arith
+common_most (x ∷ xs) (y ∷ ys) =
+    let h : common xs ys ≤ length xs = common_most xs ys in
+    elim (same x y) as (λ t. choose t (suc (common xs ys)) 0 ≤ suc (length xs)) [ true ↦ omega arith | false ↦ omega arith ]
 
--- ---- no name is left
-pub names_none : (s : List ℕ) (i : ℕ) → length s < i → names s i ≡ []
-unfolding names choose
-names_none s i h = rw (lt-leb i (length s) h) refl
+-- ---- the names behind some
+behind : (i : ℕ) (xs : List Bytes) → drop (suc i) xs ≡ drop 1 (drop i xs)
+behind zero xs = refl
+behind (suc i) [] = refl
+behind (suc i) (x ∷ xs) = behind i xs
 
--- ---- the name that starts at i ends at e
-module _ (s : List ℕ) (i e : ℕ) (h : i ≤ length s) (q : e ≡ i + first_part (b ".") (drop i s)) where
-  parted : Parted (b ".") s i e
-  parted = record { starts = h; ends = q }
+pub next_behind : (r : Option (Bor Bytes)) (xs ys all : List Bytes) (i : ℕ) → MatchOption r ((xs ≡ []) × (ys ≡ [])) (λ x. xs ≡ x.now ∷ ys) → xs ≡ drop i all → ys ≡ drop (i + 1) all
+next_behind None xs ys all i e h = rw (add-one, behind i all, ← h, e.0) e.1
+next_behind (Some x) xs ys all i e h = rw (add-one, behind i all, ← h, e) refl
 
-  pub name_within : e ≤ length s
-  name_within = (spans (b ".") s i e (omega arith) parted).within
+-- ---- what is skipped
+skip_is : (xs ys : List Bytes) → skip_common xs ys ≡ (drop (common xs ys) xs, drop (common xs ys) ys)
+unfolding skip_common common choose
+skip_is [] ys = refl
+skip_is (x ∷ xs) [] = refl
+skip_is (x ∷ xs) (y ∷ ys) =
+    elim (same x y) as (λ t. choose t (skip_common xs ys) (x ∷ xs, y ∷ ys) ≡ (drop (choose t (suc (common xs ys)) 0) (x ∷ xs), drop (choose t (suc (common xs ys)) 0) (y ∷ ys)))
+    [ true ↦ skip_is xs ys | false ↦ refl ]
 
-  more : Dec (e < length s) → names s i ≡ take (e - i) (drop i s) ∷ names s (e + 1)
-  unfolding names choose
-  more (yes l) = rw (le-leb i (length s) h, le-leb (e + 1) (length s) (omega arith)) (parts_more (b ".") s i e (omega arith) parted l)
-  more (no l) = rw (le-leb i (length s) h, lt-leb (e + 1) (length s) (omega arith)) (parts_last (b ".") s i e (omega arith) parted (omega arith))
+common_front : (xs ys : List Bytes) → common xs (front ys) ≡ min (common xs ys) (length ys - 1)
+unfolding common choose
+common_front [] ys = omega arith
+common_front (x ∷ xs) [] = omega arith
+common_front (x ∷ xs) (y ∷ []) = omega arith
+common_front (x ∷ xs) (y ∷ (z ∷ ys)) =
+    let h : common xs (front (z ∷ ys)) ≡ min (common xs (z ∷ ys)) (length (z ∷ ys) - 1) = common_front xs (z ∷ ys) in
+    elim (same x y) as (λ t. choose t (suc (common xs (front (z ∷ ys)))) 0 ≡ min (choose t (suc (common xs (z ∷ ys))) 0) (length (y ∷ (z ∷ ys)) - 1))
+    [ true ↦ omega arith | false ↦ omega arith ]
 
-  pub names_more : names s i ≡ take (e - i) (drop i s) ∷ names s (e + 1)
-  names_more = more (dec_lt e (length s))
+front_drop : (n : ℕ) (ys : List Bytes) → n < length ys → drop n (front ys) ≡ front (drop n ys)
+front_drop zero ys h = refl
+front_drop (suc n) [] h = absurd (omega arith)
+front_drop (suc n) (y ∷ []) h = absurd (omega arith)
+front_drop (suc n) (y ∷ (z ∷ ys)) h = front_drop n (z ∷ ys) (omega arith)
 
-next_names : (s : List ℕ) (i : ℕ) → i ≤ length s → NotEmpty (names s i)
-next_names s i h = record { first = _; others = _; is = names_more s i (i + first_part (b ".") (drop i s)) h refl }
+last_drop : (n : ℕ) (ys : List Bytes) → n < length ys → last_name ys ≡ last_name (drop n ys)
+last_drop zero ys h = refl
+last_drop (suc n) [] h = absurd (omega arith)
+last_drop (suc n) (y ∷ []) h = absurd (omega arith)
+last_drop (suc n) (y ∷ (z ∷ ys)) h = last_drop n (z ∷ ys) (omega arith)
 
-module _ (s : List ℕ) (i e : ℕ) (h : i ≤ length s) (q : e ≡ i + first_part (b ".") (drop i s)) where
-  module _ (l : length s ≤ e) where
-    last_here : names s i ≡ take (e - i) (drop i s) ∷ []
-    last_here = names_more s i e h q ∙ ap (λ (l : List Bytes). take (e - i) (drop i s) ∷ l) (names_none s (e + 1) (omega arith))
+-- ---- what is written for the names that are left
+through_cons : (x y : Bytes) (ys : List Bytes) → downwards (x ∷ (y ∷ ys)) ≡ (to_snake x ++ b "::") ++ downwards (y ∷ ys)
+unfolding downwards through
+through_cons x y ys = append_assoc (to_snake x ++ b "::") (through (front (y ∷ ys))) (to_upper_camel (last_name (y ∷ ys)))
 
-    pub front_end : front (names s i) ≡ []
-    front_end = rw last_here refl
+pub one_down : (x : Bytes) → downwards (x ∷ []) ≡ to_upper_camel x
+unfolding downwards through
+one_down x = refl
 
-    pub last_end : last_name (names s i) ≡ take (e - i) (drop i s)
-    last_end = rw last_here refl
-
-  module _ (l : e < length s) where
-    pub front_more : front (names s i) ≡ take (e - i) (drop i s) ∷ front (names s (e + 1))
-    front_more = rw (names_more s i e h q) (front_cons (take (e - i) (drop i s)) (next_names s (e + 1) (omega arith)))
-
-    pub last_more : last_name (names s i) ≡ last_name (names s (e + 1))
-    last_more = rw (names_more s i e h q) (last_cons (take (e - i) (drop i s)) (next_names s (e + 1) (omega arith)))
-
-pub all_names : (s : List ℕ) → names s 0 ≡ split (b ".") s
-unfolding names choose
-all_names s = rw (le-leb 0 (length s) (omega arith)) refl
-
--- ---- what is written for the names
-each_front : (p : Bytes) (n : ℕ) → each (λ _. p) (suc n) ≡ p ++ each (λ _. p) n
-each_front p zero = sym (append-nil p)
-each_front p (suc n) = ap (λ (l : Bytes). l ++ p) (each_front p n) ∙ append_assoc p (each (λ _. p) n) p
-
-pub supers_none : (s : List ℕ) (i : ℕ) → length s < i → supers s i ≡ []
-unfolding supers
-supers_none s i h = rw (names_none s i h) refl
-
-module _ (s : List ℕ) (i e : ℕ) (h : i ≤ length s) (q : e ≡ i + first_part (b ".") (drop i s)) where
-  pub supers_more : supers s i ≡ b "super::" ++ supers s (e + 1)
-  unfolding supers
-  supers_more = rw (names_more s i e h q) (each_front (b "super::") (length (names s (e + 1))))
-
-  pub downwards_last : length s ≤ e → downwards s i ≡ to_upper_camel (take (e - i) (drop i s))
-  unfolding downwards through
-  downwards_last l = rw (front_end s i e h q l, last_end s i e h q l) refl
-
-  pub downwards_more : e < length s → downwards s i ≡ to_snake (take (e - i) (drop i s)) ++ b "::" ++ downwards s (e + 1)
-  unfolding downwards through
-  downwards_more l =
-      rw (front_more s i e h q l, last_more s i e h q l)
-      (append_assoc (to_snake (take (e - i) (drop i s)) ++ b "::") (through (front (names s (e + 1)))) (to_upper_camel (last_name (names s (e + 1)))))
-
--- ---- names in common are skipped: those from i and from j on are left
-pub record Skipping (scope ident : Bytes) (i j : ℕ) : Type 0 where
-  pub left : skip_common (local_path scope) (ident_path ident) ≡ skip_common (names scope i) (front (names ident j))
-  pub last : ident_type ident ≡ last_name (names ident j)
-  pub within : j ≤ length ident
-
-scope_names : (s : Bytes) → local_path s ≡ names s 1
-unfolding local_path names choose
-scope_names [] = refl
-scope_names (c ∷ s) = rw (le-leb 1 (suc (length s)) (omega arith)) refl
-
-ident_names : (s : Bytes) (j : ℕ) → j ≡ min 1 (length s) → split (b ".") (drop 1 s) ≡ names s j
-unfolding names choose
-ident_names [] j q = let e : j ≡ 0 = omega arith in rw e refl
-ident_names (c ∷ s) j q = let e : j ≡ 1 = omega arith in rw (e, le-leb 1 (suc (length s)) (omega arith)) refl
-
-pub skip_start : (scope ident : Bytes) (j : ℕ) → j ≡ min 1 (length ident) → Skipping scope ident 1 j
-unfolding ident_path ident_type
-skip_start scope ident j q =
-    record { left = rw (scope_names scope, ident_names ident j q) refl; last = rw (ident_names ident j q) refl; within = omega arith }
-
-abbrev places : ℕ → ℕ → Places
-places i j = record { scope = i; ident = j }
-
-module _ {scope ident : Bytes} {i j : ℕ} (k : Skipping scope ident i j) where
-  -- nothing more is skipped
-  stop : skip_common (names scope i) (front (names ident j)) ≡ (names scope i, front (names ident j)) → Left scope ident (places i j)
-  stop e = record { of_scope = rw (k.left, e) refl; of_ident = rw (k.left, e) refl; last = k.last; within = k.within }
-
-  pub skip_none : length scope < i → Left scope ident (places i j)
-  unfolding skip_common
-  skip_none h = stop (rw (names_none scope i h) refl)
-
-  module _ {e f : ℕ} (h : i ≤ length scope) (q : e ≡ i + first_part (b ".") (drop i scope)) (r : f ≡ j + first_part (b ".") (drop j ident)) where
-    pub skip_ended : length ident ≤ f → Left scope ident (places i j)
-    unfolding skip_common
-    skip_ended l = stop (rw (names_more scope i e h q, front_end ident j f k.within r l) refl)
-
-    module _ (l : f < length ident) (t : Bool) (w : t ≡ same (take (e - i) (drop i scope)) (take (f - j) (drop j ident))) where
-      pub skip_apart : t ≡ false → Left scope ident (places i j)
-      unfolding skip_common choose
-      skip_apart n = stop (rw (names_more scope i e h q, front_more ident j f k.within r l, ← w, n) refl)
-
-      pub skip_on : t ≡ true → Skipping scope ident (e + 1) (f + 1)
-      unfolding skip_common choose
-      skip_on y =
-          record {
-            left = k.left ∙ rw (names_more scope i e h q, front_more ident j f k.within r l, ← w, y) refl;
-            last = k.last ∙ last_more ident j f k.within r l;
-            within = omega arith;
-          }
+pub more_down : (t t₁ t₂ : Text) (x y : Bytes) (ys : List Bytes) → t₁ ≡ t ▻ to_snake x → t₂ ≡ t₁ ▻ b "::" → t₂ ▻ downwards (y ∷ ys) ≡ t ▻ downwards (x ∷ (y ∷ ys))
+more_down t t₁ t₂ x y ys e f = appended t t₂ _ _ _ (appended t t₁ t₂ _ _ e f) refl ∙ ap (λ (p : List ℕ). t ▻ p) (sym (through_cons x y ys))
 
 -- ---- the way
-pub way_is : (scope ident : Bytes) (r : Places) → Left scope ident r → way_text (way scope ident) ≡ supers scope r.scope ++ downwards ident r.ident
-unfolding way_text way supers downwards
-way_is scope ident r l =
-    rw (l.of_scope, l.of_ident, l.last)
-    (append_assoc (supers scope r.scope) (through (front (names ident r.ident))) (to_upper_camel (last_name (names ident r.ident))))
+pub dotless : (s : Bytes) → (length s ≡ 0 → ⊥) → take (length s - 1) (drop 1 s) ≡ drop 1 s
+dotless s n = take_all (length s - 1) (drop 1 s) (rw length-drop (omega arith))
+
+pub no_dot : (s : Bytes) → length s ≡ 0 → s ≡ drop 1 s
+no_dot [] n = refl
+no_dot (c ∷ s) n = absurd (omega arith)
+
+local_some : (s : Bytes) → (length s ≡ 0 → ⊥) → local_path s ≡ split (b ".") (drop 1 s)
+unfolding local_path
+local_some [] n = absurd (n refl)
+local_some (c ∷ s) n = refl
+
+local_none : (s : Bytes) → length s ≡ 0 → local_path s ≡ []
+unfolding local_path
+local_none [] n = refl
+local_none (c ∷ s) n = absurd (omega arith)
+
+module _ (scope ident i : Bytes) (f : i ≡ drop 1 ident) where
+  -- the empty scope
+  pub way_down : (t u : Text) (xs : List Bytes) → length scope ≡ 0 → xs ≡ split (b ".") i → u ≡ t ▻ downwards xs → u ≡ t ▻ way_text (way scope ident)
+  unfolding way_text way ident_path ident_type downwards skip_common
+  way_down t u xs z e q = rw (local_none scope z, ← f, ← e) q
+
+  -- a scope with names: k names in common, n skipped
+  module _ (s : Bytes) (k m n p : ℕ) (z : length scope ≡ 0 → ⊥) (g : s ≡ drop 1 scope) (ck : k ≡ common (split (b ".") s) (split (b ".") i)) (cm : m ≡ length (split (b ".") i)) (cn : n ≡ min k (m - 1)) where
+    pub few_skipped : n ≤ length (split (b ".") s)
+    few_skipped = let h : common (split (b ".") s) (split (b ".") i) ≤ length (split (b ".") s) = common_most (split (b ".") s) (split (b ".") i) in omega arith
+
+    pub some_left : n < length (split (b ".") i)
+    some_left = let l : 0 < length (split (b ".") i) = some_name i in omega arith
+
+    up : way_text (way scope ident) ≡ each (λ _. b "super::") (length (split (b ".") s) - n) ++ downwards (drop n (split (b ".") i))
+    unfolding way_text way ident_path ident_type downwards
+    up =
+        let c : common (split (b ".") s) (front (split (b ".") i)) ≡ n = rw (common_front (split (b ".") s) (split (b ".") i)) (omega arith) in
+        rw (local_some scope z, ← g, ← f, skip_is (split (b ".") s) (front (split (b ".") i)), c, front_drop n (split (b ".") i) some_left, last_drop n (split (b ".") i) some_left, length-drop)
+        (append_assoc (each (λ _. b "super::") (length (split (b ".") s) - n)) (through (front (drop n (split (b ".") i)))) (to_upper_camel (last_name (drop n (split (b ".") i)))))
+
+    pub way_up : (t t₁ t₂ : Text) (xs : List Bytes) → p ≡ length (split (b ".") s) → t₁ ≡ t ▻ each (λ _. b "super::") (p - n) → xs ≡ drop n (split (b ".") i) → t₂ ≡ t₁ ▻ downwards xs → t₂ ≡ t ▻ way_text (way scope ident)
+    way_up t t₁ t₂ xs cp e h q = appended t t₁ t₂ _ _ (rw cp at e) (rw h at q) ∙ ap (λ (l : List ℕ). t ▻ l) (sym up)

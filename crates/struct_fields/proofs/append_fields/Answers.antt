@@ -1,16 +1,11 @@
-use Rattle.struct_fields.proofs.TextLaws.{texts_end, texts_more, texts_skip}
-use Rattle.attributes.proofs.Onward.{begun, turned, passed, done}
-use borrow.Author.Rules.{rules}
+use Rattle.std.proofs.Common.{arith, rules, ◌-◌}
+use Rattle.options.specs.Settings.{settings}
+use Rattle.members.specs.Members.{numbers_with}
+use Rattle.code_generator.proofs.WritingLaws.{placed}
+use Rattle.struct_fields.specs.StructFields.{field_texts}
 use Rattle.struct_fields.proofs.append_fields.Goals as goal
 
-pub loop-k-init : goal.loop-k-init
-loop-k-init c = begun (search rules)
-
-pub loop-k-preserved-then-row-eq0 : goal.loop-k-preserved-then-row-eq0
-loop-k-preserved-then-row-eq0 c = turned c.loop-k.invariant (texts_more _ _ _ _ _ _ _ _ _ c.loop-k-test.true _ c.field_row-row.ensures c.if-row-eq0.true) c.field_or_map-a.ensures
-
-pub loop-k-preserved : goal.loop-k-preserved
-loop-k-preserved c = passed c.loop-k.invariant (texts_skip _ _ _ _ _ _ _ _ _ c.loop-k-test.true _ c.field_row-row.ensures c.if-row-eq0.false)
-
 pub returns : goal.returns
-returns c = done c.loop-k.invariant (texts_end _ _ _ _ _ _ _ _ _ c.loop-k-test.false)
+returns c =
+    placed (field_texts (settings c.args.o.now) c.args.set.now c.args.fields.now c.args.proto3 c.args.d c.args.scope.now c.args.full.now (numbers_with c.args.fields.now 0 (c.args.last - c.args.first) c.args.first))
+    c.append_each_field.new.text (omega arith) (search rules) (rw c.new.ensures at c.append_each_field.ensures) c.next.ensures

@@ -1,9 +1,13 @@
-use Rattle.writer.specs.Wrote.{◌►◌, named}
+use Rattle.std.proofs.Common.{ap, ◌∙◌, List, ℕ}
+use Rattle.writer.specs.Writing.{◌▻◌}
+use Rattle.writer.proofs.TextLaws.{appended}
 use Rattle.extern_paths.proofs.ByLaws.{by_itself, by_prefix}
 use Rattle.extern_paths.proofs.resolve.put_by.Goals as goal
 
 pub returns-then-eq : goal.returns-then-eq
-returns-then-eq c = named (by_itself _ _ _ _ c.eq.ensures c.if-eq.true) c.put_two.ensures
+returns-then-eq c = appended _ _ _ _ _ c.put.ensures c.put-then-eq.ensures ∙ ap (λ (p : List ℕ). c.args.text.now ▻ p) (by_itself _ _ _ _ c.eq.ensures c.if-eq.true)
 
-pub returns : goal.returns
-returns c = named (by_prefix _ _ _ _ c.eq.ensures c.if-eq.false) ((rw c.requires at c.put_rust_path-a.ensures) ► c.put_behind.ensures)
+pub returns-else-eq : goal.returns-else-eq
+returns-else-eq c =
+    appended _ _ _ _ _ (rw c.requires at c.put_rust_path.ensures) c.put_behind.ensures
+    ∙ ap (λ (p : List ℕ). c.args.text.now ▻ p) (by_prefix _ _ _ _ c.eq.ensures c.if-eq.false)

@@ -1,0 +1,112 @@
+//! code_generator.rs, resolve_ident and resolve_type, written into a text.
+ghost use Rattle.std.specs.Prelude.{◌≡◌};
+ghost use Rattle.code_generator.specs.Writing.{◌⊳◌};
+ghost use Rattle.code_generator.specs.Resolve.{prost, resolve_ident, resolve_bytes, resolve_type, tag_ident, field_type_tag, map_value_type_tag};
+
+use descriptor::FieldDescriptor;
+use extern_paths::resolve;
+use options::Options;
+use way::writing::put_way;
+use writer::Text;
+
+/// The path of prost in Rust.
+#[tactic(auto, using(crate::proofs::ProstLaws::prost_written))]
+pub fn put_prost(text: &mut Text<'_>, options: &Options<'_>)
+    ensures { text.new ≡ text.old ⊳ prost options.now }
+{
+    text.put(options.prost_path());
+}
+
+/// What is written for the full name of a type in a scope: by an extern path, or the way to it.
+#[tactic(auto, unfolding(code_generator::specs::Resolve::resolve_ident))]
+pub fn resolve_ident(text: &mut Text<'_>, options: &Options<'_>, scope: &[u8], ident: &[u8])
+    ensures { text.new ≡ text.old ⊳ resolve_ident options.now scope.now ident.now }
+{
+    if resolve::takes(options, ident) {
+        resolve::resolve_ident(text, options, ident);
+    } else {
+        put_way(text, scope, ident);
+    }
+}
+
+/// The Rust type of bytes: `Bytes`, or a Vec.
+#[tactic(auto, unfolding(code_generator::specs::Resolve::resolve_bytes))]
+fn resolve_bytes(text: &mut Text<'_>, options: &Options<'_>, bytes: bool)
+    ensures { text.new ≡ text.old ⊳ resolve_bytes options.now bytes }
+{
+    put_prost(text, options);
+    if bytes {
+        text.put(b"::bytes::Bytes");
+    } else {
+        text.put(b"::alloc::vec::Vec<");
+        text.put(b"u8>");
+    }
+}
+
+/// The Rust type of a field's values; bytes are `Bytes` where `bytes` holds.
+#[tactic(auto, unfolding(code_generator::specs::Resolve::resolve_type))]
+pub fn resolve_type(
+    text: &mut Text<'_>,
+    options: &Options<'_>,
+    scope: &[u8],
+    field: &FieldDescriptor<'_>,
+    bytes: bool,
+)
+    ensures { text.new ≡ text.old ⊳ resolve_type options.now scope.now bytes field.now }
+{
+    match field.sort() {
+        b't' => {
+            put_prost(text, options);
+            text.put(b"::alloc::string::String");
+        }
+        b'y' => resolve_bytes(text, options, bytes),
+        b'g' | b'm' => resolve_ident(text, options, scope, field.type_name()),
+        _ => text.put(field_types::rust_word(field.kind())),
+    }
+}
+
+/// The path in a tag.
+#[tactic(auto, unfolding(code_generator::specs::Resolve::tag_ident))]
+fn tag_ident(text: &mut Text<'_>, options: &Options<'_>, scope: &[u8], field: &FieldDescriptor<'_>)
+    ensures { text.new ≡ text.old ⊳ tag_ident options.now scope.now field.now }
+{
+    resolve_ident(text, options, scope, field.type_name());
+}
+
+/// The type in a field's tag.
+#[tactic(auto, unfolding(code_generator::specs::Resolve::field_type_tag))]
+pub fn field_type_tag(
+    text: &mut Text<'_>,
+    options: &Options<'_>,
+    scope: &[u8],
+    field: &FieldDescriptor<'_>,
+)
+    ensures { text.new ≡ text.old ⊳ field_type_tag options.now scope.now field.now }
+{
+    if field.sort() == b'e' {
+        text.put(b"enumeration = \"");
+        tag_ident(text, options, scope, field);
+        text.put(b"\"");
+    } else {
+        text.put(field_types::tag_word(field.kind()));
+    }
+}
+
+/// The type of a map's values in its tag.
+#[tactic(auto, unfolding(code_generator::specs::Resolve::map_value_type_tag))]
+pub fn map_value_type_tag(
+    text: &mut Text<'_>,
+    options: &Options<'_>,
+    scope: &[u8],
+    field: &FieldDescriptor<'_>,
+)
+    ensures { text.new ≡ text.old ⊳ map_value_type_tag options.now scope.now field.now }
+{
+    if field.sort() == b'e' {
+        text.put(b"enumeration(");
+        tag_ident(text, options, scope, field);
+        text.put(b")");
+    } else {
+        field_type_tag(text, options, scope, field);
+    }
+}
