@@ -1,1 +1,2 @@
-pub mod ValueLaws
+pub mod ArmLaws
+pub mod DeepLaws

@@ -1,30 +1,26 @@
--- What is written for an enum's values: as `enum_variants`, `as_str_arms` and `from_str_arms` say, where the paths of their attributes have
--- room in their buffers (limits 8 and 9 leave no longer ones). Assumes nothing.
-use Rattle.std.specs.Prelude.{ℕ, Bool, List, [], ◌∷◌, ◌++◌, eqb}
-use Rattle.std.proofs.Math.Option.{some}
-use Rattle.writer.specs.Text.{pick}
+-- What is written for the values of an enum. Assumes nothing.
+use Rattle.std.specs.Prelude.{ℕ, List, [], ◌∷◌}
 use Rattle.descriptor.specs.Descriptor.{Bytes, ValueDescriptor}
 use Rattle.options.specs.Settings.{Setting}
-use Rattle.name_rules.specs.Accessors.{text}
+use Rattle.descriptor.specs.Accessors.{text}
 use Rattle.joined.specs.Joined.{fits}
-use Rattle.code_generator.specs.Piece.{flat}
+use Rattle.code_generator.specs.Piece.{Text, nothing, ◌⟫◌, when}
 use Rattle.code_generator.specs.Attributes.{append_field_attributes}
 use Rattle.code_generator.specs.Enums.{variant_lines, as_str_arm, from_str_arm}
-
--- a value whose name and number are there
-abbrev pub value_with : Bytes → ℕ → Bool → ValueDescriptor
-value_with name number deprecated = record { name = some name; number = some number; deprecated = deprecated }
+use Rattle.enum_arms.specs.declared.Arm.{Arm}
+use Rattle.enum_arms.specs.declared.Arm.TheVariants.{Variant, AsStr, FromStr}
 
 module _ (rs : List Setting) where
-  unfoldable pub variant_text : ℕ → Bytes → Bytes → ValueDescriptor → Bytes
+  unfoldable pub variant_text : ℕ → Bytes → Bytes → ValueDescriptor → Text
   variant_text d full enum v =
-      pick (fits full (text v.name)) (flat (append_field_attributes rs d full (text v.name))) [] ++ flat (variant_lines rs d enum v)
+      when (fits full (text v.name)) (append_field_attributes rs d full (text v.name)) ⟫ variant_lines rs d enum v
 
-  -- what is written for a value: its variant (sort 0), its arm of as_str_name (1), its arm of from_str_name
-  unfoldable pub value_text : ℕ → ℕ → Bytes → Bytes → ValueDescriptor → Bytes
-  value_text sort d full enum v =
-      pick (eqb sort 0) (variant_text d full enum v) (pick (eqb sort 1) (flat (as_str_arm rs d enum v)) (flat (from_str_arm rs d enum v)))
+  -- what is written for a value
+  unfoldable pub value_text : Arm → ℕ → Bytes → Bytes → ValueDescriptor → Text
+  value_text Variant d full enum v = variant_text d full enum v
+  value_text AsStr d full enum v = as_str_arm rs d enum v
+  value_text FromStr d full enum v = from_str_arm rs d enum v
 
-  unfoldable pub value_texts : ℕ → ℕ → Bytes → Bytes → List ValueDescriptor → Bytes
-  value_texts sort d full enum [] = []
-  value_texts sort d full enum (v ∷ vs) = value_text sort d full enum v ++ value_texts sort d full enum vs
+  unfoldable pub value_texts : Arm → ℕ → Bytes → Bytes → List ValueDescriptor → Text
+  value_texts arm d full enum [] = nothing
+  value_texts arm d full enum (v ∷ vs) = value_text arm d full enum v ⟫ value_texts arm d full enum vs

@@ -1,63 +1,71 @@
-// An enum's declaration, with its attributes.
+//! An enum's declaration, with its attributes.
 #![tactic(auto)]
 
-ghost use Rattle.std.specs.Prelude.{◌≡◌, suc, ◌<◌};
-ghost use Rattle.writer.specs.Wrote.{Wrote};
-ghost use Rattle.options.specs.Settings.{settings};
-ghost use Rattle.code_generator.specs.Piece.{flat};
+ghost use Rattle.std.specs.Prelude.{◌≡◌, ◌<◌, ◌^◌};
+ghost use Rattle.context.specs.Context.{should_skip_debug};
+ghost use Rattle.code_generator.specs.Writing.{◌⊳◌};
 ghost use Rattle.code_generator.specs.Enums.{enum_derive};
-ghost use Rattle.enum_values.specs.Kept.{marked_in};
-ghost use Rattle.enum_declaration.specs.DeclarationText.{declaration_text};
+ghost use Rattle.enum_declaration.specs.DeclarationText.{behind_derive, declaration_text};
 
-use enum_arms::put_values;
+use attributes::writing::{append_attributes, append_prost_path_attribute, end, put_line};
+use enum_arms::{Arm, DEEPEST, put_values};
+use enum_values::Enumeration;
+use options::{Kind, Options};
+use resolve::writing::put_prost;
+use writer::Text;
 
-fn wide(d: u32) -> usize
-    ensures { (result ≡ d) × (result < 4294967296) }
+#[tactic(auto, unfolding(path::specs::PathMap::number_of))]
+fn should_skip_debug(options: &Options<'_>, full: &[u8]) -> bool
+    ensures { result ≡ should_skip_debug options.now full.now }
 {
-    d as usize
+    path::get_first(options, Kind::SkipDebug, full).is_some()
 }
 
-fn deeper(d: usize) -> usize
-    requires { d < 1000000000000 }
-    ensures { result ≡ suc d }
+#[tactic(auto, unfolding(code_generator::specs::Enums::enum_derive))]
+fn put_enum_derive(text: &mut Text<'_>, options: &Options<'_>, depth: usize, full: &[u8])
+    ensures { text.new ≡ text.old ⊳ enum_derive options.now depth full.now }
 {
-    d + 1
+    put_line(text, depth, b"#[derive(Clone, Copy, ");
+    text.put_if(!should_skip_debug(options, full), b"Debug, ");
+    text.put(b"PartialEq, Eq, Hash, PartialOrd, Ord, ");
+    put_prost(text, options);
+    text.put(b"::Enumeration)]\n");
 }
 
-fn enum_derive(t: &mut [u8], at: usize, o: &[u8], d: usize, full: &[u8]) -> usize
-    ensures { Wrote t.old at (flat (enum_derive (settings o.now) d full.now)) t.new result }
+#[tactic(auto, unfolding(crate::specs::DeclarationText::behind_derive))]
+fn put_behind_derive(
+    text: &mut Text<'_>,
+    options: &Options<'_>,
+    depth: usize,
+    enumeration: &Enumeration<'_>,
+)
+    requires { depth < 2 ^ 62 }
+    ensures { text.new ≡ text.old ⊳ behind_derive options.now depth enumeration.now.full enumeration.now.name enumeration.now.values }
 {
-    let f = path::find_first(o, 9, full);
-    let shown = !f.found;
-    let a = attributes::put_line(t, at, d, b"#[derive(Clone, Copy, ");
-    let a = writer::put_if(t, a, shown, b"Debug, ");
-    let a = writer::put(t, a, b"PartialEq, Eq, Hash, PartialOrd, Ord, ");
-    let a = resolve::put_prost(t, a, o);
-    writer::put(t, a, b"::Enumeration)]\n")
+    append_prost_path_attribute(text, options);
+    put_line(text, depth, b"#[repr(i32)]\n");
+    put_line(text, depth, b"pub enum ");
+    ident::text::put_upper_camel(text, enumeration.name());
+    text.put(b" {\n");
+    put_values(text, options, Arm::Variant, depth + 1, enumeration);
+    end(text, depth);
 }
 
-pub fn enum_declaration(
-    t: &mut [u8],
-    at: usize,
-    o: &[u8],
-    d: u32,
-    full: &[u8],
-    own: &[u8],
-    s: &[u8],
-    marks: &[bool],
-) -> usize
-    ensures { Wrote t.old at (declaration_text (settings o.now) d full.now own.now (marked_in marks.now s.now)) t.new result }
+/// The declaration of an enum.
+#[tactic(auto, unfolding(crate::specs::DeclarationText::declaration_text, crate::specs::DeclarationText::behind_derive, code_generator::specs::Attributes::append_type_attributes, code_generator::specs::Attributes::append_enum_attributes))]
+pub fn put_enum_declaration(
+    text: &mut Text<'_>,
+    options: &Options<'_>,
+    depth: usize,
+    enumeration: &Enumeration<'_>,
+)
+    ensures { text.new ≡ text.old ⊳ declaration_text options.now depth enumeration.now.full enumeration.now.name enumeration.now.values }
 {
-    let outer = wide(d);
-    let inner = deeper(outer);
-    let a = attributes::append_attributes(t, at, o, 5, full, outer);
-    let a = attributes::append_attributes(t, a, o, 8, full, outer);
-    let a = enum_derive(t, a, o, outer, full);
-    let a = attributes::append_prost_path_attribute(t, a, o);
-    let a = attributes::put_line(t, a, outer, b"#[repr(i32)]\n");
-    let a = attributes::put_line(t, a, outer, b"pub enum ");
-    let n = ident::put_upper_camel(t, a, own);
-    let a = writer::put(t, n.next, b" {\n");
-    let a = put_values(t, a, o, 0, inner, full, own, s, marks);
-    attributes::end(t, a, outer)
+    let full = enumeration.full();
+    append_attributes(text, options, Kind::TypeAttribute, full, depth);
+    append_attributes(text, options, Kind::EnumAttribute, full, depth);
+    put_enum_derive(text, options, depth, full);
+    if depth < DEEPEST {
+        put_behind_derive(text, options, depth, enumeration);
+    }
 }

@@ -1,153 +1,141 @@
-// An enum's impl: as_str_name and from_str_name.
+//! An enum's impl: `as_str_name` and `from_str_name`.
 #![tactic(auto)]
 
-ghost use Rattle.std.specs.Prelude.{◌≡◌, suc, ◌<◌};
-ghost use Rattle.writer.specs.Wrote.{Wrote};
-ghost use Rattle.options.specs.Settings.{settings};
-ghost use Rattle.code_generator.specs.Piece.{flat};
+ghost use Rattle.std.specs.Prelude.{◌≡◌, ◌<◌, ◌^◌};
+ghost use Rattle.code_generator.specs.Writing.{◌⊳◌};
 ghost use Rattle.code_generator.specs.Enums.{as_str_arms, from_str_arms, as_str_name, from_str_name, enum_impl};
-ghost use Rattle.enum_values.specs.Kept.{marked_in};
-ghost use Rattle.enum_impl.specs.ImplText.{impl_line};
+ghost use Rattle.enum_impl.specs.ImplText.{impl_line, methods};
 
-use enum_arms::put_values;
+use attributes::writing::{end, put_line};
+use enum_arms::{Arm, DEEPEST, put_values};
+use enum_values::Enumeration;
+use options::Options;
+use writer::Text;
 
-fn wide(d: u32) -> usize
-    ensures { (result ≡ d) × (result < 4294967296) }
+#[tactic(auto, using(enum_arms::proofs::ArmLaws::as_str_arms_are))]
+fn put_as_str_arms(
+    text: &mut Text<'_>,
+    options: &Options<'_>,
+    depth: usize,
+    enumeration: &Enumeration<'_>,
+)
+    ensures { text.new ≡ text.old ⊳ as_str_arms options.now depth enumeration.now.name enumeration.now.values }
 {
-    d as usize
+    put_values(text, options, Arm::AsStr, depth, enumeration);
 }
 
-fn deeper(d: usize) -> usize
-    requires { d < 1000000000000 }
-    ensures { result ≡ suc d }
+#[tactic(auto, using(enum_arms::proofs::ArmLaws::from_str_arms_are))]
+fn put_from_str_arms(
+    text: &mut Text<'_>,
+    options: &Options<'_>,
+    depth: usize,
+    enumeration: &Enumeration<'_>,
+)
+    ensures { text.new ≡ text.old ⊳ from_str_arms options.now depth enumeration.now.name enumeration.now.values }
 {
-    d + 1
+    put_values(text, options, Arm::FromStr, depth, enumeration);
 }
 
-fn as_str_arms(
-    t: &mut [u8],
-    at: usize,
-    o: &[u8],
-    d: usize,
-    own: &[u8],
-    s: &[u8],
-    marks: &[bool],
-) -> usize
-    ensures { Wrote t.old at (flat (as_str_arms (settings o.now) d own.now (marked_in marks.now s.now))) t.new result }
+#[tactic(auto, unfolding(code_generator::specs::Enums::as_str_name))]
+fn put_as_str_name(
+    text: &mut Text<'_>,
+    options: &Options<'_>,
+    depth: usize,
+    enumeration: &Enumeration<'_>,
+)
+    requires { depth < 2 ^ 63 }
+    ensures { text.new ≡ text.old ⊳ as_str_name options.now depth enumeration.now.name enumeration.now.values }
 {
-    put_values(t, at, o, 1, d, own, own, s, marks)
-}
-
-fn from_str_arms(
-    t: &mut [u8],
-    at: usize,
-    o: &[u8],
-    d: usize,
-    own: &[u8],
-    s: &[u8],
-    marks: &[bool],
-) -> usize
-    ensures { Wrote t.old at (flat (from_str_arms (settings o.now) d own.now (marked_in marks.now s.now))) t.new result }
-{
-    put_values(t, at, o, 2, d, own, own, s, marks)
-}
-
-fn as_str_name(
-    t: &mut [u8],
-    at: usize,
-    o: &[u8],
-    d: usize,
-    own: &[u8],
-    s: &[u8],
-    marks: &[bool],
-) -> usize
-    requires { d < 500000000000 }
-    ensures { Wrote t.old at (flat (as_str_name (settings o.now) d own.now (marked_in marks.now s.now))) t.new result }
-{
-    let inner = deeper(d);
-    let arms = deeper(inner);
-    let a = attributes::put_line(
-        t,
-        at,
-        d,
+    put_line(
+        text,
+        depth,
         b"/// String value of the enum field names used in the ProtoBuf definition.\n",
     );
-    let a = attributes::put_line(t, a, d, b"///\n");
-    let a = attributes::put_line(
-        t,
-        a,
-        d,
+    put_line(text, depth, b"///\n");
+    put_line(
+        text,
+        depth,
         b"/// The values are not transformed in any way and thus are considered stable\n",
     );
-    let a = attributes::put_line(
-        t,
-        a,
-        d,
+    put_line(
+        text,
+        depth,
         b"/// (if the ProtoBuf definition does not change) and safe for programmatic use.\n",
     );
-    let a = attributes::put_line(t, a, d, b"pub fn as_str_name(&self) -> &'static str {\n");
-    let a = attributes::put_line(t, a, inner, b"match self {\n");
-    let a = as_str_arms(t, a, o, arms, own, s, marks);
-    let a = attributes::end(t, a, inner);
-    attributes::end(t, a, d)
+    put_line(
+        text,
+        depth,
+        b"pub fn as_str_name(&self) -> &'static str {\n",
+    );
+    put_line(text, depth + 1, b"match self {\n");
+    put_as_str_arms(text, options, depth + 2, enumeration);
+    end(text, depth + 1);
+    end(text, depth);
 }
 
-fn from_str_name(
-    t: &mut [u8],
-    at: usize,
-    o: &[u8],
-    d: usize,
-    own: &[u8],
-    s: &[u8],
-    marks: &[bool],
-) -> usize
-    requires { d < 500000000000 }
-    ensures { Wrote t.old at (flat (from_str_name (settings o.now) d own.now (marked_in marks.now s.now))) t.new result }
+#[tactic(auto, unfolding(code_generator::specs::Enums::from_str_name))]
+fn put_from_str_name(
+    text: &mut Text<'_>,
+    options: &Options<'_>,
+    depth: usize,
+    enumeration: &Enumeration<'_>,
+)
+    requires { depth < 2 ^ 63 }
+    ensures { text.new ≡ text.old ⊳ from_str_name options.now depth enumeration.now.name enumeration.now.values }
 {
-    let inner = deeper(d);
-    let arms = deeper(inner);
-    let a = attributes::put_line(
-        t,
-        at,
-        d,
+    put_line(
+        text,
+        depth,
         b"/// Creates an enum from field names used in the ProtoBuf definition.\n",
     );
-    let a = attributes::put_line(
-        t,
-        a,
-        d,
+    put_line(
+        text,
+        depth,
         b"pub fn from_str_name(value: &str) -> ::core::option::Option<Self> {\n",
     );
-    let a = attributes::put_line(t, a, inner, b"match value {\n");
-    let a = from_str_arms(t, a, o, arms, own, s, marks);
-    let a = attributes::put_line(t, a, arms, b"_ => None,\n");
-    let a = attributes::end(t, a, inner);
-    attributes::end(t, a, d)
+    put_line(text, depth + 1, b"match value {\n");
+    put_from_str_arms(text, options, depth + 2, enumeration);
+    put_line(text, depth + 2, b"_ => None,\n");
+    end(text, depth + 1);
+    end(text, depth);
 }
 
-fn impl_line(t: &mut [u8], at: usize, d: usize, own: &[u8]) -> usize
-    ensures { Wrote t.old at (impl_line d own.now) t.new result }
+#[tactic(auto, unfolding(crate::specs::ImplText::impl_line))]
+fn put_impl_line(text: &mut Text<'_>, depth: usize, enumeration: &[u8])
+    ensures { text.new ≡ text.old ⊳ impl_line depth enumeration.now }
 {
-    let a = attributes::put_line(t, at, d, b"impl ");
-    let n = ident::put_upper_camel(t, a, own);
-    writer::put(t, n.next, b" {\n")
+    put_line(text, depth, b"impl ");
+    ident::text::put_upper_camel(text, enumeration);
+    text.put(b" {\n");
 }
 
-pub fn enum_impl(
-    t: &mut [u8],
-    at: usize,
-    o: &[u8],
-    d: u32,
-    own: &[u8],
-    s: &[u8],
-    marks: &[bool],
-) -> usize
-    ensures { Wrote t.old at (flat (enum_impl (settings o.now) d own.now (marked_in marks.now s.now))) t.new result }
+#[tactic(auto, unfolding(crate::specs::ImplText::methods))]
+fn put_methods(
+    text: &mut Text<'_>,
+    options: &Options<'_>,
+    depth: usize,
+    enumeration: &Enumeration<'_>,
+)
+    requires { depth < 2 ^ 62 }
+    ensures { text.new ≡ text.old ⊳ methods options.now depth enumeration.now.name enumeration.now.values }
 {
-    let outer = wide(d);
-    let inner = deeper(outer);
-    let a = impl_line(t, at, outer, own);
-    let a = as_str_name(t, a, o, inner, own, s, marks);
-    let a = from_str_name(t, a, o, inner, own, s, marks);
-    attributes::end(t, a, outer)
+    put_as_str_name(text, options, depth + 1, enumeration);
+    put_from_str_name(text, options, depth + 1, enumeration);
+    end(text, depth);
+}
+
+/// The impl of an enum.
+#[tactic(auto, unfolding(code_generator::specs::Enums::enum_impl, crate::specs::ImplText::impl_line, crate::specs::ImplText::methods))]
+pub fn put_enum_impl(
+    text: &mut Text<'_>,
+    options: &Options<'_>,
+    depth: usize,
+    enumeration: &Enumeration<'_>,
+)
+    ensures { text.new ≡ text.old ⊳ enum_impl options.now depth enumeration.now.name enumeration.now.values }
+{
+    put_impl_line(text, depth, enumeration.name());
+    if depth < DEEPEST {
+        put_methods(text, options, depth, enumeration);
+    }
 }

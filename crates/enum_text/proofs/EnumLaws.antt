@@ -20,9 +20,10 @@ use Rattle.joined.specs.Joined.{fits}
 use Rattle.code_generator.specs.Piece.{flat}
 use Rattle.code_generator.specs.Attributes.{append_field_attributes}
 use Rattle.code_generator.specs.Enums.{value_number, is_used, mappings_from, build_enum_value_mappings, variant_lines, enum_variant, enum_variants, enum_declaration, enum_impl, append_enum, append_enums}
+use Rattle.enum_arms.specs.declared.Arm.TheVariants.{Variant}
 use Rattle.enum_arms.specs.ValueText.{variant_text, value_text, value_texts}
 use Rattle.enum_declaration.specs.DeclarationText.{declaration_text}
-use Rattle.enum_text.specs.EnumText.{values_fit, enum_fits, written_text, enum_text, enum_texts}
+use Rattle.enum_text.specs.EnumText.{values_fit, enum_fits, written_text, enum_tree, enum_text, enum_texts}
 
 -- what holds of all values holds of those that are kept
 pub all_kept : (p : ValueDescriptor → Bool) (us : List ℕ) (vs : List ValueDescriptor) → all p vs ≡ true → all p (mappings_from us vs) ≡ true
@@ -32,12 +33,8 @@ all_kept p us (v ∷ vs) h =
     choose_case (λ (l : List ValueDescriptor). all p l ≡ true) (is_used (value_number v) us) (λ _. all_kept p us vs (and_right (p v) (all p vs) h))
     (λ _. and_both (and_left (p v) (all p vs) h) (all_kept p (value_number v ∷ us) vs (and_right (p v) (all p vs) h)))
 
-pick_not : (t : Bool) (p : Bytes) → pick t [] p ≡ pick (not t) p []
-pick_not true p = refl
-pick_not false p = refl
-
 module _ (rs : List Setting) (d : ℕ) where
-  variants_are : (full enum : Bytes) (vs : List ValueDescriptor) → values_fit full vs ≡ true → value_texts rs 0 d full enum vs ≡ flat (enum_variants rs d full enum vs)
+  variants_are : (full enum : Bytes) (vs : List ValueDescriptor) → values_fit full vs ≡ true → flat (value_texts rs Variant d full enum vs) ≡ flat (enum_variants rs d full enum vs)
   unfolding all value_texts value_text variant_text enum_variants enum_variant
   variants_are full enum [] h = refl
   variants_are full enum (v ∷ vs) h =
@@ -46,12 +43,12 @@ module _ (rs : List Setting) (d : ℕ) where
       (variants_are full enum vs (and_right (fits full (text v.name)) (values_fit full vs) h)))
 
 module _ (rs : List Setting) (d : ℕ) where
-  declaration_is : (full enum : Bytes) (vs : List ValueDescriptor) → values_fit full vs ≡ true → declaration_text rs d full enum vs ≡ flat (enum_declaration rs d full enum vs)
+  declaration_is : (full enum : Bytes) (vs : List ValueDescriptor) → values_fit full vs ≡ true → flat (declaration_text rs d full enum vs) ≡ flat (enum_declaration rs d full enum vs)
   unfolding declaration_text enum_declaration
   declaration_is full enum vs h = rw (variants_are rs (suc d) full enum vs h)
 
   pub enum_text_is : (scope : Bytes) (e : EnumDescriptor) → enum_fits scope e ≡ true → enum_text rs d scope e ≡ flat (append_enum rs d scope e)
-  unfolding enum_fits enum_text written_text append_enum
+  unfolding enum_fits enum_text enum_tree written_text append_enum
   enum_text_is scope e h =
       let full : Bytes = scope · text e.name in
       let room = and_left (fits scope (text e.name)) (leb (length e.values) 256 && values_fit full e.values) h in
@@ -59,7 +56,6 @@ module _ (rs : List Setting) (d : ℕ) where
       let few : length e.values ≤ 256 = leb-true (length e.values) 256 (and_left (leb (length e.values) 256) (values_fit full e.values) rest) in
       let all_fit = all_kept (λ (v : ValueDescriptor). fits full (text v.name)) [] e.values (and_right (leb (length e.values) 256) (values_fit full e.values) rest) in
       rw (room, take_all 256 e.values few, declaration_is full (text e.name) (build_enum_value_mappings e.values) all_fit)
-      (pick_not (taken rs full) (flat (enum_declaration rs d full (text e.name) (build_enum_value_mappings e.values)) ++ flat (enum_impl rs d (text e.name) (build_enum_value_mappings e.values))))
 
   pub enum_texts_are : (scope : Bytes) (es : List EnumDescriptor) → all (enum_fits scope) es ≡ true → enum_texts rs d scope es ≡ flat (append_enums rs d scope es)
   unfolding all enum_texts append_enums

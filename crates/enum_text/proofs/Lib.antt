@@ -1,4 +1,4 @@
-pub mod WalkLaws
+pub mod PartLaws
 pub mod EnumLaws
 pub mod OverlapLaws
 pub mod SumLaws

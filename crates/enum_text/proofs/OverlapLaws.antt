@@ -1,125 +1,95 @@
--- Names that are met again among an enum's values, one record on; and that within the limits it is refusal 8. Assumes nothing.
-use Prim.Native.Nat.{ℕ, ◌+◌, ◌-◌, ◌≤◌, ◌<◌}
+-- Names that are met again among an enum's values; and that within the limits it is refusal 8. Assumes nothing.
+use Prim.Native.Nat.{ℕ, suc, ◌+◌, ◌≤◌}
+use native.Mathlib.Omega.{arith}
 use mathlib.Core.Path.{◌≡◌, refl, sym, ap, ◌∙◌}
-use mathlib.Core.Bool.{Bool, true, false, ◌&&◌, ◌||◌, not}
+use mathlib.Core.Bool.{Bool, true, false, ◌&&◌, ◌||◌}
 use mathlib.Core.List.{List, [], ◌∷◌, map}
 use lib.Dec.{leb}
-use lib.ListN.{length, get_or, take, drop}
-use lib.Seq.{take_all}
-use borrow.Author.Tests.{leb-true, not-true, not-false}
+use lib.ListN.{length, drop}
+use lib.Seq.{take_all, drop-drop}
+use borrow.Author.Tests.{leb-true}
+use Rattle.std.specs.List.{list_any}
+use Rattle.std.specs.Prelude.{Option, Some, None, MatchOption}
 use Rattle.base.specs.Bytes.{same}
 use Rattle.base.specs.Choose.{choose}
 use Rattle.base.specs.Lists.{all}
 use Rattle.base.specs.Tests.{and_left, and_right}
-use Rattle.writer.specs.Wrote.{Wrote}
-use Rattle.wire.specs.Step.{step_at}
-use Rattle.wire.specs.Contents.{value_of}
-use Rattle.wire.specs.declared.Record.{Record}
-use Rattle.wire.specs.declared.Step.{Step}
-use Rattle.wire.specs.declared.Step.TheVariants.{End, Fault, Found}
 use Rattle.descriptor.specs.Descriptor.{Bytes, ValueDescriptor, EnumDescriptor}
-use Rattle.descriptor.specs.Decode.{bytes_in, decode_value}
-use Rattle.wire.specs.Records.{part}
-use Rattle.descriptor.specs.Views as view
-use Rattle.descriptor.specs.declared.ValueView.{ValueView}
-use Rattle.name_rules.proofs.ViewedLaws.{value_is}
-use Rattle.parts.proofs.PartLaws.{parts_from, parts_end, parts_fault, parts_skip, parts_found}
-use Rattle.options.specs.Settings.{Setting, strips_prefix}
+use Rattle.options.specs.Settings.{Setting}
 use Rattle.path.specs.Forms.{among}
 use Rattle.name_rules.specs.Accessors.{text}
 use Rattle.name_rules.specs.FullNames.{◌·◌}
-use Rattle.joined.specs.Joined as joined
-use Rattle.code_generator.specs.Piece.{spelt, variant}
+use Rattle.joined.specs.Joined.{fits}
+use Rattle.code_generator.specs.Piece.{spelt}
 use Rattle.code_generator.specs.Enums.{build_enum_value_mappings, generated_variant_name}
 use Rattle.code_generator.specs.Refusals.{overlap, enum_overlaps}
-use Rattle.enum_values.specs.Kept.{marked}
 use Rattle.enum_text.specs.EnumText.{values_fit, enum_fits}
-use Rattle.enum_text.specs.Overlap.{variant_name, has_room, names, asked, names_from, enum_meets, meets_fully}
+use Rattle.enum_text.specs.Overlap.{variant_name, has_room, names, asked, enum_meets, meets_fully}
 use Rattle.enum_text.proofs.EnumLaws.{all_kept}
 
-pub among_none : (x : Bytes) (l : List Bytes) → l ≡ [] → false ≡ among x l
-unfolding among
-among_none x l e = rw e
-
-pub overlap_none : (l : List Bytes) → l ≡ [] → false ≡ overlap l
-unfolding overlap
-overlap_none l e = rw e
+-- one value on
+pub stepped : (s t values : List ValueDescriptor) (r : Option ValueDescriptor) (k : ℕ) → MatchOption r ((s ≡ []) × (t ≡ [])) (λ x. s ≡ x ∷ t) → s ≡ drop k values → t ≡ drop (k + 1) values
+stepped s t values (Some x) k h e = ap (drop 1) (sym h ∙ e) ∙ drop-drop 1 k values
+stepped s t values None k h e = h.1 ∙ ap (drop 1) (sym h.0 ∙ e) ∙ drop-drop 1 k values
 
 module _ (rs : List Setting) (enum : Bytes) where
-  among_more : (x : Bytes) (t : Bool) (v : ValueDescriptor) (vs : List ValueDescriptor) → among x (names rs enum (choose t (v ∷ vs) vs)) ≡ (asked rs enum t (same x) v || among x (names rs enum vs))
+  pub among_any : (x : Bytes) (vs : List ValueDescriptor) → among x (names rs enum vs) ≡ list_any (asked rs enum (same x)) vs
   unfolding among names choose asked
-  among_more x false v vs = refl
-  among_more x true v vs = go (has_room rs enum v)
+  among_any x [] = refl
+  among_any x (v ∷ vs) = go (has_room rs enum v) (among_any x vs)
     where
-      go : (u : Bool) → among x (choose u (variant_name rs enum v ∷ names rs enum vs) (names rs enum vs)) ≡ ((u && same x (variant_name rs enum v)) || among x (names rs enum vs))
-      go true = refl
-      go false = refl
+      go : (t : Bool) → among x (names rs enum vs) ≡ list_any (asked rs enum (same x)) vs → among x (choose t (variant_name rs enum v ∷ names rs enum vs) (names rs enum vs)) ≡ ((t && same x (variant_name rs enum v)) || list_any (asked rs enum (same x)) vs)
+      go true e = ap (λ (u : Bool). same x (variant_name rs enum v) || u) e
+      go false e = e
 
-  overlap_more : (t : Bool) (v : ValueDescriptor) (vs : List ValueDescriptor) → overlap (names rs enum (choose t (v ∷ vs) vs)) ≡ (asked rs enum t (λ (x : Bytes). among x (names rs enum vs)) v || overlap (names rs enum vs))
+  overlap_more : (v : ValueDescriptor) (vs : List ValueDescriptor) → overlap (names rs enum (v ∷ vs)) ≡ (asked rs enum (λ (x : Bytes). among x (names rs enum vs)) v || overlap (names rs enum vs))
   unfolding overlap names choose asked
-  overlap_more false v vs = refl
-  overlap_more true v vs = go (has_room rs enum v)
+  overlap_more v vs = go (has_room rs enum v)
     where
-      go : (u : Bool) → overlap (choose u (variant_name rs enum v ∷ names rs enum vs) (names rs enum vs)) ≡ ((u && among (variant_name rs enum v) (names rs enum vs)) || overlap (names rs enum vs))
+      go : (t : Bool) → overlap (choose t (variant_name rs enum v ∷ names rs enum vs) (names rs enum vs)) ≡ ((t && among (variant_name rs enum v) (names rs enum vs)) || overlap (names rs enum vs))
       go true = refl
       go false = refl
 
-  module _ (ms : List Bool) (i : ℕ) (s : List ℕ) (at : ℕ) (r : Step) (e : r ≡ step_at s at) where
-    pub names_end : r ≡ End → names_from rs enum ms i s at ≡ []
-    unfolding names marked
-    names_end is = rw (parts_end 2 s at r e is)
+  -- the pass has come so far
+  pub record Passed (values rest : List ValueDescriptor) (behind : ℕ) : Type 0 where
+    pub there : rest ≡ drop behind values
+    pub left : behind + length rest ≡ length values
+    pub met : overlap (names rs enum rest) ≡ overlap (names rs enum values)
 
-    pub names_fault : (key : ℕ) → r ≡ Fault key → names_from rs enum ms i s at ≡ []
-    unfolding names marked
-    names_fault key is = rw (parts_fault 2 s at r e key is)
+  pub passed_none : (values : List ValueDescriptor) → Passed values values 0
+  passed_none values = record { there = refl; left = omega arith; met = refl }
 
-    module _ (f : Record) (is : r ≡ Found f) where
-      pub names_skip : (f.number ≡ 2 → ⊥) → names_from rs enum ms i s f.next ≡ names_from rs enum ms i s at
-      names_skip ne = rw (parts_skip 2 s at r e f is ne)
+  pub passed_all : {values rest : List ValueDescriptor} {k : ℕ} → Passed values rest k → rest ≡ [] → false ≡ overlap (names rs enum values)
+  unfolding overlap names
+  passed_all p e = ap (λ (vs : List ValueDescriptor). overlap (names rs enum vs)) (sym e) ∙ p.met
 
-      module _ (q : f.number ≡ 2) (t : Bool) (mark : t ≡ get_or ms i false) (p : List ℕ) (there : p ≡ bytes_in (value_of s f)) (u : Bool) where
-        among_turn : (x : Bytes) → u ≡ asked rs enum t (same x) (decode_value p) → among x (names_from rs enum ms i s at) ≡ (u || among x (names_from rs enum ms (i + 1) s f.next))
-        unfolding marked
-        among_turn x answer =
-            rw (parts_found 2 s at r e f is q, answer, mark, there)
-            (among_more x (get_or ms i false) (decode_value (bytes_in (value_of s f))) (marked ms (i + 1) (map decode_value (parts_from 2 s f.next))))
+  module _ {values rest later : List ValueDescriptor} {k : ℕ} {v : ValueDescriptor} (p : Passed values rest k) (e : rest ≡ v ∷ later) where
+    behind_it : later ≡ drop (k + 1) values
+    behind_it = ap (drop 1) (sym e ∙ p.there) ∙ drop-drop 1 k values
 
-        pub among_hit : (x : Bytes) → u ≡ asked rs enum t (same x) (decode_value p) → u ≡ true → true ≡ among x (names_from rs enum ms i s at)
-        among_hit x answer is_true = sym (among_turn x answer ∙ rw is_true)
+    pub room_left : k + 1 ≤ length values
+    room_left = let h = p.left in let l : length rest ≡ suc (length later) = ap length e in omega arith
 
-        pub among_miss : (x : Bytes) → u ≡ asked rs enum t (same x) (decode_value p) → u ≡ false → among x (names_from rs enum ms (i + 1) s f.next) ≡ among x (names_from rs enum ms i s at)
-        among_miss x answer is_false = sym (among_turn x answer ∙ rw is_false)
+    module _ (u : Bool) (q : u ≡ asked rs enum (λ (x : Bytes). list_any (asked rs enum (same x)) (drop (k + 1) values)) v) where
+      found : asked rs enum (λ (x : Bytes). among x (names rs enum later)) v ≡ u
+      unfolding asked
+      found = ap (λ (vs : List ValueDescriptor). asked rs enum (λ (x : Bytes). among x (names rs enum vs)) v) behind_it ∙ ap (λ (t : Bool). has_room rs enum v && t) (among_any (variant_name rs enum v) (drop (k + 1) values)) ∙ sym q
 
-        overlap_turn : u ≡ asked rs enum t (λ (x : Bytes). among x (names_from rs enum ms (i + 1) s f.next)) (decode_value p) → overlap (names_from rs enum ms i s at) ≡ (u || overlap (names_from rs enum ms (i + 1) s f.next))
-        unfolding marked
-        overlap_turn answer =
-            rw (parts_found 2 s at r e f is q, answer, mark, there)
-            (overlap_more (get_or ms i false) (decode_value (bytes_in (value_of s f))) (marked ms (i + 1) (map decode_value (parts_from 2 s f.next))))
+      turn : overlap (names rs enum values) ≡ (u || overlap (names rs enum later))
+      turn =
+          sym p.met ∙ ap (λ (vs : List ValueDescriptor). overlap (names rs enum vs)) e ∙ overlap_more v later
+          ∙ ap (λ (t : Bool). t || overlap (names rs enum later)) found
 
-        pub overlap_hit : u ≡ asked rs enum t (λ (x : Bytes). among x (names_from rs enum ms (i + 1) s f.next)) (decode_value p) → u ≡ true → true ≡ overlap (names_from rs enum ms i s at)
-        overlap_hit answer is_true = sym (overlap_turn answer ∙ rw is_true)
+      pub met_here : u ≡ true → true ≡ overlap (names rs enum values)
+      met_here h = sym (turn ∙ rw h)
 
-        pub overlap_miss : u ≡ asked rs enum t (λ (x : Bytes). among x (names_from rs enum ms (i + 1) s f.next)) (decode_value p) → u ≡ false → overlap (names_from rs enum ms (i + 1) s f.next) ≡ overlap (names_from rs enum ms i s at)
-        overlap_miss answer is_false = sym (overlap_turn answer ∙ rw is_false)
-
-  -- the name of a value by its view
-  pub named_part : (p : List ℕ) (v : ValueView) → v ≡ view.value_view_in 0 (part p 0 (length p - 0)) → (name : List ℕ) → name ≡ text (view.text_of p v.name) → spelt (variant (strips_prefix rs) enum name) ≡ variant_name rs enum (decode_value p)
-  unfolding variant_name view.value_of
-  named_part p v e name en = ap (λ (x : Bytes). spelt (variant (strips_prefix rs) enum x)) en ∙ ap (variant_name rs enum) (value_is p v e)
-
-  pub asked_not : (p : Bytes → Bool) (v : ValueDescriptor) (kept : Bool) → not kept ≡ true → false ≡ asked rs enum kept p v
-  unfolding asked
-  asked_not p v kept k = rw (not-true kept k)
-
-  -- a name that is written into a buffer
-  module _ (p : Bytes → Bool) (v : ValueDescriptor) {t t' : List ℕ} {n : ℕ} (w : Wrote t 0 (variant_name rs enum v) t' n) (size : length t ≡ joined.max_path) (kept : Bool) (k : not kept ≡ false) where
-    pub asked_held : n ≤ joined.max_path → (r : Bool) → r ≡ p (take (n - 0) (drop 0 t')) → r ≡ asked rs enum kept p v
-    unfolding asked has_room
-    asked_held h r e = e ∙ ap p (joined.held w size h) ∙ rw (not-false kept k, joined.has_room w size h)
-
-    pub asked_unheld : joined.max_path < n → false ≡ asked rs enum kept p v
-    unfolding asked has_room
-    asked_unheld h = rw (not-false kept k, joined.no_room w size h)
+      pub passed_more : u ≡ false → Passed values later (k + 1)
+      passed_more h =
+          record {
+            there = behind_it;
+            left = let l : length rest ≡ suc (length later) = ap length e in let m = p.left in omega arith;
+            met = sym (turn ∙ rw h);
+          }
 
   all_names : (vs : List ValueDescriptor) → all (has_room rs enum) vs ≡ true → names rs enum vs ≡ map (λ (v : ValueDescriptor). spelt (generated_variant_name rs enum v)) vs
   unfolding all names variant_name choose
@@ -134,8 +104,8 @@ unfolding enum_fits meets_fully enum_meets enum_overlaps choose
 enum_meets_is rs scope e h =
     let full : Bytes = scope · text e.name in
     let fit = and_left (enum_fits scope e) (all (has_room rs (text e.name)) e.values) h in
-    let room = and_left (joined.fits scope (text e.name)) (leb (length e.values) 256 && values_fit full e.values) fit in
-    let rest = and_right (joined.fits scope (text e.name)) (leb (length e.values) 256 && values_fit full e.values) fit in
+    let room = and_left (fits scope (text e.name)) (leb (length e.values) 256 && values_fit full e.values) fit in
+    let rest = and_right (fits scope (text e.name)) (leb (length e.values) 256 && values_fit full e.values) fit in
     let few : length e.values ≤ 256 = leb-true (length e.values) 256 (and_left (leb (length e.values) 256) (values_fit full e.values) rest) in
     let short = all_kept (has_room rs (text e.name)) [] e.values (and_right (enum_fits scope e) (all (has_room rs (text e.name)) e.values) h) in
     rw (room, take_all 256 e.values few, all_names rs (text e.name) (build_enum_value_mappings e.values) short)

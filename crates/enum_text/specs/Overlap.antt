@@ -1,12 +1,10 @@
 -- Refusal 8 of one enum, as it is found: as `enum_overlaps` says, of its first 256 values (limit 6), where the names have room in a
 -- buffer (limit 8 leaves no longer ones). Assumes nothing.
-use Rattle.std.specs.Prelude.{ℕ, Bool, false, ◌&&◌, not, List, [], ◌∷◌, map, leb, length}
+use Rattle.std.specs.Prelude.{ℕ, Bool, false, ◌&&◌, not, List, [], ◌∷◌, leb, length}
 use Rattle.base.specs.Choose.{choose}
 use Rattle.base.specs.Lists.{all}
 use Rattle.checksums.specs.Sums.{sum_of}
 use Rattle.descriptor.specs.Descriptor.{Bytes, ValueDescriptor, EnumDescriptor}
-use Rattle.wire.specs.Records.{records}
-use Rattle.descriptor.specs.Decode.{entries_of, parts, decode_value}
 use Rattle.options.specs.Settings.{Setting}
 use Rattle.extern_paths.specs.ExternPaths.{taken}
 use Rattle.name_rules.specs.Accessors.{text}
@@ -15,7 +13,6 @@ use Rattle.joined.specs.Joined.{max_path, fits}
 use Rattle.code_generator.specs.Piece.{spelt}
 use Rattle.code_generator.specs.Enums.{build_enum_value_mappings, generated_variant_name}
 use Rattle.code_generator.specs.Refusals.{overlap}
-use Rattle.enum_values.specs.Kept.{marked}
 use Rattle.enum_text.specs.EnumText.{first_values, enum_fits}
 
 module _ (rs : List Setting) (enum : Bytes) where
@@ -30,17 +27,13 @@ module _ (rs : List Setting) (enum : Bytes) where
   names [] = []
   names (v ∷ vs) = choose (has_room v) (variant_name v ∷ names vs) (names vs)
 
-  -- where a value is kept and its name has room, what is asked of the name
-  unfoldable pub asked : Bool → (Bytes → Bool) → ValueDescriptor → Bool
-  asked kept p v = kept && (has_room v && p (variant_name v))
+  -- where a value's name has room, what is asked of it
+  unfoldable pub asked : (Bytes → Bool) → ValueDescriptor → Bool
+  asked p v = has_room v && p (variant_name v)
 
-  -- the checksum of a name, where the value is kept and the name has room
-  unfoldable pub value_sums : Bool → ValueDescriptor → List ℕ
-  value_sums kept v = choose (kept && has_room v) (sum_of (variant_name v) ∷ []) []
-
-  -- the names of the values in s from a record on; the first value's mark is mark i
-  abbrev pub names_from : List Bool → ℕ → Bytes → ℕ → List Bytes
-  names_from ms i s at = names (marked ms i (map decode_value (parts 2 (entries_of s (records s at)))))
+  -- the checksum of a name that has room
+  unfoldable pub value_sums : ValueDescriptor → List ℕ
+  value_sums v = choose (has_room v) (sum_of (variant_name v) ∷ []) []
 
 module _ (rs : List Setting) where
   unfoldable pub enum_meets : Bytes → EnumDescriptor → Bool

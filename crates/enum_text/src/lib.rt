@@ -1,74 +1,119 @@
-// code_generator.rs, append_enum: the text of an enum.
+//! code_generator.rs, append_enum: the text of an enum.
 #![tactic(auto)]
 
+ghost use Rattle.std.specs.Prelude.{◌≡◌};
 ghost use Rattle.writer.specs.Wrote.{Wrote};
+ghost use Rattle.writer.specs.Draft.{Filled};
 ghost use Rattle.options.specs.Settings.{settings};
+ghost use Rattle.writer.specs.Writing.{◌▻◌};
 ghost use Rattle.descriptor.specs.Decode.{decode_enum};
+ghost use Rattle.code_generator.specs.Writing.{◌⊳◌};
 ghost use Rattle.code_generator.specs.Enums.{build_enum_value_mappings};
-ghost use Rattle.enum_text.specs.EnumText.{first_values, written_text, enum_text, enum_texts, enums_in};
+ghost use Rattle.enum_text.specs.EnumText.{first_values, written_text, enum_tree, enum_text, enum_texts, enums_in};
 
 pub mod overlap;
 
-use enum_declaration::enum_declaration;
-use enum_impl::enum_impl;
-use enum_values::build_enum_value_mappings;
-use wire::Step;
+use enum_declaration::put_enum_declaration;
+use enum_impl::put_enum_impl;
+use enum_values::{Enumeration, build_enum_value_mappings};
+use extern_paths::resolve::takes;
+use joined::{FullName, name_of};
+use options::Options;
+use parts::Parts;
+use writer::Text;
 
-// The text of an enum that no extern path takes: s is its part, `full` its full name.
-fn append_written(t: &mut [u8], o: &[u8], d: u32, full: &[u8], own: &[u8], s: &[u8]) -> usize
-    ensures { Wrote t.old 0 (written_text (settings o.now) d full.now own.now (build_enum_value_mappings (first_values (decode_enum s.now)))) t.new result }
+/// An enum that no extern path takes.
+#[tactic(auto, unfolding(crate::specs::EnumText::written_text), using(crate::proofs::PartLaws::kept_in))]
+fn put_written(
+    text: &mut Text<'_>,
+    part: &[u8],
+    options: &Options<'_>,
+    depth: usize,
+    full: &[u8],
+    name: &[u8],
+)
+    ensures { text.new ≡ text.old ⊳ written_text options.now depth full.now name.now (build_enum_value_mappings (first_values (decode_enum part.now))) }
 {
-    let x = build_enum_value_mappings(s);
-    let marks = x.marks;
-    let a = enum_declaration(t, 0, o, d, full, own, s, &marks);
-    enum_impl(t, a, o, d, own, s, &marks)
+    let kept = build_enum_value_mappings(part);
+    let enumeration = Enumeration::new(full, name, part, &kept.marks);
+    put_enum_declaration(text, options, depth, &enumeration);
+    put_enum_impl(text, options, depth, &enumeration);
 }
 
-// The enum whose part s is, at the depth d, in the rest of a buffer that t is.
-pub fn append_enum(t: &mut [u8], s: &[u8], o: &[u8], d: u32, scope: &[u8]) -> usize
-    ensures { Wrote t.old 0 (enum_text (settings o.now) d scope.now (decode_enum s.now)) t.new result }
+fn put_enum(text: &mut Text<'_>, part: &[u8], options: &Options<'_>, depth: usize, scope: &[u8])
+    ensures { text.new ≡ text.old ⊳ enum_tree options.now depth scope.now (decode_enum part.now) }
 {
-    let end = s.len();
-    let name = descriptor::name_view(s, 0, end);
-    let own = accessors::text(s, name);
-    let mut path = [0u8; 512];
-    let n = joined::join(&mut path, scope, own);
-    if n <= 512 {
-        let taken = extern_paths::resolve::is_taken(o, &path[0..n]);
-        if taken {
-            return 0;
+    let name = name_of(part);
+    if let Some(full) = FullName::whole(scope, name) {
+        if !takes(options, full.as_bytes()) {
+            put_written(text, part, options, depth, full.as_bytes(), name);
         }
-        return append_written(t, o, d, &path[0..n], own, s);
     }
-    0
 }
 
-// The enums of a message's part (field number 4) or a file's (5).
+/// The enum whose bytes are `part`, in the rest of a buffer; its length.
+pub fn append_enum(
+    buffer: &mut [u8],
+    part: &[u8],
+    options: &Options<'_>,
+    depth: usize,
+    scope: &[u8],
+) -> usize
+    ensures { Filled buffer.old (enum_text options.now depth scope.now (decode_enum part.now)) buffer.new result }
+{
+    let mut text = Text::new(buffer);
+    put_enum(&mut text, part, options, depth, scope);
+    text.length
+}
+
+/// The same, lent the rest of the text's buffer.
+fn lend_enum(text: &mut Text<'_>, part: &[u8], options: &Options<'_>, depth: usize, scope: &[u8])
+    ensures { text.new ≡ text.old ▻ enum_text options.now depth scope.now (decode_enum part.now) }
+{
+    let at = text.place();
+    let n = append_enum(&mut text.buffer[at..], part, options, depth, scope);
+    text.skip(n);
+}
+
+/// The enums of a message's part (field number 4) or a file's (5).
 pub fn append_enums(
+    text: &mut Text<'_>,
+    part: &[u8],
+    options: &Options<'_>,
+    depth: usize,
+    scope: &[u8],
+    number: u64,
+)
+    ensures { text.new ≡ text.old ▻ enum_texts options.now depth scope.now (enums_in number part.now) }
+{
+    for enumeration in Parts::new(part, number) {
+        lend_enum(text, enumeration, options, depth, scope);
+    }
+}
+
+/// The same, written into a buffer from a place on, for message_text.
+pub fn append_enums_at(
     t: &mut [u8],
     at: usize,
-    s: &[u8],
-    o: &[u8],
-    d: u32,
+    part: &[u8],
+    bytes: &[u8],
+    depth: u32,
     scope: &[u8],
     number: u64,
 ) -> usize
-    ensures { Wrote t.old at (enum_texts (settings o.now) d scope.now (enums_in number s.now)) t.new result }
+    ensures { Wrote t.old at (enum_texts (settings bytes.now) depth scope.now (enums_in number part.now)) t.new result }
 {
-    let mut a = at;
-    let mut place: usize = 0;
-    loop {
-        match wire::read_step(s, place) {
-            Step::End => return a,
-            Step::Fault(_) => return a,
-            Step::Found(f) => {
-                place = f.next;
-                if f.number == number {
-                    let p = writer::within(a, t.len());
-                    let n = append_enum(&mut t[p..], parts::embedded(s, f), o, d, scope);
-                    a = writer::advance(a, n);
-                }
-            }
-        }
-    }
+    let mut text = Text {
+        buffer: t,
+        length: at,
+    };
+    append_enums(
+        &mut text,
+        part,
+        &Options::new(bytes),
+        depth as usize,
+        scope,
+        number,
+    );
+    text.next(at)
 }

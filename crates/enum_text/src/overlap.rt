@@ -1,210 +1,204 @@
-// Refusal 8: two variants of a written enum have the same name.
-ghost use Rattle.std.specs.Prelude.{◌≡◌, List, ◌++◌, map, ℕ, ◌≤◌, length};
+//! Refusal 8: two variants of a written enum have the same name.
+ghost use Rattle.std.specs.Prelude.{◌≡◌, List, ◌++◌, map, ℕ, drop, Some, None};
+ghost use Rattle.base.specs.Choose.{choose};
 ghost use Rattle.base.specs.Bytes.{same};
 ghost use Rattle.checksums.specs.Sums.{sum_of};
 ghost use Rattle.checksums.specs.SumLaws.{Stored};
-ghost use Rattle.writer.specs.Wrote.{Wrote};
-ghost use Rattle.options.specs.Settings.{settings};
-ghost use Rattle.path.specs.Forms.{among};
+ghost use Rattle.writer.specs.Draft.{Filled};
+ghost use Rattle.std.specs.List.{list_any};
 ghost use Rattle.descriptor.specs.Descriptor.{Bytes};
-ghost use Rattle.descriptor.specs.Decode.{decode_value, decode_enum};
+ghost use Rattle.descriptor.specs.Decode.{decode_enum};
 ghost use Rattle.code_generator.specs.Refusals.{overlap};
-ghost use Rattle.enum_values.specs.Kept.{marked_in};
-ghost use Rattle.enum_text.specs.Overlap.{variant_name, asked, names, names_from, value_sums, enum_meets};
+ghost use Rattle.enum_text.specs.Overlap.{variant_name, has_room, asked, names, value_sums, enum_meets};
 
-use enum_values::{build_enum_value_mappings, is_marked, put_variant_name};
-use wire::Step;
+use descriptor::EnumValueDescriptor;
+use enum_values::{Enumeration, Values, build_enum_value_mappings, put_variant_name, value_name};
+use extern_paths::resolve::takes;
+use joined::{FullName, MAX_PATH, name_of};
+use options::Options;
+use std::marker::Model;
+use writer::Text;
 
-// The variant's name of the value whose part p is.
-fn put_name(t: &mut [u8], o: &[u8], own: &[u8], p: &[u8]) -> usize
-    ensures { Wrote t.old 0 (variant_name (settings o.now) own.now (decode_value p.now)) t.new result }
-{
-    let end = p.len();
-    let v = descriptor::value_view(p, 0, end);
-    let name = v.name;
-    put_variant_name(t, 0, o, own, accessors::text(p, name))
+/// A variant's name.
+#[derive(Drop)]
+struct VariantName {
+    bytes: [u8; MAX_PATH],
+    length: usize,
 }
 
-// Is this the name of the value whose part p is? Only where it is kept.
-fn is_named(p: &[u8], kept: bool, o: &[u8], own: &[u8], x: &[u8]) -> bool
-    ensures { result ≡ asked (settings o.now) own.now kept (same x.now) (decode_value p.now) }
+impl Model for VariantName {
+    ghost use Rattle.std.specs.Prelude.{◌≤◌, take};
+    ghost use Rattle.descriptor.specs.Descriptor.{Bytes};
+    ghost use Rattle.joined.specs.Joined.{max_path};
+
+    ghost Value = { Bytes };
+
+    ghost view = { λ n. take n.length n.bytes };
+
+    ghost invariant = { λ n. n.length ≤ max_path };
+}
+
+/// The name of a value's variant, as far as the buffer goes, and its length.
+#[tactic(auto, unfolding(crate::specs::Overlap::variant_name))]
+fn fill_name(
+    buffer: &mut [u8],
+    options: &Options<'_>,
+    enumeration: &Enumeration<'_>,
+    value: &EnumValueDescriptor<'_>,
+) -> usize
+    ensures { Filled buffer.old (variant_name options.now enumeration.now.name value.now) buffer.new result }
 {
-    if !kept {
-        return false;
+    let mut text = Text::new(buffer);
+    put_variant_name(&mut text, options, enumeration.name(), value_name(value));
+    text.length
+}
+
+impl VariantName {
+    /// The name of a value's variant, where it has room.
+    fn of(
+        options: &Options<'_>,
+        enumeration: &Enumeration<'_>,
+        value: &EnumValueDescriptor<'_>,
+    ) -> Option<VariantName>
+        ensures { result ≡ choose (has_room options.now enumeration.now.name value.now) (Some (variant_name options.now enumeration.now.name value.now)) None }
+    {
+        let mut bytes = [0u8; MAX_PATH];
+        let length = fill_name(&mut bytes, options, enumeration, value);
+        if MAX_PATH < length {
+            return None;
+        }
+        Some(VariantName { bytes, length })
     }
-    let mut name = [0u8; 512];
-    let n = put_name(&mut name, o, own, p);
-    if n <= 512 {
-        return base::same_bytes(x, &name[0..n]);
+
+    fn as_bytes(&self) -> &[u8]
+        ensures { result.now ≡ self.now }
+    {
+        &self.bytes[..self.length]
+    }
+}
+
+/// Is this the name of a value's variant?
+#[tactic(auto, unfolding(crate::specs::Overlap::asked, base::specs::Choose::choose))]
+fn is_named(
+    name: &[u8],
+    options: &Options<'_>,
+    enumeration: &Enumeration<'_>,
+    value: &EnumValueDescriptor<'_>,
+) -> bool
+    ensures { result ≡ asked options.now enumeration.now.name (same name.now) value.now }
+{
+    match VariantName::of(options, enumeration, value) {
+        Some(other) => base::same_bytes(name, other.as_bytes()),
+        None => false,
+    }
+}
+
+/// The values behind the first `from`.
+fn behind<'a>(enumeration: &Enumeration<'a>, from: usize) -> Values<'a>
+    ensures { result ≡ drop from enumeration.now.values }
+{
+    let mut values = enumeration.values();
+    for _ in 0..from {
+        values.next();
+    }
+    values
+}
+
+/// Has one of the values behind the first `from` this name?
+fn comes(name: &[u8], options: &Options<'_>, enumeration: &Enumeration<'_>, from: usize) -> bool
+    ensures { result ≡ list_any (asked options.now enumeration.now.name (same name.now)) (drop from enumeration.now.values) }
+{
+    for value in behind(enumeration, from) {
+        if is_named(name, options, enumeration, &value) {
+            return true;
+        }
     }
     false
 }
 
-// Has a value the name x, from a record on? The first one's mark is mark `from`.
-fn comes(
-    s: &[u8],
-    start: usize,
-    from: usize,
-    marks: &[bool],
-    o: &[u8],
-    own: &[u8],
-    x: &[u8],
-) -> bool
-    requires { (from ≤ start) × (start ≤ length s.now) }
-    ensures { result ≡ among x.now (names_from (settings o.now) own.now marks.now from s.now start) }
-{
-    let mut place = start;
-    let mut i = from;
-    loop {
-        match wire::read_step(s, place) {
-            Step::End => return false,
-            Step::Fault(_) => return false,
-            Step::Found(f) => {
-                place = f.next;
-                if f.number == 2 {
-                    let kept = is_marked(marks, i);
-                    let named = is_named(parts::embedded(s, f), kept, o, own, x);
-                    if named {
-                        return true;
-                    }
-                    i = i + 1;
-                }
-            }
-        }
-    }
-}
-
-// Has a value the name of the one whose part p is, from a record on? Only where that is kept.
+/// Has one of the values behind the first `from` the name of this one?
+#[tactic(auto, unfolding(crate::specs::Overlap::asked, base::specs::Choose::choose))]
 fn comes_again(
-    p: &[u8],
-    kept: bool,
-    s: &[u8],
-    start: usize,
+    value: &EnumValueDescriptor<'_>,
+    options: &Options<'_>,
+    enumeration: &Enumeration<'_>,
     from: usize,
-    marks: &[bool],
-    o: &[u8],
-    own: &[u8],
 ) -> bool
-    requires { (from ≤ start) × (start ≤ length s.now) }
-    ensures { result ≡ asked (settings o.now) own.now kept (λ (x : Bytes). among x (names_from (settings o.now) own.now marks.now from s.now start)) (decode_value p.now) }
+    ensures { result ≡ asked options.now enumeration.now.name (λ (x : Bytes). list_any (asked options.now enumeration.now.name (same x)) (drop from enumeration.now.values)) value.now }
 {
-    if !kept {
-        return false;
+    match VariantName::of(options, enumeration, value) {
+        Some(name) => comes(name.as_bytes(), options, enumeration, from),
+        None => false,
     }
-    let mut name = [0u8; 512];
-    let n = put_name(&mut name, o, own, p);
-    if n <= 512 {
-        return comes(s, start, from, marks, o, own, &name[0..n]);
+}
+
+/// Have two values the same name?
+fn meets(options: &Options<'_>, enumeration: &Enumeration<'_>) -> bool
+    ensures { result ≡ overlap (names options.now enumeration.now.name enumeration.now.values) }
+{
+    let mut from = 0;
+    for value in enumeration.values() {
+        from += 1;
+        if comes_again(&value, options, enumeration, from) {
+            return true;
+        }
     }
     false
 }
 
-// Have two values with a mark the same name?
-fn meets(s: &[u8], marks: &[bool], o: &[u8], own: &[u8]) -> bool
-    ensures { result ≡ overlap (names (settings o.now) own.now (marked_in marks.now s.now)) }
+/// The checksum of a value's name, behind `count` that a table has.
+fn put_sum_of(
+    sums: &mut [u64],
+    count: usize,
+    options: &Options<'_>,
+    enumeration: &Enumeration<'_>,
+    value: &EnumValueDescriptor<'_>,
+) -> usize
+    ensures { (l : List ℕ) → Stored sums.old count l → Stored sums.new result (l ++ value_sums options.now enumeration.now.name value.now) }
 {
-    let mut place: usize = 0;
-    let mut i: usize = 0;
-    loop {
-        match wire::read_step(s, place) {
-            Step::End => return false,
-            Step::Fault(_) => return false,
-            Step::Found(f) => {
-                place = f.next;
-                if f.number == 2 {
-                    let kept = is_marked(marks, i);
-                    i = i + 1;
-                    let again = comes_again(
-                        parts::embedded(s, f),
-                        kept,
-                        s,
-                        place,
-                        i,
-                        marks,
-                        o,
-                        own,
-                    );
-                    if again {
-                        return true;
-                    }
-                }
-            }
-        }
+    match VariantName::of(options, enumeration, value) {
+        Some(name) => checksums::put_sum(sums, count, checksums::checksum(name.as_bytes())),
+        None => count,
     }
 }
 
-// The checksum of the name of the value whose part p is, behind n that a table has: only where it is kept.
-fn put_sum_of(sums: &mut [u64], n: usize, p: &[u8], kept: bool, o: &[u8], own: &[u8]) -> usize
-    ensures { (l : List ℕ) → Stored sums.old n l → Stored sums.new result (l ++ value_sums (settings o.now) own.now kept (decode_value p.now)) }
+/// The checksums of the values' names; and how many they are.
+fn put_sums(sums: &mut [u64], options: &Options<'_>, enumeration: &Enumeration<'_>) -> usize
+    ensures { Stored sums.new result (map sum_of (names options.now enumeration.now.name enumeration.now.values)) }
 {
-    if !kept {
-        return n;
+    let mut count = 0;
+    for value in enumeration.values() {
+        count = put_sum_of(sums, count, options, enumeration, &value);
     }
-    let mut name = [0u8; 512];
-    let size = put_name(&mut name, o, own, p);
-    if size <= 512 {
-        let x = checksums::checksum(&name[0..size]);
-        return checksums::put_sum(sums, n, x);
-    }
-    n
+    count
 }
 
-// The checksums of the names of the values with a mark; and how many they are.
-fn put_sums(sums: &mut [u64], s: &[u8], marks: &[bool], o: &[u8], own: &[u8]) -> usize
-    ensures { Stored sums.new result (map sum_of (names (settings o.now) own.now (marked_in marks.now s.now))) }
-{
-    let mut n: usize = 0;
-    let mut place: usize = 0;
-    let mut i: usize = 0;
-    loop {
-        match wire::read_step(s, place) {
-            Step::End => return n,
-            Step::Fault(_) => return n,
-            Step::Found(f) => {
-                place = f.next;
-                if f.number == 2 {
-                    let kept = is_marked(marks, i);
-                    i = i + 1;
-                    n = put_sum_of(sums, n, parts::embedded(s, f), kept, o, own);
-                }
-            }
-        }
-    }
-}
-
-// Have two values with a mark the same name? Not where no checksum comes twice.
-fn overlaps(s: &[u8], marks: &[bool], o: &[u8], own: &[u8]) -> bool
-    ensures { result ≡ overlap (names (settings o.now) own.now (marked_in marks.now s.now)) }
+/// Have two values the same name? Not where no checksum comes twice.
+fn overlaps(options: &Options<'_>, enumeration: &Enumeration<'_>) -> bool
+    ensures { result ≡ overlap (names options.now enumeration.now.name enumeration.now.values) }
 {
     let mut sums = [0u64; 256];
-    let n = put_sums(&mut sums, s, marks, o, own);
-    if 256 < n {
-        return meets(s, marks, o, own);
+    let count = put_sums(&mut sums, options, enumeration);
+    if count <= 256 && !checksums::repeats(&sums[..count]) {
+        return false;
     }
-    let again = checksums::repeats(&sums[0..n]);
-    if again {
-        return meets(s, marks, o, own);
-    }
-    false
+    meets(options, enumeration)
 }
 
-// Do variants overlap in the enum whose part s is?
-pub fn enum_overlaps(s: &[u8], o: &[u8], scope: &[u8]) -> bool
-    ensures { result ≡ enum_meets (settings o.now) scope.now (decode_enum s.now) }
+/// Do variants overlap in the enum whose bytes are `part`?
+pub fn enum_overlaps(part: &[u8], options: &Options<'_>, scope: &[u8]) -> bool
+    ensures { result ≡ enum_meets options.now scope.now (decode_enum part.now) }
 {
-    let end = s.len();
-    let name = descriptor::name_view(s, 0, end);
-    let own = accessors::text(s, name);
-    let mut path = [0u8; 512];
-    let n = joined::join(&mut path, scope, own);
-    if n <= 512 {
-        let taken = extern_paths::resolve::is_taken(o, &path[0..n]);
-        if taken {
-            return false;
-        }
-        let x = build_enum_value_mappings(s);
-        let marks = x.marks;
-        return overlaps(s, &marks, o, own);
+    let name = name_of(part);
+    let Some(full) = FullName::whole(scope, name) else {
+        return false;
+    };
+    if takes(options, full.as_bytes()) {
+        return false;
     }
-    false
+    let kept = build_enum_value_mappings(part);
+    overlaps(
+        options,
+        &Enumeration::new(full.as_bytes(), name, part, &kept.marks),
+    )
 }

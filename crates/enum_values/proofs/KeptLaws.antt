@@ -2,16 +2,20 @@
 use Prim.Native.Nat.{ℕ, zero, suc, ◌+◌, ◌-◌, ◌≤◌, ◌<◌}
 use native.Mathlib.Omega.{arith}
 use native.Mathlib.Numerals.{add-one}
-use native.Mathlib.Decide.{dec_lt}
-use mathlib.Core.Path.{◌≡◌, refl, sym, ap, ◌∙◌}
+use native.Mathlib.Decide.{dec_lt, ℕ_discrete as dec_eq}
+use mathlib.Core.Path.{◌≡◌, refl, sym, ap, ap₂, ◌∙◌}
 use mathlib.Core.Bool.{Bool, true, false, not, ◌||◌}
-use mathlib.Core.List.{List, [], ◌∷◌}
+use mathlib.Core.List.{List, [], ◌∷◌, map}
 use lib.Dec.{eqb}
+use Rattle.std.proofs.Math.Bool.{or_comm}
+use Rattle.std.specs.List.{list_any}
+use Rattle.std.proofs.lemmas.List.Folds.{list_any_more}
 use lib.ListN.{length, get_or, set, take, length-set, length-replicate}
 use lib.Seq.{take-nil, get_or-set_same, get_or-set_other}
-use borrow.Author.Tests.{lt-ltb, le-ltb, eqb-true, eq-eqb, ne_eqb}
+use borrow.Author.Tests.{lt-ltb, le-ltb, eqb-true, ne_eqb}
 use Rattle.base.specs.Choose.{choose}
-use Rattle.descriptor.specs.Descriptor.{ValueDescriptor}
+use Rattle.descriptor.specs.Descriptor.{Bytes, ValueDescriptor}
+use Rattle.descriptor.specs.Decode.{decode_value}
 use Rattle.code_generator.specs.Enums.{value_number, is_used, mappings_from, build_enum_value_mappings}
 use Rattle.enum_values.specs.Kept.{numbers_before, no_values, note, noted, marked}
 use Rattle.enum_values.specs.declared.Kept.{Kept}
@@ -27,32 +31,72 @@ unfolding marked choose
 none_marked ms i [] h = refl
 none_marked ms i (x ∷ xs) h = rw (past ms i false h) (none_marked ms (i + 1) xs (omega arith))
 
+marked_behind : (m : Bool) (ms : List Bool) (i : ℕ) (xs : List ValueDescriptor) → marked (m ∷ ms) (suc i) xs ≡ marked ms i xs
+unfolding marked
+marked_behind m ms i [] = refl
+marked_behind m ms i (x ∷ xs) =
+    let e : suc i + 1 ≡ suc (i + 1) = omega arith in
+    ap (λ (r : List ValueDescriptor). choose (get_or ms i false) (x ∷ r) r) (ap (λ (k : ℕ). marked (m ∷ ms) k xs) e ∙ marked_behind m ms (i + 1) xs)
+
+-- ---- the values that are left
+pub none_left : (ms : List Bool) (vs : List ValueDescriptor) → length ms ≡ 0 → marked ms 0 vs ≡ []
+none_left ms vs h = none_marked ms 0 vs (omega arith)
+
+-- no more than there are marks
+marked_bound : (ms : List Bool) (i : ℕ) (vs : List ValueDescriptor) → length (marked ms i vs) ≤ length ms - i
+unfolding marked choose
+marked_bound ms i [] = omega arith
+marked_bound ms i (v ∷ vs) = on (dec_lt i (length ms)) (marked_bound ms (i + 1) vs)
+  where
+    both : (t : Bool) → i < length ms → length (marked ms (i + 1) vs) ≤ length ms - (i + 1) → length (choose t (v ∷ marked ms (i + 1) vs) (marked ms (i + 1) vs)) ≤ length ms - i
+    both true l h = omega arith
+    both false l h = omega arith
+
+    on : Dec (i < length ms) → length (marked ms (i + 1) vs) ≤ length ms - (i + 1) → length (marked ms i (v ∷ vs)) ≤ length ms - i
+    on (yes l) h = both (get_or ms i false) l h
+    on (no l) h = rw (past ms i false (omega arith)) (omega arith)
+
+pub few_marked : (ms : List Bool) (vs : List ValueDescriptor) → length (marked ms 0 vs) ≤ length ms
+few_marked ms vs = let h = marked_bound ms 0 vs in omega arith
+
+module _ (ms rest : List Bool) (m : Bool) (ps qs : List Bytes) (p : Bytes) (e : ms ≡ m ∷ rest) (f : ps ≡ p ∷ qs) where
+  first_left : marked ms 0 (map decode_value ps) ≡ choose m (decode_value p ∷ marked rest 0 (map decode_value qs)) (marked rest 0 (map decode_value qs))
+  unfolding marked
+  first_left = rw (e, f, marked_behind m rest 0 (map decode_value qs))
+
+  pub kept_left : m ≡ true → (v : ValueDescriptor) → v ≡ decode_value p → marked ms 0 (map decode_value ps) ≡ v ∷ marked rest 0 (map decode_value qs)
+  unfolding choose
+  kept_left is v q = first_left ∙ rw (is, q)
+
+  pub others_left : m ≡ false → marked rest 0 (map decode_value qs) ≡ marked ms 0 (map decode_value ps)
+  unfolding choose
+  others_left is = sym (first_left ∙ rw is)
+
 -- ---- the numbers in use
 before_set : (t : List ℕ) (c n j : ℕ) → j ≤ c → numbers_before (set t c n) j ≡ numbers_before t j
 unfolding numbers_before
 before_set t c n zero h = refl
 before_set t c n (suc j) h = rw (get_or-set_other t c j n 0 (λ e. omega arith), before_set t c n j (omega arith))
 
+turned : (n m : ℕ) (u : Bool) → (u || eqb m n) ≡ (eqb n m || u)
+turned n m u = or_comm u (eqb m n) ∙ ap (λ (t : Bool). t || u) (go (dec_eq m n))
+  where
+    go : Dec (m ≡ n) → eqb m n ≡ eqb n m
+    go (yes e) = ap₂ eqb e (sym e)
+    go (no ne) = ne_eqb m n ne ∙ sym (ne_eqb n m (λ e. ne (sym e)))
+
 before_more : (t : List ℕ) (c n : ℕ) → c < length t → numbers_before (set t c n) (c + 1) ≡ n ∷ numbers_before t c
 unfolding numbers_before
 before_more t c n h = rw (add-one, get_or-set_same t c n 0 h, before_set t c n c (omega arith))
 
-pub used_hit : (t : List ℕ) (n i : ℕ) → 0 < i → n ≡ get_or t (i - 1) 0 → is_used n (numbers_before t i) ≡ true
+-- the numbers of a table from its start on
+pub used_before : (t : List ℕ) (n c : ℕ) → c ≤ length t → list_any (λ (m : ℕ). eqb m n) (take c t) ≡ is_used n (numbers_before t c)
 unfolding numbers_before is_used
-used_hit t n zero h e = absurd (omega arith)
-used_hit t n (suc i) h e = let z : suc i - 1 ≡ i = omega arith in let q : n ≡ get_or t i 0 = e ∙ ap (λ (k : ℕ). get_or t k 0) z in rw (eq-eqb n (get_or t i 0) q)
-
-pub used_miss : (t : List ℕ) (n i : ℕ) → 0 < i → (n ≡ get_or t (i - 1) 0 → ⊥) → is_used n (numbers_before t i) ≡ is_used n (numbers_before t (i - 1))
-unfolding numbers_before is_used
-used_miss t n zero h e = absurd (omega arith)
-used_miss t n (suc i) h e =
-    let z : suc i - 1 ≡ i = omega arith in
-    let q : n ≡ get_or t i 0 → ⊥ = λ (p : n ≡ get_or t i 0). e (p ∙ ap (λ (k : ℕ). get_or t k 0) (sym z)) in
-    rw (z, ne_eqb n (get_or t i 0) q)
-
-pub used_start : (t : List ℕ) (n i : ℕ) → i ≡ 0 → false ≡ is_used n (numbers_before t i)
-unfolding numbers_before is_used
-used_start t n i e = rw e
+used_before t n zero h = refl
+used_before t n (suc c) h =
+    ap (λ (k : ℕ). list_any (λ (m : ℕ). eqb m n) (take k t)) (sym (add-one c))
+    ∙ list_any_more (λ (m : ℕ). eqb m n) t c 0 (omega arith)
+    ∙ rw (used_before t n c (omega arith)) (turned n (get_or t c 0) (is_used n (numbers_before t c)))
 
 -- a number that is used already makes no difference
 used_again : (k n : ℕ) (us : List ℕ) → is_used n us ≡ true → is_used k (n ∷ us) ≡ is_used k us

@@ -1,20 +1,25 @@
-// build_enum_value_mappings: which values of an enum are kept, and the names of their variants.
+//! build_enum_value_mappings: which values of an enum are kept, and the names of their variants.
 #![tactic(auto)]
 
-ghost use Rattle.std.specs.Prelude.{◌≡◌, false, ◌<◌, get_or};
-ghost use Rattle.writer.specs.Wrote.{Wrote};
-ghost use Rattle.options.specs.Settings.{settings, strips_prefix};
-ghost use Rattle.descriptor.specs.Views.{number_of};
-ghost use Rattle.descriptor.specs.Decode.{decode_value};
-ghost use Rattle.name_rules.specs.Accessors.{or_else};
+ghost use Rattle.std.specs.Prelude.{◌≡◌, ◌<◌, ◌≤◌, ◌^◌, length};
+ghost use Rattle.std.specs.Iterator.{item_count, YieldsFirst};
+ghost use Rattle.writer.specs.Writing.{◌▻◌};
+ghost use Rattle.options.specs.Settings.{strips_prefix};
+ghost use Rattle.descriptor.specs.Accessors.{text};
 ghost use Rattle.code_generator.specs.Piece.{spelt, variant};
 ghost use Rattle.code_generator.specs.Enums.{value_number, is_used};
-ghost use Rattle.enum_values.specs.Kept.{numbers_before, no_values, note, noted, values_in};
+ghost use Rattle.enum_values.specs.Kept.{numbers_before, no_values, note, noted, values_in, marked_in};
 
-use descriptor::Number;
-use wire::Step;
+use descriptor::EnumValueDescriptor;
+use options::Options;
+use parts::Parts;
+use std::marker::Model;
+use writer::Text;
 
-// How many values were met, their numbers, and a mark for each that is kept: its number was not used before.
+// EnumDescriptorProto in descriptor.proto
+const VALUE: u64 = 2;
+
+/// Which values of an enum are kept: how many were met, their numbers, and a mark for each whose number none before it has.
 #[derive(Clone, Copy)]
 pub struct Kept {
     pub count: usize,
@@ -22,106 +27,181 @@ pub struct Kept {
     pub marks: [bool; 256],
 }
 
-// A number, where it is missing 0.
-fn number_in(n: Number) -> u32
-    ensures { result ≡ or_else 0 (number_of n) }
-{
-    if n.given {
-        return n.value;
-    }
-    0
-}
-
-fn is_used(x: Kept, number: u32) -> bool
-    requires { x.count < 256 }
-    ensures { result ≡ is_used number (numbers_before x.numbers x.count) }
-{
-    let mut i = x.count;
-    while 0 < i {
-        i = i - 1;
-        if number == x.numbers[i] {
-            return true;
+impl Kept {
+    fn none() -> Kept
+        ensures { result ≡ no_values }
+    {
+        Kept {
+            count: 0,
+            numbers: [0; 256],
+            marks: [false; 256],
         }
     }
-    false
-}
 
-fn with_value(x: Kept, number: u32) -> Kept
-    ensures { result ≡ note number x }
-{
-    let mut y = x;
-    let i = x.count;
-    if i < 256 {
-        let again = is_used(x, number);
-        y.numbers[i] = number;
-        y.marks[i] = !again;
-        y.count = i + 1;
-        return y;
+    fn is_used(&self, number: u32) -> bool
+        requires { self.now.count < 256 }
+        ensures { result ≡ is_used number (numbers_before self.now.numbers self.now.count) }
+    {
+        self.numbers[..self.count].contains(&number)
     }
-    y
-}
 
-// The number of the value whose part p is.
-fn number_of_part(p: &[u8]) -> u32
-    ensures { result ≡ value_number (decode_value p.now) }
-{
-    let end = p.len();
-    let v = descriptor::value_view(p, 0, end);
-    let n = v.number;
-    number_in(n)
-}
-
-fn none_yet() -> Kept
-    ensures { result ≡ no_values }
-{
-    let numbers = [0u32; 256];
-    let marks = [false; 256];
-    Kept {
-        count: 0,
-        numbers: numbers,
-        marks: marks,
+    /// One value more. Those past limit 6 are not kept.
+    #[tactic(auto, unfolding(crate::specs::Kept::note, base::specs::Choose::choose))]
+    fn add(&mut self, number: u32)
+        ensures { self.new ≡ note number self.old }
+    {
+        let count = self.count;
+        if count < 256 {
+            self.marks[count] = !self.is_used(number);
+            self.numbers[count] = number;
+            self.count = count + 1;
+        }
     }
 }
 
-// build_enum_value_mappings: which values of an enum's part are kept.
-pub fn build_enum_value_mappings(s: &[u8]) -> Kept
-    ensures { result ≡ noted no_values (values_in s.now) }
+/// The number of an enum's value; none reads as 0.
+pub fn value_number(value: &EnumValueDescriptor<'_>) -> u32
+    ensures { result ≡ value_number value.now }
 {
-    let mut at: usize = 0;
-    let mut x = none_yet();
-    loop {
-        match wire::read_step(s, at) {
-            Step::End => return x,
-            Step::Fault(_) => return x,
-            Step::Found(f) => {
-                at = f.next;
-                if f.number == 2 {
-                    let n = number_of_part(parts::embedded(s, f));
-                    x = with_value(x, n);
-                }
+    value.number.unwrap_or_default()
+}
+
+/// The name of an enum's value; none reads as no bytes.
+pub fn value_name<'a>(value: &EnumValueDescriptor<'a>) -> &'a [u8]
+    ensures { result.now ≡ text value.now.name }
+{
+    value.name.unwrap_or_default()
+}
+
+/// build_enum_value_mappings: which values of an enum's part are kept.
+#[tactic(auto, unfolding(crate::specs::Kept::noted))]
+pub fn build_enum_value_mappings(part: &[u8]) -> Kept
+    ensures { result ≡ noted no_values (values_in part.now) }
+{
+    let mut kept = Kept::none();
+    for value in Parts::new(part, VALUE) {
+        kept.add(value_number(&EnumValueDescriptor::new(value)));
+    }
+    kept
+}
+
+/// The values of an enum that have a mark and are left.
+#[derive(Drop)]
+pub struct Values<'a> {
+    parts: Parts<'a>,
+    marks: &'a [bool],
+}
+
+impl<'a> Model for Values<'a> {
+    ghost use Rattle.std.specs.Prelude.{List, map};
+    ghost use Rattle.descriptor.specs.Descriptor.{ValueDescriptor};
+    ghost use Rattle.descriptor.specs.Decode.{decode_value};
+    ghost use Rattle.enum_values.specs.Kept.{marked};
+
+    ghost Value = { List ValueDescriptor };
+
+    ghost view = { λ v. marked v.marks.now 0 (map decode_value v.parts) };
+}
+
+impl<'a> Values<'a> {
+    /// Those of an enum's part; the first value's mark is the first.
+    #[tactic(auto, using(crate::proofs::KeptLaws::few_marked))]
+    pub fn new(part: &'a [u8], marks: &'a [bool]) -> Self
+        ensures values { result ≡ marked_in marks.now part.now }
+        ensures bound { length result ≤ length marks.now }
+    {
+        Values {
+            parts: Parts::new(part, VALUE),
+            marks,
+        }
+    }
+}
+
+impl<'a> Iterator for Values<'a> {
+    type Item = EnumValueDescriptor<'a>;
+
+    ghost next_gives = { YieldsFirst (λ rest. rest) };
+
+    ghost remaining = { item_count (λ rest. rest) };
+
+    fn next(&mut self) -> Option<EnumValueDescriptor<'a>> {
+        while let Some(part) = self.parts.next() {
+            let Some((kept, marks)) = self.marks.split_first() else {
+                return None;
+            };
+            self.marks = marks;
+            if *kept {
+                return Some(EnumValueDescriptor::new(part));
             }
         }
+        None
     }
 }
 
-pub fn is_marked(marks: &[bool], i: usize) -> bool
-    ensures { result ≡ get_or marks.now i false }
-{
-    if i < marks.len() {
-        return marks[i];
-    }
-    false
+/// An enum that is written: its full name, its own, and its values that have a mark.
+#[derive(Drop)]
+pub struct Enumeration<'a> {
+    full: &'a [u8],
+    name: &'a [u8],
+    part: &'a [u8],
+    marks: &'a [bool],
 }
 
-// The variant's name of a value, in an enum of the name `own`.
-pub fn put_variant_name(t: &mut [u8], at: usize, o: &[u8], own: &[u8], name: &[u8]) -> usize
-    ensures { Wrote t.old at (spelt (variant (strips_prefix (settings o.now)) own.now name.now)) t.new result }
-{
-    let strip = options::strips(o);
-    if strip {
-        let n = ident::put_variant(t, at, own, name);
-        return n.next;
+impl<'a> Model for Enumeration<'a> {
+    ghost use Rattle.std.specs.Prelude.{◌<◌, ◌^◌, length};
+    ghost use Rattle.enum_values.specs.Enumeration.{Enumeration};
+    ghost use Rattle.enum_values.specs.Kept.{marked_in};
+
+    ghost Value = { Enumeration };
+
+    ghost view = { λ e. record { full = e.full.now; name = e.name.now; values = marked_in e.marks.now e.part.now } };
+
+    ghost invariant = { λ e. length e.marks.now < 2 ^ 63 };
+}
+
+impl<'a> Enumeration<'a> {
+    /// The enum whose bytes are `part`.
+    pub fn new(full: &'a [u8], name: &'a [u8], part: &'a [u8], marks: &'a [bool]) -> Self
+        ensures { result ≡ record { full = full.now; name = name.now; values = marked_in marks.now part.now } }
+    {
+        Enumeration {
+            full,
+            name,
+            part,
+            marks,
+        }
     }
-    let n = ident::put_upper_camel(t, at, name);
-    n.next
+
+    /// The full name.
+    pub fn full(&self) -> &'a [u8]
+        ensures { result.now ≡ self.now.full }
+    {
+        self.full
+    }
+
+    /// Its own name.
+    pub fn name(&self) -> &'a [u8]
+        ensures { result.now ≡ self.now.name }
+    {
+        self.name
+    }
+
+    /// The values that have a mark.
+    pub fn values(&self) -> Values<'a>
+        ensures values { result ≡ self.now.values }
+        ensures bound { length result < 2 ^ 63 }
+    {
+        Values::new(self.part, self.marks)
+    }
+}
+
+/// The variant's name of a value with this name, in an enum of the name `enumeration`.
+pub fn put_variant_name(text: &mut Text<'_>, options: &Options<'_>, enumeration: &[u8], name: &[u8])
+    ensures { text.new ≡ text.old ▻ spelt (variant (strips_prefix options.now) enumeration.now name.now) }
+{
+    if options.strips_enum_prefix() {
+        ident::text::put_variant(text, enumeration, name);
+    } else {
+        ident::text::put_upper_camel(text, name);
+    }
 }

@@ -12,6 +12,7 @@ ghost use Rattle.file_faults.specs.FileFaults.{no_faults, ◌or◌, default_fail
 
 use descriptor::Text;
 use joined::MAX_PATH;
+use options::Options;
 use parts::Parts;
 
 /// Variants of a written enum overlap (8); a bytes default to be written doesn't unescape (9).
@@ -45,7 +46,8 @@ fn or(x: Faults, y: Faults) -> Faults
 fn enums_meet(s: &[u8], number: u64, o: &[u8], scope: &[u8]) -> bool
     ensures { result ≡ enums_meet (settings o.now) scope.now (parts number (entries s.now)) }
 {
-    Parts::new(s, number).any(|part| enum_text::overlap::enum_overlaps(part, o, scope))
+    let options = Options::new(o);
+    Parts::new(s, number).any(|part| enum_text::overlap::enum_overlaps(part, &options, scope))
 }
 
 // Does field k name a map entry?

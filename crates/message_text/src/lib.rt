@@ -124,7 +124,7 @@ fn append_module(
     let a = append_messages(
         t, a, o, set, messages, fields, proto3, full, first, p, 3, left,
     );
-    let a = enum_text::append_enums(t, a, p, o, inner, full, 4);
+    let a = enum_text::append_enums_at(t, a, p, o, inner, full, 4);
     let a = oneof_text::append_oneofs(t, a, o, set, messages, fields, inner, full, deeper, i, p);
     attributes::end(t, a, depth)
 }
@@ -287,5 +287,5 @@ pub fn append_file(
     let a = append_messages(
         t, 0, o, set, messages, fields, proto3, scope, first, p, 4, 16,
     );
-    enum_text::append_enums(t, a, p, o, 0, scope, 5)
+    enum_text::append_enums_at(t, a, p, o, 0, scope, 5)
 }

@@ -1,12 +1,8 @@
-use Prim.Native.Nat.{◌-◌}
-use lib.ListN.{length}
-use Rattle.options.specs.Settings.{settings}
-use Rattle.attributes.proofs.Onward.{Onward}
-use Rattle.enum_arms.proofs.ValueLaws.{Walked, texts_from}
+use mathlib.Core.Path.{◌≡◌}
+use Rattle.code_generator.specs.Writing.{◌⊳◌}
+use Rattle.enum_arms.specs.ValueText.{value_texts}
 use Rattle.enum_arms.proofs.put_values.Given as goal
 
-abbrev pub invariant-loop-f : goal.invariant-loop-f
-invariant-loop-f l = Onward l.initial.t l.at (texts_from (settings l.o) l.sort l.d l.full l.own l.marks 0 l.s 0) l.t l.a (texts_from (settings l.o) l.sort l.d l.full l.own l.marks l.i l.s l.place) × Walked l.i l.place l.s
-
-abbrev pub decreases-loop-f : goal.decreases-loop-f
-decreases-loop-f l = length l.s - l.place
+abbrev pub invariant-loop-value : goal.invariant-loop-value
+invariant-loop-value l =
+    l.text ⊳ value_texts l.options l.arm l.depth l.enumeration.full l.enumeration.name l.value-iterator ≡ l.initial.text ⊳ value_texts l.options l.arm l.depth l.enumeration.full l.enumeration.name l.enumeration.values

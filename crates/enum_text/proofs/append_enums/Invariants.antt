@@ -1,12 +1,10 @@
-use Prim.Native.Nat.{◌-◌}
-use lib.ListN.{length}
-use Rattle.options.specs.Settings.{settings}
-use Rattle.attributes.proofs.Onward.{Onward}
-use Rattle.enum_text.proofs.WalkLaws.{enums_from}
+use mathlib.Core.Path.{◌≡◌}
+use mathlib.Core.List.{map}
+use Rattle.descriptor.specs.Decode.{decode_enum}
+use Rattle.writer.specs.Writing.{◌▻◌}
+use Rattle.enum_text.specs.EnumText.{enum_texts, enums_in}
 use Rattle.enum_text.proofs.append_enums.Given as goal
 
-abbrev pub invariant-loop-f : goal.invariant-loop-f
-invariant-loop-f l = Onward l.initial.t l.at (enums_from (settings l.o) l.d l.scope l.number l.s 0) l.t l.a (enums_from (settings l.o) l.d l.scope l.number l.s l.place)
-
-abbrev pub decreases-loop-f : goal.decreases-loop-f
-decreases-loop-f l = length l.s - l.place
+abbrev pub invariant-loop-enumeration : goal.invariant-loop-enumeration
+invariant-loop-enumeration l =
+    l.text ▻ enum_texts l.options l.depth l.scope (map decode_enum l.enumeration-iterator) ≡ l.initial.text ▻ enum_texts l.options l.depth l.scope (enums_in l.fn.number l.fn.part)

@@ -1,12 +1,8 @@
-use Prim.Native.Nat.{◌-◌}
-use lib.ListN.{length}
 use mathlib.Core.Path.{◌≡◌}
+use mathlib.Core.List.{map}
+use Rattle.descriptor.specs.Decode.{decode_value}
 use Rattle.enum_values.specs.Kept.{no_values, noted, values_in}
-use Rattle.enum_values.proofs.NotedLaws.{noted_from}
 use Rattle.enum_values.proofs.build_enum_value_mappings.Given as goal
 
-abbrev pub invariant-loop-x : goal.invariant-loop-x
-invariant-loop-x l = noted_from l.s l.at l.x ≡ noted no_values (values_in l.s)
-
-abbrev pub decreases-loop-x : goal.decreases-loop-x
-decreases-loop-x l = length l.s - l.at
+abbrev pub invariant-loop-value : goal.invariant-loop-value
+invariant-loop-value l = noted l.kept (map decode_value l.value-iterator) ≡ noted no_values (values_in l.part)

@@ -78,7 +78,7 @@ pub append_module-append_messages-a-requires : goal.append_module-append_message
 append_module-append_messages-a-requires t c = (omega arith, (omega (arith, c.requires.0), omega (arith, c.requires.1)))
 
 pub append_module-returns : goal.append_module-returns
-append_module-returns t c = text_of_module _ _ _ _ _ _ _ c.requires.0 c.wide-depth.ensures.0 _ _ _ _ _ c.name_of.ensures c.push_mod-a.ensures c.append_messages-a.ensures c.append_enums-a.ensures c.append_oneofs-a.ensures c.end.ensures
+append_module-returns t c = text_of_module _ _ _ _ _ _ _ c.requires.0 c.wide-depth.ensures.0 _ _ _ _ _ c.name_of.ensures c.push_mod-a.ensures c.append_messages-a.ensures c.append_enums_at-a.ensures c.append_oneofs-a.ensures c.end.ensures
 
 pub append_next-append_message-n-requires : goal.append_next-append_message-n-requires
 append_next-append_message-n-requires t c = (omega arith, c.requires)

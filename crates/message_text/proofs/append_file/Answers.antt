@@ -25,4 +25,4 @@ returns c =
     let scope = sliced c.package_in-n.new.t _ c.package_in-n.result c.package_in-n.ensures.1 in
     let text : Bool → List ℕ → ℕ → List ℕ = λ proto3 x i. message_texts rs c.args.set.now c.args.messages.now c.args.fields.now proto3 16 0 x i (parts 4 (entries p)) in
     named (ap₂ (λ (proto3 : Bool) (x : List ℕ). text proto3 x c.wide-first.result) c.is_proto3-proto3.ensures scope ∙ ap (text _ _) c.wide-first.ensures.0) c.append_messages-a.ensures
-    ► named (ap (λ (x : List ℕ). enum_texts rs 0 x (enums_in 5 p)) scope) c.append_enums.ensures
+    ► named (ap (λ (x : List ℕ). enum_texts rs 0 x (enums_in 5 p)) scope) c.append_enums_at.ensures

@@ -1,14 +1,5 @@
-use Prim.Native.Nat.{◌-◌}
-use lib.ListN.{length}
-use mathlib.Core.Path.{◌≡◌}
-use Rattle.options.specs.Settings.{settings}
-use Rattle.enum_text.specs.Overlap.{names_from}
-use Rattle.enum_arms.proofs.ValueLaws.{Walked}
-use Rattle.code_generator.specs.Refusals.{overlap}
+use Rattle.enum_text.proofs.OverlapLaws.{Passed}
 use Rattle.enum_text.proofs.overlap.meets.Given as goal
 
-abbrev pub invariant-loop-f : goal.invariant-loop-f
-invariant-loop-f l = (overlap (names_from (settings l.o) l.own l.marks l.i l.s l.place) ≡ overlap (names_from (settings l.o) l.own l.marks 0 l.s 0)) × Walked l.i l.place l.s
-
-abbrev pub decreases-loop-f : goal.decreases-loop-f
-decreases-loop-f l = length l.s - l.place
+abbrev pub invariant-loop-value : goal.invariant-loop-value
+invariant-loop-value l = Passed l.options l.enumeration.name l.enumeration.values l.value-iterator l.from
