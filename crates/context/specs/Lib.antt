@@ -1,2 +1,3 @@
 pub mod MessageGraph
 pub mod Context
+pub mod Given

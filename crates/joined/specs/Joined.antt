@@ -1,6 +1,6 @@
 -- A full name with a name behind it, in a buffer. Assumes nothing.
 use Rattle.std.specs.Prelude.{◌≡◌, Bool, true, false, List, ℕ, ◌+◌, ◌-◌, ◌≤◌, ◌<◌, ◌^◌, min, leb, drop}
-use Rattle.std.proofs.Common.{sym, ◌∙◌, take-append-drop, take_all, length-take-le, le-leb}
+use Rattle.std.proofs.Common.{refl, sym, ◌∙◌, take-append-drop, take_all, length-take-le, le-leb}
 use Rattle.std.proofs.Math.Path.{ap}
 use native.Mathlib.Omega.{arith}
 use Rattle.std.proofs.Math.Decide.{dec_le}
@@ -8,6 +8,9 @@ use Rattle.std.proofs.Math.ListN.{length, take}
 use Rattle.std.proofs.Math.Seq.{sets-eq, take-append_seam}
 use Rattle.std.proofs.lemmas.Bool.{lt-leb}
 use Rattle.writer.specs.Wrote.{Wrote, over, after, kept, over_cut}
+use Rattle.writer.specs.Draft.{Draft, most, extended, Filled}
+use Rattle.writer.proofs.Laying.{sets-take}
+use Rattle.base.specs.Choose.{choose}
 use Rattle.descriptor.specs.Descriptor.{Bytes}
 use Rattle.name_rules.specs.FullNames.{◌·◌}
 
@@ -65,6 +68,36 @@ by_room : (t p : List ℕ) (n : ℕ) → n ≡ min (length p) (length t) → Dec
 by_room t p n e (yes h) =
     let m : n ≡ length p = omega arith in ap (λ (k : ℕ). take k (over t 0 p)) m ∙ over_short t p h ∙ sym (take_all (length t) p h)
 by_room t p n e (no h) = let m : n ≡ length t = omega arith in ap (λ (k : ℕ). take k (over t 0 p)) m ∙ over_long t p (omega arith)
+
+-- a text in a buffer of that length
+module _ {t p t' : List ℕ} {n : ℕ} (w : Filled t p t' n) (size : length t ≡ max_path) where
+  long : n ≡ min (length p) most
+  unfolding extended
+  long = ap (λ (d : Draft). d.length) w.is ∙ omega arith
+
+  laid : t' ≡ over t 0 p
+  unfolding extended over
+  laid = ap (λ (d : Draft). d.buffer) w.is ∙ sets-take t p 0 most (omega arith)
+
+  -- so many bytes of it are used
+  pub text_used : {k : ℕ} → k ≡ min n max_path → take k t' ≡ take max_path p
+  text_used {k} e =
+      let l = long in
+      let m : k ≡ min (length p) (length t) = omega arith in
+      ap (take k) laid ∙ by_room t p k m (dec_le (length p) (length t)) ∙ ap (λ (k : ℕ). take k p) size
+
+  -- it is there as a whole, or is too long
+  pub text_whole : {A : Type 0} (f : Bytes → A) (z : A) → n ≤ max_path → f (take n t') ≡ choose (leb (length p) max_path) (f p) z
+  unfolding choose
+  text_whole f z h =
+      let l = long in
+      rw (le-leb (length p) max_path (omega arith)) (ap f (text_used (omega arith) ∙ take_all max_path p (omega arith)))
+
+  pub text_long : {A : Type 0} (f : Bytes → A) (z : A) → max_path < n → z ≡ choose (leb (length p) max_path) (f p) z
+  unfolding choose
+  text_long f z h =
+      let l = long in
+      rw (lt-leb (length p) max_path (omega arith)) refl
 
 -- n bytes of a buffer are used
 pub used : {t t' p : List ℕ} {r n : ℕ} → Wrote t 0 p t' r → n ≡ min r (length t') → (n ≤ length t') × (take n t' ≡ take (length t) p)

@@ -1,16 +1,112 @@
-// A full name with a name behind it, such as `.a.b.M` and `f`, in a buffer.
+//! A full name with a name behind it, such as `.a.b.M` and `f`.
 #![tactic(auto)]
 
-ghost use Rattle.std.specs.Prelude.{◌≡◌, ◌≤◌, length, take, []};
+ghost use Rattle.std.specs.Prelude.{◌≡◌, ◌≤◌, length, take, [], Some, None};
+ghost use Rattle.base.specs.Choose.{choose};
 ghost use Rattle.writer.specs.Wrote.{over, Wrote};
+ghost use Rattle.writer.specs.Draft.{Filled};
+ghost use Rattle.writer.specs.Writing.{◌▻◌};
 ghost use Rattle.descriptor.specs.Decode.{decode_oneof, decode_file};
 ghost use Rattle.name_rules.specs.Accessors.{text};
 ghost use Rattle.name_rules.specs.FullNames.{◌·◌, package_scope};
+ghost use Rattle.joined.specs.Joined.{fits, ◌⊙◌};
 
-// The length of a buffer that holds the longest path of a set within the limits.
+use descriptor::FileHeader;
+use std::marker::Model;
+use writer::Text;
+
+/// The length of a buffer that holds the longest path of a set within the limits.
 pub const MAX_PATH: usize = 512;
 
-// The path of a name in a scope: `.a.b` and T give `.a.b.T`. The answer is its length, also where the buffer is too short.
+/// A full name, such as `.a.b.M`.
+#[derive(Drop)]
+pub struct FullName {
+    bytes: [u8; MAX_PATH],
+    length: usize,
+}
+
+impl Model for FullName {
+    ghost use Rattle.std.specs.Prelude.{◌≤◌, take};
+    ghost use Rattle.descriptor.specs.Descriptor.{Bytes};
+    ghost use Rattle.joined.specs.Joined.{max_path};
+
+    ghost Value = { Bytes };
+
+    ghost view = { λ f. take f.length f.bytes };
+
+    ghost invariant = { λ f. f.length ≤ max_path };
+}
+
+// A scope, a dot and a name.
+fn put_path(text: &mut Text<'_>, scope: &[u8], name: &[u8])
+    ensures { text.new ≡ text.old ▻ (scope.now · name.now) }
+{
+    text.put(scope);
+    text.put_byte(b'.');
+    text.put(name);
+}
+
+// The path of a name in a scope, as far as the buffer goes, and its length.
+fn fill_path(buffer: &mut [u8], scope: &[u8], name: &[u8]) -> usize
+    ensures { Filled buffer.old (scope.now · name.now) buffer.new result }
+{
+    let mut text = Text::new(buffer);
+    put_path(&mut text, scope, name);
+    text.length
+}
+
+impl FullName {
+    /// The scope around all packages: no bytes.
+    pub fn root() -> FullName
+        ensures { result ≡ [] }
+    {
+        FullName {
+            bytes: [0u8; MAX_PATH],
+            length: 0,
+        }
+    }
+
+    /// The path of a name in a scope: `.a.b` and T give `.a.b.T`. Cut where it has over `MAX_PATH` bytes.
+    pub fn new(scope: &[u8], name: &[u8]) -> FullName
+        ensures { result ≡ scope.now ⊙ name.now }
+    {
+        let mut bytes = [0u8; MAX_PATH];
+        let length = fill_path(&mut bytes, scope, name).min(MAX_PATH);
+        FullName { bytes, length }
+    }
+
+    /// The same, where it fits; else none.
+    pub fn whole(scope: &[u8], name: &[u8]) -> Option<FullName>
+        ensures { result ≡ choose (fits scope.now name.now) (Some (scope.now · name.now)) None }
+    {
+        let mut bytes = [0u8; MAX_PATH];
+        let length = fill_path(&mut bytes, scope, name);
+        if MAX_PATH < length {
+            return None;
+        }
+        Some(FullName { bytes, length })
+    }
+
+    /// The scope of a file's declarations: its package behind a dot, or nothing. Cut where it has over `MAX_PATH` bytes.
+    pub fn package(part: &[u8]) -> FullName
+        ensures { result ≡ take 512 (package_scope (decode_file part.now).package_name) }
+    {
+        let header = FileHeader::new(part);
+        match header.package {
+            Some(name) => FullName::new(b"", name),
+            None => FullName::root(),
+        }
+    }
+
+    /// Its bytes.
+    pub fn as_bytes(&self) -> &[u8]
+        ensures { result.now ≡ self.now }
+    {
+        &self.bytes[..self.length]
+    }
+}
+
+/// The path of a name in a scope: `.a.b` and T give `.a.b.T`. The answer is its length, also where the buffer is too short.
 pub fn join(t: &mut [u8], scope: &[u8], name: &[u8]) -> usize
     ensures { Wrote t.old 0 (scope.now · name.now) t.new result }
 {
@@ -19,7 +115,7 @@ pub fn join(t: &mut [u8], scope: &[u8], name: &[u8]) -> usize
     writer::put(t, a, name)
 }
 
-// The same, cut at the buffer's end: so many bytes of it are used.
+/// The same, cut at the buffer's end: so many bytes of it are used.
 pub fn path_in(t: &mut [u8], scope: &[u8], name: &[u8]) -> usize
     ensures { (result ≤ length t.new) × (take result t.new ≡ take (length t.old) (scope.now · name.now)) × (t.new ≡ over t.old 0 (scope.now · name.now)) }
 {
@@ -27,24 +123,20 @@ pub fn path_in(t: &mut [u8], scope: &[u8], name: &[u8]) -> usize
     writer::within(n, t.len())
 }
 
-// The name of a message, field, oneof, enum or value; a missing one is empty.
-pub fn name_of(s: &[u8]) -> &[u8]
-    ensures { result.now ≡ text (decode_oneof s.now) }
+/// The name of a message, field, oneof, enum or value; a missing one is empty.
+pub fn name_of(part: &[u8]) -> &[u8]
+    ensures { result.now ≡ text (decode_oneof part.now) }
 {
-    let end = s.len();
-    let name = descriptor::name_view(s, 0, end);
-    name_rules::text_bytes(s, name)
+    descriptor::name_of(part).unwrap_or_default()
 }
 
-// The scope of a file's declarations: its package behind a dot, or nothing; cut at the buffer's end.
+/// The scope of a file's declarations: its package behind a dot, or nothing; cut at the buffer's end.
 pub fn package_in(t: &mut [u8], s: &[u8]) -> usize
     ensures { (result ≤ length t.new) × (take result t.new ≡ take (length t.old) (package_scope (decode_file s.now).package_name)) × (t.new ≡ over t.old 0 (package_scope (decode_file s.now).package_name)) }
 {
-    let end = s.len();
-    let file = descriptor::file_view(s, 0, end);
-    let name = file.package;
-    if name.given {
-        return path_in(t, &s[0..0], name_rules::text_bytes(s, name));
+    let file = FileHeader::new(s);
+    match file.package {
+        Some(name) => path_in(t, b"", name),
+        None => 0,
     }
-    0
 }

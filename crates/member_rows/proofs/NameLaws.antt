@@ -6,7 +6,6 @@ use Prim.Native.Nat.{ℕ, suc, ◌+◌, ◌-◌, ◌≤◌, ◌<◌, min}
 use native.Mathlib.Omega.{arith}
 use native.Mathlib.Numerals.{add-one}
 use lib.ListN.{length, take, drop}
-use lib.Seq.{length-take-le}
 use Rattle.base.specs.Choose.{choose}
 use Rattle.base.specs.Lists.{is_empty}
 use Rattle.base.specs.Tests.{both_ways}
@@ -47,12 +46,11 @@ oneof_row_is messages t p i x q e f =
     ap (λ (ks : List ℕ). choose (is_empty ks) [] (name_row false (name_in q))) (members_are messages t p (x + 1) i e f ∙ ap (λ (c : ℕ). members messages t c i p) (add-one x))
 
 -- ---- the rows that a buffer has
-pub laid : {t t' p : List ℕ} {r n : ℕ} → Wrote t 0 p t' r → n ≡ min r (length t') → (z : Bool) → z ≡ overlap (rows_in n (take (n - 0) (drop 0 t'))) → z ≡ rows_overlap (length t) p
+pub laid : {t t' p : List ℕ} {r n : ℕ} → Wrote t 0 p t' r → n ≡ min r (length t') → (z : Bool) → z ≡ overlap (rows_in (length (take (n - 0) (drop 0 t'))) (take (n - 0) (drop 0 t'))) → z ≡ rows_overlap (length t) p
 unfolding rows_overlap
 laid {t} {t'} {p} {r} {n} w e z q =
     let u = used w e in
-    let size : n ≡ length (take (length t) p) = sym (length-take-le n t' u.0) ∙ ap length u.1 in
-    q ∙ ap₂ (λ (k : ℕ) (s : List ℕ). overlap (rows_in k s)) size (sliced t' (take (length t) p) n u.1)
+    q ∙ ap (λ (s : List ℕ). overlap (rows_in (length s) s)) (sliced t' (take (length t) p) n u.1)
 
 -- ---- the oneofs of a message, one on
 module _ (room : ℕ) (set messages t : List ℕ) (i : ℕ) (p : Bytes) (n x : ℕ) where

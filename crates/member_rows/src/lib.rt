@@ -103,7 +103,7 @@ fn struct_meets(
     let a = put_fields(t, 0, set, fields, false, 0, range.first, range.last);
     let a = put_oneofs(t, a, messages, fields, i, p);
     let n = a.min(t.len());
-    name_rows::rows_meet(&t[0..n], n)
+    name_rows::rows_meet(&t[0..n])
 }
 
 // Do the names of two variants of the oneof c?
@@ -119,7 +119,7 @@ fn variants_meet(
 {
     let a = put_fields(t, 0, set, fields, true, c, first, last);
     let n = a.min(t.len());
-    name_rows::rows_meet(&t[0..n], n)
+    name_rows::rows_meet(&t[0..n])
 }
 
 // Of one of the oneofs of message i?

@@ -4,6 +4,8 @@ use Rattle.std.proofs.Math.Option.{Option, none}
 use Rattle.base.specs.Bytes.{same}
 use Rattle.base.specs.Choose.{choose}
 use Rattle.base.specs.Lists.{all, any}
+use Rattle.derives.specs.declared.Derive.{Derive}
+use Rattle.derives.specs.declared.Derive.TheVariants.{Copy, Eq}
 use Rattle.checksums.specs.Sums.{sum_of}
 use Rattle.wire.specs.Records.{part}
 use Rattle.ident.specs.Ident.{to_upper_camel}
@@ -14,6 +16,7 @@ use Rattle.name_rules.specs.Accessors.{text, is_repeated}
 use Rattle.context.specs.Context.{has}
 use Rattle.joined.specs.Joined.{max_path, ◌⊙◌}
 use Rattle.text_tables.specs.Rows.{message_row, field_row}
+use Rattle.members.specs.Seen.{OneofSeen}
 use Rattle.code_generator.specs.MapFields.{MapEntry, entry_of}
 
 -- the name of a message, oneof or enum, given as its bytes
@@ -41,6 +44,10 @@ unfoldable pub numbers_with : List ℕ → ℕ → ℕ → ℕ → List ℕ
 numbers_with t c zero k = []
 numbers_with t c (suc n) k = choose (eqb (field_row t k).oneof c) (k ∷ numbers_with t c n (suc k)) (numbers_with t c n (suc k))
 
+-- those of a oneof
+abbrev pub oneof_members : List ℕ → OneofSeen → List ℕ
+oneof_members t o = numbers_with t o.number (o.last - o.first) o.first
+
 -- of the fields of message i, whose part p is
 abbrev pub members : List ℕ → List ℕ → ℕ → ℕ → Bytes → List ℕ
 members messages t c i p = numbers_with t c (length (parts 2 (entries p))) (message_row messages i).first
@@ -56,6 +63,11 @@ all_copy t ks = all (λ (k : ℕ). (field_row t k).copy) ks
 
 abbrev pub all_eq : List ℕ → List ℕ → Bool
 all_eq t ks = all (λ (k : ℕ). (field_row t k).eq) ks
+
+-- may field k derive the trait?
+unfoldable pub can_derive : Derive → List ℕ → ℕ → Bool
+can_derive Copy t k = (field_row t k).copy
+can_derive Eq t k = (field_row t k).eq
 
 -- ---- has_type_name_conflict, with names cut where the buffers end
 unfoldable pub cut_camel : Bytes → Bytes

@@ -1,23 +1,26 @@
 //! The fields of a message by their numbers in the table of fields: those of a oneof, and those of none.
 #![tactic(auto)]
 
-ghost use Rattle.std.specs.Prelude.{◌≡◌, ◌&&◌, ◌||◌, not, List, ◌++◌, ℕ, ◌+◌, ◌-◌, ◌≤◌, eqb, length, take};
+ghost use Rattle.std.specs.Prelude.{◌≡◌, ◌&&◌, ◌||◌, not, List, ◌++◌, ℕ, ◌+◌, ◌-◌, length};
 ghost use Rattle.base.specs.Bytes.{same};
 ghost use Rattle.base.specs.Lists.{is_empty, any};
 ghost use Rattle.checksums.specs.Sums.{sum_of};
 ghost use Rattle.checksums.specs.SumLaws.{Stored};
-ghost use Rattle.ident.specs.Ident.{to_upper_camel};
 ghost use Rattle.descriptor.specs.Descriptor.{Bytes};
 ghost use Rattle.descriptor.specs.Decode.{entries, parts, decode_message};
 ghost use Rattle.descriptor.specs.Views.{field_of};
 ghost use Rattle.options.specs.Settings.{settings};
 ghost use Rattle.context.specs.Context.{has};
 ghost use Rattle.joined.specs.Joined.{◌⊙◌};
-ghost use Rattle.text_tables.specs.Rows.{message_row, field_row};
+ghost use Rattle.text_tables.specs.Rows.{message_row};
 ghost use Rattle.code_generator.specs.Attributes.{deprecated};
-ghost use Rattle.members.specs.Members.{name_in, field_at, boxed_at, numbers_with, in_oneofs, all_copy, all_eq, cut_camel, conflict, part_sums, camel_sums};
+ghost use Rattle.members.specs.Members.{name_in, field_at, boxed_at, numbers_with, in_oneofs, cut_camel, conflict, part_sums, camel_sums};
 
-use descriptor::FieldView;
+pub mod camel;
+pub mod of_message;
+
+use crate::camel::CamelName;
+use descriptor::{FieldView, MessageHeader};
 use joined::MAX_PATH;
 use parts::Parts;
 
@@ -31,14 +34,15 @@ pub struct Range {
     pub last: usize,
 }
 
-/// Is the message whose part p is a map entry?
-pub fn is_entry(p: &[u8]) -> bool
-    ensures { result ≡ (decode_message p.now).map_entry }
+/// Is the message a map entry?
+pub fn is_entry(part: &[u8]) -> bool
+    ensures { result ≡ (decode_message part.now).map_entry }
 {
-    let end = p.len();
-    let message = descriptor::message_view(p, 0, end);
-    message.entry
+    MessageHeader::new(part).map_entry
 }
+
+// What follows serves the crates that read fields by views and write over a buffer and a place; the others call of_message and
+// camel.
 
 /// Field k of a set.
 pub fn field_at(set: &[u8], t: &[u16], k: usize) -> FieldView
@@ -89,82 +93,14 @@ pub fn boxed_at(o: &[u8], set: &[u8], t: &[u16], k: usize, at: &[u8]) -> bool
 pub fn has_members(t: &[u16], c: usize, first: usize, last: usize) -> bool
     ensures { result ≡ not (is_empty (numbers_with t.now c (last - first) first)) }
 {
-    let mut k = first;
-    while k < last {
-        let which = text_tables::oneof_at(t, k);
-        if which == c {
-            return true;
-        }
-        k += 1;
-    }
-    false
+    of_message::has_members(t, c, first..last)
 }
 
 /// Is one of them in a oneof?
 pub fn in_oneofs(t: &[u16], first: usize, last: usize) -> bool
     ensures { result ≡ in_oneofs t.now (last - first) first }
 {
-    let mut k = first;
-    while k < last {
-        let oneof = text_tables::oneof_at(t, k);
-        if oneof != 0 {
-            return true;
-        }
-        k += 1;
-    }
-    false
-}
-
-// Is field k of the oneof c, and can't derive Copy?
-fn denies_copy(t: &[u16], c: usize, k: usize) -> bool
-    ensures { result ≡ (eqb (field_row t.now k).oneof c && not (field_row t.now k).copy) }
-{
-    if text_tables::oneof_at(t, k) == c {
-        let row = text_tables::field_row(t, k);
-        return !row.copy;
-    }
-    false
-}
-
-// The same for Eq.
-fn denies_eq(t: &[u16], c: usize, k: usize) -> bool
-    ensures { result ≡ (eqb (field_row t.now k).oneof c && not (field_row t.now k).eq) }
-{
-    if text_tables::oneof_at(t, k) == c {
-        let row = text_tables::field_row(t, k);
-        return !row.eq;
-    }
-    false
-}
-
-/// `can_oneof_derive_copy`: do all fields of the oneof c derive Copy?
-pub fn all_copy(t: &[u16], c: usize, first: usize, last: usize) -> bool
-    ensures { result ≡ all_copy t.now (numbers_with t.now c (last - first) first) }
-{
-    let mut k = first;
-    while k < last {
-        let denied = denies_copy(t, c, k);
-        if denied {
-            return false;
-        }
-        k += 1;
-    }
-    true
-}
-
-/// `can_oneof_derive_eq`: do they all derive Eq?
-pub fn all_eq(t: &[u16], c: usize, first: usize, last: usize) -> bool
-    ensures { result ≡ all_eq t.now (numbers_with t.now c (last - first) first) }
-{
-    let mut k = first;
-    while k < last {
-        let denied = denies_eq(t, c, k);
-        if denied {
-            return false;
-        }
-        k += 1;
-    }
-    true
+    of_message::in_oneofs(t, first..last)
 }
 
 /// The fields of message i, whose part p is.
@@ -178,21 +114,13 @@ pub fn fields_of(messages: &[u16], i: usize, p: &[u8]) -> Range
     Range { first, last }
 }
 
-// A camel name, cut at the buffer's end: so many bytes of it are used.
-fn camel_in(t: &mut [u8], name: &[u8]) -> usize
-    ensures { (result ≤ length t.new) × (take result t.new ≡ take (length t.old) (to_upper_camel name.now)) }
-{
-    let n = ident::put_upper_camel(t, 0, name);
-    n.next.min(t.len())
-}
-
 // Is it the camel name of the declaration whose part q is?
+#[tactic(auto, unfolding(base::specs::Bytes::same))]
 fn meets_part(camel: &[u8], q: &[u8]) -> bool
     ensures { result ≡ same (cut_camel (name_in q.now)) camel.now }
 {
-    let mut own = [0u8; MAX_PATH];
-    let n = camel_in(&mut own, joined::name_of(q));
-    base::same_bytes(&own[0..n], camel)
+    let own = CamelName::new(joined::name_of(q));
+    own.as_bytes() == camel
 }
 
 // Is it that of a declaration with the field number in a message?
@@ -210,21 +138,20 @@ fn conflicts(p: &[u8], deeper: bool, camel: &[u8]) -> bool
 }
 
 /// `has_type_name_conflict`, of a oneof's name in the message whose part p is. deeper: are nested messages read?
+#[tactic(auto, unfolding(crate::specs::Members::conflict, crate::specs::Members::meets_part))]
 pub fn conflict(p: &[u8], deeper: bool, name: &[u8]) -> bool
     ensures { result ≡ conflict deeper p.now name.now }
 {
-    let mut camel = [0u8; MAX_PATH];
-    let n = camel_in(&mut camel, name);
-    conflicts(p, deeper, &camel[0..n])
+    let camel = CamelName::new(name);
+    conflicts(p, deeper, camel.as_bytes())
 }
 
 // The checksum of a camel name.
 fn camel_sum(name: &[u8]) -> u64
     ensures { result ≡ sum_of (cut_camel name.now) }
 {
-    let mut camel = [0u8; MAX_PATH];
-    let n = camel_in(&mut camel, name);
-    checksums::checksum(&camel[0..n])
+    let camel = CamelName::new(name);
+    checksums::checksum(camel.as_bytes())
 }
 
 // Those of the declarations with the field number in a message, behind n checksums that a table has.

@@ -1,11 +1,10 @@
 -- Whether names differ, step by step. Assumes nothing.
-use mathlib.Core.Path.{◌≡◌, sym, ap, ap₂, ◌∙◌}
+use mathlib.Core.Path.{◌≡◌, ap, ◌∙◌}
 use mathlib.Core.Bool.{Bool, true, false, not}
 use mathlib.Core.List.{List}
 use Prim.Native.Nat.{ℕ, ◌-◌, min}
 use native.Mathlib.Omega.{arith}
 use lib.ListN.{length, take, drop}
-use lib.Seq.{length-take-le}
 use Rattle.base.specs.Choose.{choose}
 use Rattle.writer.specs.Wrote.{Wrote}
 use Rattle.descriptor.specs.Descriptor.{Bytes}
@@ -24,11 +23,10 @@ use Rattle.name_call.specs.NameTheorem.{names_differ_is}
 use Rattle.name_call.specs.Answer.{Accepted}
 
 -- the rows in the buffer
-pub stands_laid : {u v p : List ℕ} {r n : ℕ} → Wrote u 0 p v r → n ≡ min r (length v) → (set : Bytes) (z : Bool) → z ≡ packages_stand n (take (n - 0) (drop 0 v)) set → z ≡ packages_stand (length (take (length u) p)) (take (length u) p) set
+pub stands_laid : {u v p : List ℕ} {r n : ℕ} → Wrote u 0 p v r → n ≡ min r (length v) → (set : Bytes) (z : Bool) → z ≡ packages_stand (length (take (n - 0) (drop 0 v))) (take (n - 0) (drop 0 v)) set → z ≡ packages_stand (length (take (length u) p)) (take (length u) p) set
 stands_laid {u} {v} {p} {r} {n} w e set z q =
     let l = used w e in
-    let size : n ≡ length (take (length u) p) = sym (length-take-le n v l.0) ∙ ap length l.1 in
-    q ∙ ap₂ (λ (k : ℕ) (s : List ℕ). packages_stand k s set) size (sliced v (take (length u) p) n l.1)
+    q ∙ ap (λ (s : List ℕ). packages_stand (length s) s set) (sliced v (take (length u) p) n l.1)
 
 module _ (rs : List Setting) (room : ℕ) (set messages t : List ℕ) (a : Bool) (ea : a ≡ rows_overlap room (set_rows rs messages t set)) where
   pub places_same : a ≡ true → false ≡ names_differ rs room set messages t

@@ -26,7 +26,7 @@ pub fn names_differ(t: &mut [u8], o: &[u8], set: &[u8], messages: &[u16], fields
 {
     let a = place_rows::put_places(t, 0, o, set, messages, fields);
     let n = writer::within(a, t.len());
-    let again = name_rows::rows_meet(&t[0..n], n);
+    let again = name_rows::rows_meet(&t[0..n]);
     if again {
         return false;
     }
@@ -34,7 +34,7 @@ pub fn names_differ(t: &mut [u8], o: &[u8], set: &[u8], messages: &[u16], fields
     if meet {
         return false;
     }
-    let stands = package_names::packages_stand(&t[0..n], n, set);
+    let stands = package_names::packages_stand(&t[0..n], set);
     if stands {
         return false;
     }

@@ -9,6 +9,8 @@ use Rattle.base.specs.Lists.{all_of, any, Every}
 use Rattle.base.specs.Tests.{both_ways, and_left, and_right, and_both}
 use Rattle.heck.specs.Case.{between}
 use Rattle.writer.specs.Wrote.{over, over_length, over_cut}
+use Rattle.writer.specs.Draft.{Filled}
+use Rattle.writer.proofs.TextLaws.{wholly}
 use Rattle.ident.specs.Convert.{padded}
 use Rattle.ident.specs.Name.{name_start, name_part, every}
 use Rattle.ident.proofs.EveryLaws.{every_head, every_tail}
@@ -28,6 +30,13 @@ key_size home name = over_length (replicate key_length 0) 0 _ ∙ length-replica
 pub row_size : (home name : Bytes) → length (row home name) ≡ row_length
 unfolding row with_checksum four_bytes
 row_size home name = length-append (key home name) _ ∙ ap (λ (n : ℕ). n + 4) (key_size home name)
+
+-- a row fills its buffer
+pub row_filled : {t : Bytes} {n : ℕ} (home name : Bytes) → Filled (replicate row_length 0) (row home name) t n → t ≡ row home name
+row_filled home name w =
+    let zeros = length-replicate {A = ℕ} row_length 0 in
+    let size = row_size home name in
+    wholly w (omega arith) (omega arith) ∙ ap (λ (l : Bytes). row home name ++ l) (drop_of_length-le (replicate row_length 0) {i = length (row home name)} (omega arith)) ∙ append-nil (row home name)
 
 -- ---- a text that has rows one behind the other
 pub rows_first : (n : ℕ) (x t : Bytes) → length x ≡ row_length → rows_in (suc n) (x ++ t) ≡ x ∷ rows_in n t

@@ -1,18 +1,16 @@
--- One step of each loop: a byte of a key, a byte of two rows, a row of a text. Assumes nothing.
-use Prim.Native.Nat.{ℕ, suc, ◌+◌, ◌-◌, ◌*◌, ◌%◌, ◌^◌, ◌<◌, ◌≤◌}
-use mathlib.Core.Path.{◌≡◌, refl, sym, ap, ◌∙◌}
-use mathlib.Core.Bool.{Bool, true, false, ◌||◌}
-use mathlib.Core.List.{List, [], ◌∷◌, ◌++◌}
-use native.Mathlib.Omega.{arith}
-use native.Mathlib.Numerals.{add-one}
-use lib.ListN.{length, get_or, take, drop, replicate, length-drop, drop_of_length-le}
-use lib.Seq.{drop-cons, drop-drop, take_all}
-use Rattle.base.specs.Bytes.{same, same_sound, same_more}
-use Rattle.base.specs.Choose.{then_lt, else_lt}
-use Rattle.writer.specs.Wrote.{Wrote, named}
+-- One step of each loop: a byte of a key, a row of a text; and two rows by their parts. Assumes nothing.
+use Rattle.std.specs.Prelude.{ℕ, zero, suc, ◌+◌, ◌-◌, ◌*◌, ◌%◌, ◌^◌, ◌<◌, ◌≤◌, ◌≡◌, refl, Bool, true, false, ◌&&◌, ltb, List, [], ◌∷◌, ◌++◌, length, get_or, take, drop, replicate}
+use Rattle.std.proofs.Common.{sym, ap, ap₂, take_all, ◌∙◌, arith, add-one, length-drop, drop_of_length-le, drop-cons, take-append-drop}
+use Rattle.std.proofs.lemmas.List.{length-replicate}
+use Rattle.base.specs.Bytes.{same, same_refl, same_sound}
+use Rattle.base.specs.Choose.{choose, then_lt, else_lt}
+use Rattle.base.specs.Tests.{and_left, and_right}
+use Rattle.writer.specs.Wrote.{over}
+use Rattle.writer.specs.Draft.{Draft, most, extended, Filled}
+use Rattle.writer.proofs.Laying.{sets-take}
 use Rattle.path.specs.Forms.{among}
 use Rattle.code_generator.specs.Refusals.{overlap}
-use Rattle.name_rows.specs.Rows.{key_length, row_length, key, checksum, with_checksum, row, rows_in}
+use Rattle.name_rows.specs.Rows.{key_length, row_length, key, key_text, checksum, rows_in}
 
 -- ---- the checksum
 pub checksum_more : (s : List ℕ) (h i x : ℕ) → i < length s → x ≡ get_or s i 0 → checksum ((h * 31 + x) % 2 ^ 32) (drop (i + 1) s) ≡ checksum h (drop i s)
@@ -24,77 +22,83 @@ unfolding checksum
 checksum_end s h i l = rw (drop_of_length-le s {i = i} l)
 
 -- ---- a key is written into an array of zeros
-pub row_is : {t t' k : List ℕ} {at r e : ℕ} (home name : List ℕ) → Wrote (replicate key_length 0) 0 (home ++ (0 ∷ []) ++ name) k e → Wrote t at (with_checksum k) t' r → Wrote t at (row home name) t' r
-unfolding row key
-row_is home name w v = named (ap with_checksum w.text) v
+pub key_is : {k : List ℕ} {n : ℕ} (home name : List ℕ) → Filled (replicate key_length 0) (key_text home name) k n → k ≡ key home name
+unfolding key extended over
+key_is home name w =
+    ap (λ (d : Draft). d.buffer) w.is
+    ∙ sets-take (replicate key_length 0) (key_text home name) 0 most (let l = length-replicate {A = ℕ} key_length 0 in omega arith)
 
--- ---- two rows, from their ends
-module _ (x y : List ℕ) (left : ℕ) where
-  pub same_before : 0 < left → left ≤ length x → length x ≡ length y → get_or x (left - 1) 0 ≡ get_or y (left - 1) 0 → same (drop left x) (drop left y) ≡ true → same (drop (left - 1) x) (drop (left - 1) y) ≡ true
-  same_before some h k e is =
-      let n : left - 1 + 1 ≡ left = omega arith in
-      sym (same_more x y (left - 1) (omega arith) (omega arith) e) ∙ rw n is
-
-  pub same_whole : left ≤ 0 → same (drop left x) (drop left y) ≡ true → true ≡ same x y
-  same_whole h is = let n : left ≡ 0 = omega arith in sym (rw n at is)
-
-pub unlike : (x y : List ℕ) (i : ℕ) → (get_or x i 0 ≡ get_or y i 0 → ⊥) → same x y ≡ false
-unlike x y i n = by (same x y) refl
+-- ---- two rows by their parts
+same_parts : (n : ℕ) (x y : List ℕ) → (same (drop n x) (drop n y) && same (take n x) (take n y)) ≡ same x y
+same_parts n x y = by (same (drop n x) (drop n y) && same (take n x) (take n y)) (same x y) refl refl
   where
-    by : (t : Bool) → same x y ≡ t → t ≡ false
-    by false e = refl
-    by true e = absurd (n (ap (λ (l : List ℕ). get_or l i 0) (same_sound x y e)))
+    by : (s t : Bool) → (same (drop n x) (drop n y) && same (take n x) (take n y)) ≡ s → same x y ≡ t → s ≡ t
+    by true true e f = refl
+    by false false e f = refl
+    by true false e f =
+        let behind = same_sound (drop n x) (drop n y) (and_left _ _ e) in
+        let before = same_sound (take n x) (take n y) (and_right (same (drop n x) (drop n y)) _ e) in
+        let is : x ≡ y = sym (take-append-drop n x) ∙ ap (λ (l : List ℕ). l ++ drop n x) before ∙ ap (λ (l : List ℕ). take n y ++ l) behind ∙ take-append-drop n y in
+        sym (same_refl y) ∙ ap (λ (l : List ℕ). same l y) (sym is) ∙ f
+    by false true e f =
+        let is = same_sound x y f in
+        sym e ∙ ap (λ (l : List ℕ). same (drop n l) (drop n y) && same (take n l) (take n y)) is ∙ rw (same_refl (drop n y), same_refl (take n y)) refl
 
--- ---- the rows from a place on, of which `left` are left
-module _ (t : List ℕ) (at left : ℕ) where
-  pub rows_none : left ≤ 0 → rows_in left (drop at t) ≡ []
-  unfolding rows_in
-  rows_none h = let e : left ≡ 0 = omega arith in rw e
+-- m bytes stand behind the first n
+module _ (n m : ℕ) (x y : List ℕ) (hx : length x ≡ n + m) (hy : length y ≡ n + m) (b : Bool) (is : b ≡ same (take m (drop n x)) (take m (drop n y))) where
+  last : b ≡ same (drop n x) (drop n y)
+  last = is ∙ ap₂ same (take_all m (drop n x) (rw length-drop (omega arith))) (take_all m (drop n y) (rw length-drop (omega arith)))
 
-  module _ (some : 0 < left) where
-    pub rows_out : length t - at < row_length → rows_in left (drop at t) ≡ []
-    unfolding rows_in
-    rows_out h =
-        let e : left ≡ suc (left - 1) = omega arith in
-        rw e (sym (then_lt _ _ _ (length (drop at t)) row_length (rw length-drop h) refl))
+  pub same_behind : b ≡ false → b ≡ same x y
+  same_behind h = h ∙ sym (ap (λ (t : Bool). t && same (take n x) (take n y)) (sym last ∙ h)) ∙ same_parts n x y
 
-    next_of : (k : ℕ) → row_length ≤ length t - at → rows_in (suc k) (drop at t) ≡ take row_length (drop at t) ∷ rows_in k (drop (at + row_length) t)
-    unfolding rows_in
-    next_of k h =
-        sym
-        (else_lt _ _ _ (length (drop at t)) row_length (rw length-drop h)
-        (ap (λ (l : List ℕ). take row_length (drop at t) ∷ rows_in k l) (sym (drop-drop row_length at t))))
+  pub same_before : b ≡ true → (c : Bool) → c ≡ same (take n x) (take n y) → c ≡ same x y
+  same_before h c e = e ∙ sym (ap (λ (t : Bool). t && same (take n x) (take n y)) (sym last ∙ h)) ∙ same_parts n x y
 
-    -- the part that is read is the next row
-    pub rows_next : row_length ≤ length t - at
-        → rows_in left (drop at t) ≡ take (at + row_length - at) (drop at t) ∷ rows_in (left - 1) (drop (at + row_length) t)
-    rows_next h =
-        let e : left ≡ suc (left - 1) = omega arith in
-        let n : row_length ≡ at + row_length - at = omega arith in
-        ap (λ (k : ℕ). rows_in k (drop at t)) e ∙ next_of (left - 1) h
-        ∙ ap (λ (k : ℕ). take k (drop at t) ∷ rows_in (left - 1) (drop (at + row_length) t)) n
+-- ---- the rows of a text, as many as are whole: no more than it has bytes
+fewer : (n m : ℕ) (t : List ℕ) → length t ≤ n → length t ≤ m → rows_in n t ≡ rows_in m t
+unfolding rows_in
+fewer zero zero t h k = refl
+fewer zero (suc m) t h k = then_lt _ _ _ (length t) row_length (omega arith) refl
+fewer (suc n) zero t h k = sym (then_lt _ _ _ (length t) row_length (omega arith) refl)
+fewer (suc n) (suc m) t h k =
+    ap (λ (l : List (List ℕ)). choose (ltb (length t) row_length) [] (take row_length t ∷ l))
+    (fewer n m (drop row_length t) (rw length-drop (omega arith)) (rw length-drop (omega arith)))
 
-    -- is a row among them?
-    module _ (x : List ℕ) (r : Bool) (room : row_length ≤ length t - at) (asked : r ≡ same x (take (at + row_length - at) (drop at t))) where
-      pub among_found : r ≡ true → true ≡ among x (rows_in left (drop at t))
-      unfolding among
-      among_found h = rw (rows_next room, ← asked, h)
+none_there : (n : ℕ) (t : List ℕ) → length t < row_length → [] ≡ rows_in n t
+unfolding rows_in
+none_there zero t h = refl
+none_there (suc n) t h = then_lt _ _ _ (length t) row_length h refl
 
-      pub among_next : r ≡ false → among x (rows_in (left - 1) (drop (at + row_length) t)) ≡ among x (rows_in left (drop at t))
-      unfolding among
-      among_next h = rw (rows_next room, ← asked, h)
+pub rows_none : (t : List ℕ) → length t < row_length → [] ≡ rows_in (length t) t
+rows_none t h = none_there (length t) t h
 
-    -- do two of them meet?
-    module _ (r : Bool) (room : row_length ≤ length t - at) (asked : r ≡ among (take (at + row_length - at) (drop at t)) (rows_in (left - 1) (take (length t - (at + row_length)) (drop (at + row_length) t)))) where
-      behind : take (length t - (at + row_length)) (drop (at + row_length) t) ≡ drop (at + row_length) t
-      behind = take_all (length t - (at + row_length)) (drop (at + row_length) t) (rw length-drop (omega arith))
+first_there : (n : ℕ) (t : List ℕ) → row_length ≤ length t → rows_in (suc n) t ≡ take row_length t ∷ rows_in n (drop row_length t)
+unfolding rows_in
+first_there n t h = sym (else_lt _ _ _ (length t) row_length h refl)
 
-      met : overlap (rows_in left (drop at t)) ≡ (r || overlap (rows_in (left - 1) (drop (at + row_length) t)))
-      unfolding overlap
-      met = rw (asked, behind) (ap overlap (rows_next room))
+module _ (t first behind : List ℕ) (some : row_length ≤ length t) (f : first ≡ take row_length t) (g : behind ≡ drop row_length t) where
+  pub rows_next : rows_in (length t) t ≡ first ∷ rows_in (length behind) behind
+  rows_next =
+      let e : length t ≡ suc (length t - 1) = omega arith in
+      ap (λ (n : ℕ). rows_in n t) e ∙ first_there (length t - 1) t some
+      ∙ ap (λ (l : List (List ℕ)). take row_length t ∷ l) (fewer (length t - 1) (length (drop row_length t)) (drop row_length t) (rw length-drop (omega arith)) (omega arith))
+      ∙ rw (f, g) refl
 
-      pub meet_found : r ≡ true → true ≡ overlap (rows_in left (drop at t))
-      meet_found h = rw (met, h)
+  module _ (x : List ℕ) (r : Bool) (asked : r ≡ same x first) where
+    pub among_found : r ≡ true → true ≡ among x (rows_in (length t) t)
+    unfolding among
+    among_found h = rw (rows_next, ← asked, h)
 
-      pub meet_next : r ≡ false → overlap (rows_in (left - 1) (drop (at + row_length) t)) ≡ overlap (rows_in left (drop at t))
-      meet_next h = rw (met, h)
+    pub among_next : r ≡ false → among x (rows_in (length behind) behind) ≡ among x (rows_in (length t) t)
+    unfolding among
+    among_next h = rw (rows_next, ← asked, h)
+
+  module _ (r : Bool) (asked : r ≡ among first (rows_in (length behind) behind)) where
+    pub meet_found : r ≡ true → true ≡ overlap (rows_in (length t) t)
+    unfolding overlap
+    meet_found h = rw (rows_next, ← asked, h)
+
+    pub meet_next : r ≡ false → overlap (rows_in (length behind) behind) ≡ overlap (rows_in (length t) t)
+    unfolding overlap
+    meet_next h = rw (rows_next, ← asked, h)

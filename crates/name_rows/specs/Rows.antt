@@ -12,9 +12,13 @@ key_length = 380
 abbrev pub row_length : ℕ
 row_length = 384
 
--- the home, a byte 0 and the name; cut at 380 bytes, or with zeros behind
+-- the home, a byte 0 and the name
+abbrev pub key_text : Bytes → Bytes → Bytes
+key_text home name = home ++ (0 ∷ []) ++ name
+
+-- cut at 380 bytes, or with zeros behind
 unfoldable pub key : Bytes → Bytes → Bytes
-key home name = over (replicate key_length 0) 0 (home ++ (0 ∷ []) ++ name)
+key home name = over (replicate key_length 0) 0 (key_text home name)
 
 -- a checksum of bytes, behind bytes whose checksum is h
 unfoldable pub checksum : ℕ → Bytes → ℕ

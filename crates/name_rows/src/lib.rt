@@ -1,158 +1,175 @@
-// Names in their modules, each a row of 384 bytes, so that same names are found by their checksums.
+//! Names in their modules, each a row of 384 bytes, so that same names are found by their checksums.
 #![tactic(auto)]
 
-ghost use Rattle.std.specs.Prelude.{◌≡◌, [], ◌∷◌, ◌++◌, ◌%◌, ◌<◌, length, take, drop};
+ghost use Rattle.std.specs.Prelude.{◌≡◌, [], ◌∷◌, ◌++◌, length};
 ghost use Rattle.base.specs.Bytes.{b, same};
-ghost use Rattle.writer.specs.Wrote.{Wrote};
 ghost use Rattle.writer.specs.Text.{pick};
+ghost use Rattle.writer.specs.Wrote.{Wrote};
 ghost use Rattle.ident.specs.Ident.{to_snake, to_upper_camel};
+ghost use Rattle.writer.specs.Draft.{Filled};
+ghost use Rattle.writer.specs.Writing.{◌▻◌};
 ghost use Rattle.path.specs.Forms.{among};
 ghost use Rattle.code_generator.specs.Refusals.{overlap};
-ghost use Rattle.name_rows.specs.Rows.{checksum, four_bytes, with_checksum, row, rows_in};
+ghost use Rattle.name_rows.specs.Rows.{key_text, checksum, row, rows_in};
+ghost use Rattle.name_rows.specs.Spelt.{spelt_by};
+
+use writer::Text;
 
 const KEY: usize = 380;
 
-const ROW: usize = 384;
+/// The length of a row.
+pub const ROW: usize = 384;
 
-fn wide(x: u8) -> u64
-    ensures { (result ≡ x) × (result < 256) }
-{
-    x as u64
+/// The home, a byte 0, the name, zeros, and a checksum of all that in the last four bytes.
+pub type Row = [u8; ROW];
+
+/// How a name is spelt.
+#[derive(Clone, Copy)]
+pub enum Spelling {
+    /// A module's, or a field's.
+    Snake,
+    /// A struct's, an enum's, or a variant's.
+    UpperCamel,
+    /// That of a oneof's enum, which ends in `OneOf` where another type has its name.
+    OneofType(bool),
 }
 
-fn low(h: u64) -> u8
-    ensures { result ≡ h % 256 }
-{
-    (h % 256) as u8
+impl Spelling {
+    // The name, spelt so.
+    fn put(self, text: &mut Text<'_>, name: &[u8])
+        ensures { text.new ≡ text.old ▻ spelt_by self name.now }
+    {
+        match self {
+            Spelling::Snake => ident::text::put_snake(text, name),
+            Spelling::UpperCamel => ident::text::put_upper_camel(text, name),
+            Spelling::OneofType(conflict) => {
+                ident::text::put_upper_camel(text, name);
+                text.put_if(conflict, b"OneOf");
+            }
+        }
+    }
 }
 
 // A checksum of the key.
-fn checksum(key: &[u8]) -> u64
+fn checksum(key: &[u8]) -> u32
     ensures { result ≡ checksum 0 key.now }
 {
-    let mut h: u64 = 0;
-    let mut i: usize = 0;
-    while i < key.len() {
-        let x = wide(key[i]);
-        h = (h * 31 + x) % 4294967296;
-        i += 1;
+    let mut sum: u64 = 0;
+    for byte in key {
+        sum = (sum * 31 + u64::from(*byte)) % (1 << 32);
     }
-    h
+    sum as u32
 }
 
-fn put_four(t: &mut [u8], at: usize, h: u64) -> usize
-    ensures { Wrote t.old at (four_bytes h) t.new result }
+// What a row says of its name.
+fn put_key(text: &mut Text<'_>, home: &[u8], spelling: Spelling, name: &[u8])
+    ensures { text.new ≡ text.old ▻ key_text home.now (spelt_by spelling name.now) }
 {
-    let a = writer::put_byte(t, at, low(h));
-    let a = writer::put_byte(t, a, low(h / 256));
-    let a = writer::put_byte(t, a, low(h / 65536));
-    writer::put_byte(t, a, low(h / 16777216))
+    text.put(home);
+    text.put_byte(0);
+    spelling.put(text, name);
 }
 
-fn put_key(t: &mut [u8], at: usize, key: &[u8]) -> usize
-    ensures { Wrote t.old at (with_checksum key.now) t.new result }
+fn fill_key(buffer: &mut [u8], home: &[u8], spelling: Spelling, name: &[u8]) -> usize
+    ensures { Filled buffer.old (key_text home.now (spelt_by spelling name.now)) buffer.new result }
 {
-    let h = checksum(key);
-    let a = writer::put(t, at, key);
-    put_four(t, a, h)
+    let mut text = Text::new(buffer);
+    put_key(&mut text, home, spelling, name);
+    text.length
 }
 
-// The home, and a byte 0.
-fn put_home(t: &mut [u8], home: &[u8]) -> usize
-    ensures { Wrote t.old 0 (home.now ++ 0 ∷ []) t.new result }
+/// The row of a name in a home.
+pub fn put_row(text: &mut Text<'_>, home: &[u8], spelling: Spelling, name: &[u8])
+    ensures { text.new ≡ text.old ▻ row home.now (spelt_by spelling name.now) }
 {
-    let a = writer::put(t, 0, home);
-    writer::put_byte(t, a, 0)
+    let mut key = [0u8; KEY];
+    fill_key(&mut key, home, spelling, name);
+    text.put(&key);
+    text.put(&checksum(&key).to_le_bytes());
 }
 
-// The row of its snake name.
+fn fill_row(buffer: &mut [u8], home: &[u8], spelling: Spelling, name: &[u8]) -> usize
+    ensures { Filled buffer.old (row home.now (spelt_by spelling name.now)) buffer.new result }
+{
+    let mut text = Text::new(buffer);
+    put_row(&mut text, home, spelling, name);
+    text.length
+}
+
+// The same from a place on, for callers that have a buffer and a place.
+fn row_at(t: &mut [u8], at: usize, home: &[u8], case: Spelling, name: &[u8]) -> usize
+    ensures { Wrote t.old at (row home.now (spelt_by case name.now)) t.new result }
+{
+    let mut text = Text {
+        buffer: t,
+        length: at,
+    };
+    put_row(&mut text, home, case, name);
+    text.next(at)
+}
+
+/// The row of its snake name, from a place on: place_rows and member_rows go by a buffer and a place.
 pub fn put_snake_row(t: &mut [u8], at: usize, home: &[u8], name: &[u8]) -> usize
     ensures { Wrote t.old at (row home.now (to_snake name.now)) t.new result }
 {
-    let mut key = [0u8; KEY];
-    let a = put_home(&mut key, home);
-    ident::put_snake(&mut key, a, name);
-    put_key(t, at, &key)
+    row_at(t, at, home, Spelling::Snake, name)
 }
 
-// The row of its camel name.
+/// The row of its camel name, from a place on, for the same callers.
 pub fn put_camel_row(t: &mut [u8], at: usize, home: &[u8], name: &[u8]) -> usize
     ensures { Wrote t.old at (row home.now (to_upper_camel name.now)) t.new result }
 {
-    let mut key = [0u8; KEY];
-    let a = put_home(&mut key, home);
-    ident::put_upper_camel(&mut key, a, name);
-    put_key(t, at, &key)
+    row_at(t, at, home, Spelling::UpperCamel, name)
 }
 
-// The row of the name of a oneof's enum.
+/// The row of the name of a oneof's enum, from a place on, for place_rows.
 pub fn put_oneof_row(t: &mut [u8], at: usize, home: &[u8], name: &[u8], conflict: bool) -> usize
     ensures { Wrote t.old at (row home.now (to_upper_camel name.now ++ pick conflict (b "OneOf") [])) t.new result }
 {
-    let mut key = [0u8; KEY];
-    let a = put_home(&mut key, home);
-    let named = ident::put_upper_camel(&mut key, a, name);
-    writer::put_if(&mut key, named.next, conflict, b"OneOf");
-    put_key(t, at, &key)
+    row_at(t, at, home, Spelling::OneofType(conflict), name)
 }
 
-// Are these the same bytes? The last are compared first.
-fn same_row(x: &[u8], y: &[u8]) -> bool
+/// The row of a name in a home, by itself.
+pub fn row_of(home: &[u8], spelling: Spelling, name: &[u8]) -> Row
+    ensures { result ≡ row home.now (spelt_by spelling name.now) }
+{
+    let mut row = [0u8; ROW];
+    fill_row(&mut row, home, spelling, name);
+    row
+}
+
+// Are these the same? Rows share long beginnings: the checksums are compared first.
+#[tactic(auto, unfolding(base::specs::Bytes::same))]
+fn same_row(x: &Row, y: &Row) -> bool
     ensures { result ≡ same x.now y.now }
 {
-    if x.len() != y.len() {
-        return false;
-    }
-    let mut left = x.len();
-    while 0 < left {
-        left = left - 1;
-        if x[left] != y[left] {
-            return false;
-        }
-    }
-    true
+    x[KEY..] == y[KEY..] && x[..KEY] == y[..KEY]
 }
 
-// Is it one of the first n rows of t?
-pub fn row_among(t: &[u8], n: usize, row: &[u8]) -> bool
-    ensures { result ≡ among row.now (rows_in n t.now) }
+/// Is it one of these rows, which stand one behind the other?
+pub fn row_among(rows: &[u8], wanted: &Row) -> bool
+    ensures { result ≡ among wanted.now (rows_in (length rows.now) rows.now) }
 {
-    let mut at: usize = 0;
-    let mut left = n;
-    while 0 < left {
-        left = left - 1;
-        let room = t.len() - at;
-        if room < ROW {
-            return false;
-        }
-        let next = at + ROW;
-        let is = same_row(row, &t[at..next]);
-        if is {
+    let mut rest = rows;
+    while let Some((row, behind)) = rest.split_first_chunk::<ROW>() {
+        if same_row(wanted, row) {
             return true;
         }
-        at = next;
+        rest = behind;
     }
     false
 }
 
-// Are two of the first n rows of t the same?
-pub fn rows_meet(t: &[u8], n: usize) -> bool
-    ensures { result ≡ overlap (rows_in n t.now) }
+/// Are two of these rows the same?
+pub fn rows_meet(rows: &[u8]) -> bool
+    ensures { result ≡ overlap (rows_in (length rows.now) rows.now) }
 {
-    let mut at: usize = 0;
-    let mut left = n;
-    while 0 < left {
-        left = left - 1;
-        let room = t.len() - at;
-        if room < ROW {
-            return false;
-        }
-        let next = at + ROW;
-        let again = row_among(&t[next..], left, &t[at..next]);
-        if again {
+    let mut rest = rows;
+    while let Some((row, behind)) = rest.split_first_chunk::<ROW>() {
+        if row_among(behind, row) {
             return true;
         }
-        at = next;
+        rest = behind;
     }
     false
 }

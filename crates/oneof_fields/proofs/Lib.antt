@@ -1,2 +1,3 @@
 pub mod TagLaws
 pub mod RangeLaws
+pub mod PathLaws

@@ -1,122 +1,56 @@
 -- The modules of a package, gone through segment by segment, among rows. Assumes nothing.
-use mathlib.Core.Path.{◌≡◌, refl, sym, ap, ◌∙◌}
-use mathlib.Core.Bool.{Bool, true, false, ◌||◌, or-false}
-use mathlib.Core.List.{List, [], ◌∷◌, ◌++◌, append-nil}
-use Prim.Native.Nat.{ℕ, suc, ◌+◌, ◌-◌, ◌≤◌, ◌<◌}
-use native.Mathlib.Omega.{arith}
-use native.Mathlib.Numerals.{add-one}
-use lib.Dec.{eqb}
-use lib.ListN.{length, take, drop, get_or, length-take, length-drop, drop_of_length-le}
-use lib.Seq.{sets-eq, take_all, take-add, drop-cons, drop-drop, get_or-drop, length-take-le}
-use borrow.Author.Tests.{lt-ltb, le-ltb, eqb-true}
-use Rattle.base.specs.Bytes.{b}
-use Rattle.base.specs.Choose.{choose}
+use Rattle.std.specs.Prelude.{◌≡◌, refl, ◌≤◌, Bool, true, false, ◌||◌, List, [], ◌∷◌, length, take}
+use Rattle.std.proofs.Common.{sym, ap, ap₂, ◌∙◌, arith, take_all, le-ltb, length-take-le}
+use Rattle.std.proofs.Math.Decide.{dec_le}
+use Rattle.std.proofs.lemmas.List.{take-append-le}
 use Rattle.base.specs.Lists.{any}
-use Rattle.base.specs.Tests.{and_left}
-use Rattle.writer.specs.Wrote.{Wrote, over}
-use Rattle.ident.specs.Ident.{to_snake}
-use Rattle.path.specs.Forms.{among}
-use Rattle.wire.specs.Records.{part}
 use Rattle.descriptor.specs.Descriptor.{Bytes}
-use Rattle.descriptor.specs.Views.{file_in}
-use Rattle.descriptor.specs.declared.FileView.{FileView}
-use Rattle.extern_paths.specs.Split.{begins, split, first_part}
-use Rattle.split.proofs.SplitLaws.{by_test, Parted, spans, parts_last, parts_more}
 use Rattle.name_rules.specs.FullNames.{◌·◌}
+use Rattle.joined.specs.Joined.{max_path, ◌⊙◌}
 use Rattle.name_check.specs.NameCheck.{modules_in}
-use Rattle.name_rows.specs.Rows.{row}
-use Rattle.package_names.specs.Packages.{segment_module, module_in, part_stands}
-use Rattle.package_names.proofs.MeetLaws.{with_segments, without_segments}
+use Rattle.package_names.specs.Packages.{module_of, module_in}
 
--- a text that fills its buffer
-pub filled : {t t' p : List ℕ} {r : ℕ} → Wrote t 0 p t' r → length p ≡ length t → t' ≡ p
-unfolding over
-filled {t} {t'} {p} w e =
-    w.text ∙ sets-eq p t 0 (omega arith) ∙ ap (λ (l : List ℕ). p ++ l) (drop_of_length-le t {i = 0 + length p} (omega arith)) ∙ append-nil p
-
--- ---- one segment
-module _ (rows : List Bytes) (x : Bytes) (from e : ℕ) (h : from ≤ length x) where
-  home_size : length (take from (46 ∷ x)) ≡ from
-  home_size = length-take-le from (46 ∷ x) (omega arith)
-
-  pub stands_far : 256 < from → false ≡ module_in rows (segment_module x from e)
-  unfolding module_in
-  stands_far k = rw (home_size, le-ltb from 257 (omega arith)) refl
-
-  pub stands_at : from ≤ 256 → (home : Bytes) → home ≡ take from (46 ∷ x) → (z : Bool) → z ≡ among (row home (to_snake (take (e - from) (drop from x)))) rows → z ≡ module_in rows (segment_module x from e)
-  unfolding module_in
-  stands_at k home is z q = rw (home_size, lt-ltb from 257 (omega arith)) (q ∙ ap (λ (l : Bytes). among (row l (to_snake (take (e - from) (drop from x)))) rows) is)
-
-pub root_home : (x : Bytes) (from : ℕ) → from ≡ 0 → [] ≡ take from (46 ∷ x)
-root_home x from e = rw e refl
-
-pub inner_home : (x : Bytes) (from : ℕ) → (from ≡ 0 → ⊥) → from ≤ 256 → (s : Bytes) → s ≡ take 512 ([] · take (from - 1 - 0) (drop 0 x)) → s ≡ take from (46 ∷ x)
-inner_home x from ne h s e =
-    let n : from - 1 - 0 ≡ from - 1 = omega arith in
-    let m : from ≡ suc (from - 1) = omega arith in
-    e ∙ ap (λ (k : ℕ). take 512 (46 ∷ take k x)) n ∙ take_all 512 (46 ∷ take (from - 1) x) (short (from - 1) x (omega arith)) ∙ ap (λ (k : ℕ). take k (46 ∷ x)) (sym m)
+-- ---- a home that is cut: only one of over 256 bytes is
+cut_module : (rows : List Bytes) (home segment : Bytes) → module_in rows (module_of (take max_path home) segment) ≡ module_in rows (module_of home segment)
+unfolding module_in
+cut_module rows home segment = on (dec_le (length home) max_path)
   where
-    short : (k : ℕ) (l : Bytes) → k ≤ 256 → suc (length (take k l)) ≤ 512
-    short k l g = rw length-take (omega arith)
+    on : Dec (length home ≤ max_path) → module_in rows (module_of (take max_path home) segment) ≡ module_in rows (module_of home segment)
+    on (yes h) = ap (λ (l : Bytes). module_in rows (module_of l segment)) (take_all max_path home h)
+    on (no h) =
+        let n = length-take-le max_path home (omega arith) in
+        rw (le-ltb (length (take max_path home)) 257 (omega arith), le-ltb (length home) 257 (omega arith)) refl
 
--- ---- segment by segment
--- behind a part that isn't the last the separator stands
-sep_there : (sep s : List ℕ) → first_part sep s < length s → begins sep (drop (first_part sep s) s) ≡ true
-unfolding first_part choose
-sep_there sep [] h = absurd (omega arith)
-sep_there sep (c ∷ s) h =
-    by_test (λ (t : Bool). choose t 0 (suc (first_part sep s)) < suc (length s) → begins sep (drop (choose t 0 (suc (first_part sep s))) (c ∷ s)) ≡ true) (begins sep (c ∷ s)) (λ q. λ _. q)
-    (λ _. λ l. sep_there sep s (omega arith)) h
+cut_again : (home segment : Bytes) → take max_path (take max_path home · segment) ≡ take max_path (home · segment)
+cut_again home segment = on (dec_le (length home) max_path)
+  where
+    on : Dec (length home ≤ max_path) → take max_path (take max_path home · segment) ≡ take max_path (home · segment)
+    on (yes h) = ap (λ (l : Bytes). take max_path (l · segment)) (take_all max_path home h)
+    on (no h) =
+        let n = length-take-le max_path home (omega arith) in
+        take-append-le max_path (take max_path home) (46 ∷ segment) (omega arith) ∙ take_all max_path (take max_path home) (omega arith)
+        ∙ sym (take-append-le max_path home (46 ∷ segment) (omega arith))
 
-dot_first : (s : List ℕ) → 0 < length s → begins (b ".") s ≡ true → get_or s 0 0 ≡ 46
-unfolding begins
-dot_first [] l h = absurd (omega arith)
-dot_first (c ∷ s) l h = eqb-true c 46 (and_left (eqb c 46) true h)
+module _ (rows : List Bytes) where
+  abbrev pub stand : Bytes → List Bytes → Bool
+  stand home xs = any (module_in rows) (modules_in home xs)
 
-abbrev pub modules_ahead : List Bytes → Bytes → ℕ → Bool
-modules_ahead rows x from = any (module_in rows) (modules_in (take from (46 ∷ x)) (split (b ".") (drop from x)))
+  cut_home : (home : Bytes) (xs : List Bytes) → stand (take max_path home) xs ≡ stand home xs
+  unfolding modules_in any
+  cut_home home [] = refl
+  cut_home home (x ∷ xs) =
+      ap₂ ◌||◌ (cut_module rows home x)
+      (sym (cut_home (take max_path home · x) xs) ∙ ap (λ (l : Bytes). stand l xs) (cut_again home x) ∙ cut_home (home · x) xs)
 
-module _ (rows : List Bytes) (x : Bytes) (from e : ℕ) (d : Parted (b ".") x from e) where
-  -- the dot behind a segment
-  pub dot_behind : e < length x → get_or (46 ∷ x) (e + 1) 0 ≡ 46
-  dot_behind h =
-      let m : length (drop from x) ≡ length x - from = length-drop from x in
-      let l = spans (b ".") x from e (omega arith) d in
-      let at : from + first_part (b ".") (drop from x) ≡ e = sym d.ends in
-      let there = sep_there (b ".") (drop from x) (omega arith) in
-      let whole : drop (first_part (b ".") (drop from x)) (drop from x) ≡ drop e x = rw drop-drop (ap (λ (k : ℕ). drop k x) at) in
-      rw add-one (sym (get_or-drop e x 0 0 ∙ ap (λ (k : ℕ). get_or x k 0) (omega arith)) ∙ dot_first (drop e x) (rw length-drop (omega arith)) (ap (begins (b ".")) (sym whole) ∙ there))
+  pub stands_none : (home : Bytes) → false ≡ stand home []
+  unfolding modules_in any
+  stands_none home = refl
 
-  module _ (dot : get_or (46 ∷ x) from 0 ≡ 46) where
-    next_home : take (e + 1) (46 ∷ x) ≡ take from (46 ∷ x) · take (e - from) (drop from x)
-    next_home =
-        let l = spans (b ".") x from e (omega arith) d in
-        let n : e + 1 ≡ from + suc (e - from) = omega arith in
-        ap (λ (k : ℕ). take k (46 ∷ x)) n ∙ take-add from (suc (e - from)) (46 ∷ x)
-        ∙ ap (λ (s : List ℕ). take from (46 ∷ x) ++ take (suc (e - from)) s) (drop-cons (46 ∷ x) from 0 (omega arith))
-        ∙ ap (λ (c : ℕ). take from (46 ∷ x) ++ (c ∷ take (e - from) (drop from x))) dot
+  module _ (home x : Bytes) (xs : List Bytes) (m : Bool) (is : m ≡ module_in rows (module_of home x)) where
+    pub stands_hit : m ≡ true → true ≡ stand home (x ∷ xs)
+    unfolding modules_in any
+    stands_hit h = rw (← is, h)
 
-    module _ (m : Bool) (is : m ≡ module_in rows (segment_module x from e)) where
-      at_more : e < length x → modules_ahead rows x from ≡ (m || modules_ahead rows x (e + 1))
-      unfolding modules_in any
-      at_more h = rw (parts_more (b ".") x from e (omega arith) d h, next_home, is) refl
-
-      pub stands_last : length x ≤ e → m ≡ modules_ahead rows x from
-      unfolding modules_in any
-      stands_last h = rw (parts_last (b ".") x from e (omega arith) d h) (is ∙ sym (or-false (module_in rows (segment_module x from e))))
-
-      pub stands_hit : e < length x → m ≡ true → true ≡ modules_ahead rows x from
-      stands_hit h k = sym (at_more h ∙ rw k)
-
-      pub stands_on : e < length x → m ≡ false → modules_ahead rows x (e + 1) ≡ modules_ahead rows x from
-      stands_on h k = sym (at_more h ∙ rw k)
-
--- ---- the package of a file that is viewed as a whole
-module _ (rows : List Bytes) (s : List ℕ) (v : FileView) (e : v ≡ file_in 0 (part s 0 (length s - 0))) where
-  pub given_stands : v.«package».given ≡ true → (x : Bytes) → x ≡ part s v.«package».start v.«package».len → (z : Bool) → z ≡ any (module_in rows) (modules_in [] (split (b ".") x)) → z ≡ part_stands rows s
-  unfolding part_stands
-  given_stands h x is z q = q ∙ ap (λ (l : List Bytes). any (module_in rows) (modules_in [] l)) (ap (split (b ".")) is ∙ with_segments s v e h)
-
-  pub none_stands : v.«package».given ≡ false → false ≡ part_stands rows s
-  unfolding part_stands modules_in any
-  none_stands h = ap (λ (l : List Bytes). any (module_in rows) (modules_in [] l)) (without_segments s v e h)
+    pub stands_on : m ≡ false → (next : Bytes) → next ≡ home ⊙ x → stand next xs ≡ stand home (x ∷ xs)
+    unfolding modules_in any ◌⊙◌
+    stands_on h next e = rw (← is, h, e) (cut_home (home · x) xs)

@@ -1,5 +1,5 @@
 -- Packages of a set whose modules have one name. Assumes nothing.
-use Rattle.std.specs.Prelude.{ℕ, ◌-◌, Bool, false, ◌&&◌, List, [], ◌∷◌, ltb, length, take, drop}
+use Rattle.std.specs.Prelude.{ℕ, Bool, false, ◌&&◌, List, [], ◌∷◌, ltb, length, take}
 use Rattle.base.specs.Bytes.{same}
 use Rattle.base.specs.Choose.{choose}
 use Rattle.base.specs.Lists.{any}
@@ -51,9 +51,8 @@ packages_meet set = any (package_meets set) (parts 1 (entries set))
 unfoldable pub module_in : List Bytes → PackageModule → Bool
 module_in rows m = ltb (length m.home) 257 && among (row m.home (to_snake m.segment)) rows
 
--- that of the segment of the package x from a place to another: its home is what stands before, behind a dot
-abbrev pub segment_module : Bytes → ℕ → ℕ → PackageModule
-segment_module x from e = record { home = take from (46 ∷ x); segment = take (e - from) (drop from x) }
+abbrev pub module_of : Bytes → Bytes → PackageModule
+module_of home segment = record { home = home; segment = segment }
 
 -- does one of the package of the file whose part p is?
 unfoldable pub part_stands : List Bytes → Bytes → Bool

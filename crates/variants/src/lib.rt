@@ -1,124 +1,92 @@
-// code_generator.rs, append_oneof: the variants of a oneof's enum.
+//! code_generator.rs, append_oneof: the variants of a oneof's enum.
 #![tactic(auto)]
 
-ghost use Rattle.std.specs.Prelude.{[], ◌-◌};
-ghost use Rattle.writer.specs.Wrote.{Wrote};
-ghost use Rattle.options.specs.Settings.{settings};
-ghost use Rattle.descriptor.specs.Views.{field_of};
-ghost use Rattle.name_rules.specs.Accessors.{text};
-ghost use Rattle.joined.specs.Joined.{fits};
-ghost use Rattle.members.specs.Members.{numbers_with};
-ghost use Rattle.code_generator.specs.Piece.{◌⟫◌, when, flat};
-ghost use Rattle.code_generator.specs.Attributes.{line, append_deprecated, append_field_attributes};
+ghost use Rattle.std.specs.Prelude.{◌≡◌, []};
+ghost use Rattle.members.specs.Members.{oneof_members};
+ghost use Rattle.code_generator.specs.Writing.{◌⊳◌};
 ghost use Rattle.code_generator.specs.Oneofs.{variant_tag, variant_line};
 ghost use Rattle.variants.specs.Variants.{variant_text, variant_texts};
 
-use descriptor::FieldView;
+use attributes::writing::{append_deprecated, append_field_attributes, put_line};
+use context::Context;
+use descriptor::FieldDescriptor;
+use field_lines::writing::{box_close, box_open};
+use ident::text::put_upper_camel;
+use members::of_message::{Oneof, boxed_at, field_at, is_deprecated, setting};
+use options::{Kind, Options};
+use resolve::writing::{field_type_tag, resolve_type};
+use writer::Text;
 
-// A variant's tag, from behind `#[prost(` on. full: the message's full name.
-fn variant_tag(t: &mut [u8], at: usize, o: &[u8], full: &[u8], set: &[u8], f: FieldView) -> usize
-    ensures { Wrote t.old at (flat (variant_tag (settings o.now) full.now (field_of set.now f))) t.new result }
+/// A variant's tag, from behind `#[prost(` on. full: the message's full name.
+#[tactic(auto, unfolding(code_generator::specs::Oneofs::variant_tag))]
+fn variant_tag(text: &mut Text<'_>, options: &Options<'_>, full: &[u8], field: &FieldDescriptor<'_>)
+    ensures { text.new ≡ text.old ⊳ variant_tag options.now full.now field.now }
 {
-    let a = resolve::field_type_tag(t, at, o, full, set, f);
-    let a = writer::put(t, a, b", tag = \"");
-    let number = accessors::number(set, f);
-    let a = writer::put_number(t, a, number);
-    writer::put(t, a, b"\")]\n")
+    field_type_tag(text, options, full, field);
+    text.put(b", tag = \"");
+    text.put_number(field.number());
+    text.put(b"\")]\n");
 }
 
+/// The line of a variant; its bytes are `Bytes` where `bytes` holds.
+#[tactic(auto, unfolding(code_generator::specs::Oneofs::variant_line))]
 fn variant_line(
-    t: &mut [u8],
-    at: usize,
-    o: &[u8],
-    d: usize,
+    text: &mut Text<'_>,
+    options: &Options<'_>,
+    depth: usize,
     full: &[u8],
-    set: &[u8],
-    f: FieldView,
+    field: &FieldDescriptor<'_>,
     boxed: bool,
-    asbytes: bool,
-) -> usize
-    ensures { Wrote t.old at (flat (variant_line (settings o.now) d full.now [] (field_of set.now f) boxed asbytes)) t.new result }
+    bytes: bool,
+)
+    ensures { text.new ≡ text.old ⊳ variant_line options.now depth full.now [] field.now boxed bytes }
 {
-    let a = writer::put_indent(t, at, d);
-    let name = accessors::name(set, f);
-    let named = ident::put_upper_camel(t, a, name);
-    let a = writer::put(t, named.next, b"(");
-    let a = field_lines::box_open(t, a, o, boxed);
-    let a = resolve::resolve_type(t, a, o, full, set, f, asbytes);
-    let a = field_lines::box_close(t, a, boxed);
-    writer::put(t, a, b"),\n")
+    text.put_indent(depth);
+    put_upper_camel(text, field.name());
+    text.put(b"(");
+    box_open(text, options, boxed);
+    resolve_type(text, options, full, field, bytes);
+    box_close(text, boxed);
+    text.put(b"),\n");
 }
 
-// A variant, where it is known whether it is boxed and whether bytes are `Bytes`. oneof: the oneof's full name.
-fn put_variant(
-    t: &mut [u8],
-    at: usize,
-    o: &[u8],
-    d: usize,
-    full: &[u8],
-    oneof: &[u8],
-    set: &[u8],
-    f: FieldView,
-    boxed: bool,
-    asbytes: bool,
-) -> usize
-    ensures { Wrote t.old at (flat (append_deprecated d (field_of set.now f) ⟫ line d "#[prost(" ⟫ variant_tag (settings o.now) full.now (field_of set.now f) ⟫ when (fits oneof.now (text (field_of set.now f).name)) (append_field_attributes (settings o.now) d oneof.now (text (field_of set.now f).name)) ⟫ variant_line (settings o.now) d full.now [] (field_of set.now f) boxed asbytes)) t.new result }
-{
-    let deprecated = members::is_deprecated(set, f);
-    let a = attributes::append_deprecated(t, at, d, deprecated);
-    let a = attributes::put_line(t, a, d, b"#[prost(");
-    let a = variant_tag(t, a, o, full, set, f);
-    let name = accessors::name(set, f);
-    let a = attributes::append_field_attributes(t, a, o, oneof, name, d);
-    variant_line(t, a, o, d, full, set, f, boxed, asbytes)
-}
-
-// Field k of the set as a variant of the oneof with this full name.
+/// Field k of the set as a variant of the oneof whose full name `path` is. full: the message's.
+#[tactic(auto, unfolding(crate::specs::Variants::variant_text, code_generator::specs::Attributes::append_deprecated))]
 pub fn append_variant(
-    t: &mut [u8],
-    at: usize,
-    o: &[u8],
-    set: &[u8],
-    fields: &[u16],
-    d: usize,
+    text: &mut Text<'_>,
+    context: &Context<'_>,
+    depth: usize,
     full: &[u8],
-    oneof: &[u8],
+    path: &[u8],
     k: usize,
-) -> usize
-    ensures { Wrote t.old at (flat (variant_text (settings o.now) set.now fields.now d full.now oneof.now k)) t.new result }
+)
+    ensures { text.new ≡ text.old ⊳ variant_text context.now.options context.now.set context.now.fields depth full.now path.now k }
 {
-    let f = members::field_at(set, fields, k);
-    let boxed = members::boxed_at(o, set, fields, k, oneof);
-    let name = accessors::name(set, f);
-    let asbytes = members::setting(o, 2, full, name);
-    put_variant(t, at, o, d, full, oneof, set, f, boxed, asbytes)
+    let options = &context.options;
+    let field = field_at(context, k);
+    append_deprecated(text, depth, is_deprecated(&field));
+    put_line(text, depth, b"#[prost(");
+    variant_tag(text, options, full, &field);
+    append_field_attributes(text, options, path, field.name(), depth);
+    let boxed = boxed_at(context, k, path);
+    let bytes = setting(options, Kind::Bytes, full, field.name());
+    variant_line(text, options, depth, full, &field, boxed, bytes);
 }
 
-// The fields from `first` on, below `last`, of the oneof c: one more than its index.
+/// The fields of a oneof, whose full name `path` is. full: the message's.
 pub fn append_variants(
-    t: &mut [u8],
-    at: usize,
-    o: &[u8],
-    set: &[u8],
-    fields: &[u16],
-    d: usize,
+    text: &mut Text<'_>,
+    context: &Context<'_>,
+    depth: usize,
     full: &[u8],
-    oneof: &[u8],
-    c: usize,
-    first: usize,
-    last: usize,
-) -> usize
-    ensures { Wrote t.old at (flat (variant_texts (settings o.now) set.now fields.now d full.now oneof.now (numbers_with fields.now c (last - first) first))) t.new result }
+    path: &[u8],
+    oneof: &Oneof<'_>,
+)
+    ensures { text.new ≡ text.old ⊳ variant_texts context.now.options context.now.set context.now.fields depth full.now path.now (oneof_members context.now.fields oneof.now) }
 {
-    let mut a = at;
-    let mut next = first;
-    while next < last {
-        let k = next;
-        next = k + 1;
-        let which = text_tables::oneof_at(fields, k);
-        if which == c {
-            a = append_variant(t, a, o, set, fields, d, full, oneof, k);
+    for k in oneof.fields.start..oneof.fields.end {
+        if text_tables::oneof_at(context.fields, k) == oneof.number {
+            append_variant(text, context, depth, full, path, k);
         }
     }
-    a
 }

@@ -1,20 +1,17 @@
 use Rattle.writer.specs.Wrote.{over}
 use Rattle.joined.proofs.ShownLaws.{with_package, without_package}
-use mathlib.Core.Path.{sym, ap, ◌∙◌}
-use mathlib.Core.List.{List, []}
-use lib.ListN.{length, take}
-use lib.Seq.{take-nil}
-use Prim.Native.Nat.{ℕ, zero-le}
-use Rattle.name_rules.specs.FullNames.{◌·◌}
+use Rattle.std.proofs.Common.{sym, ap, ◌∙◌, length, take}
+use Rattle.std.proofs.Math.Seq.{take-nil}
+use Prim.Native.Nat.{zero-le}
 use Rattle.joined.proofs.package_in.Goals as goal
 
-pub returns-then-name : goal.returns-then-name
-returns-then-name c =
-    let e = ap (λ (x : List ℕ). [] · x) c.text_bytes.ensures ∙ with_package _ _ c.file_view-file.ensures c.if-name.true in
+pub returns-in-Some : goal.returns-in-Some
+returns-in-Some c =
+    let e = with_package _ _ _ _ c.file.view_is c.new-file.ensures _ c.in-Some.is in
     (c.path_in.ensures.0, c.path_in.ensures.1 ∙ ap (take (length c.args.t.now)) e, c.path_in.ensures.2 ∙ ap (over c.args.t.now 0) e)
 
-pub returns : goal.returns
+pub returns-in-None : goal.returns-in-None
 unfolding over
-returns c =
-    let e = without_package _ _ c.file_view-file.ensures c.if-name.false in
+returns-in-None c =
+    let e = without_package _ _ _ _ c.file.view_is c.new-file.ensures c.in-None.is in
     (zero-le, sym (take-nil (length c.args.t.now)) ∙ ap (take (length c.args.t.now)) e, ap (over c.args.t.now 0) e)

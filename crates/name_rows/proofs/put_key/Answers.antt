@@ -1,10 +1,5 @@
-use Rattle.writer.specs.Wrote.{◌►◌}
-use Rattle.name_rows.specs.Rows.{with_checksum, key}
+use Rattle.writer.proofs.TextLaws.{appended}
 use Rattle.name_rows.proofs.put_key.Goals as goal
 
 pub returns : goal.returns
-unfolding with_checksum key
-returns c =
-    rw (← c.checksum-h.ensures)
-    (c.put-a.ensures
-    ► c.put_four.ensures)
+returns c = appended _ _ _ _ _ (appended _ _ _ _ _ c.put.ensures c.put_byte.ensures) c.put-2.ensures

@@ -1,14 +1,10 @@
-use mathlib.Core.Path.{◌≡◌}
-use Prim.Native.Nat.{◌≤◌}
-use lib.ListN.{length, drop}
+use Rattle.std.specs.Prelude.{◌≡◌, length}
 use Rattle.path.specs.Forms.{among}
 use Rattle.name_rows.specs.Rows.{rows_in}
 use Rattle.name_rows.proofs.row_among.Given as goal
 
-abbrev pub invariant-loop-left : goal.invariant-loop-left
-unfolding among
-invariant-loop-left l = (l.at ≤ length l.t) × (among l.row (rows_in l.left (drop l.at l.t)) ≡ among l.row (rows_in l.n l.t))
+abbrev pub invariant-loop-row : goal.invariant-loop-row
+invariant-loop-row l = among l.wanted (rows_in (length l.rest) l.rest) ≡ among l.wanted (rows_in (length l.rows) l.rows)
 
-abbrev pub decreases-loop-left : goal.decreases-loop-left
-unfolding among
-decreases-loop-left l = l.left
+abbrev pub decreases-loop-row : goal.decreases-loop-row
+decreases-loop-row l = length l.rest

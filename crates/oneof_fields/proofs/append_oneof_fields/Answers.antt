@@ -1,45 +1,6 @@
-use borrow.Author.Rules.{rules}
-use Rattle.oneof_fields.specs.OneofFields.{oneof_field_texts}
-use Rattle.oneof_fields.proofs.RangeLaws.{part_in_range}
-use Rattle.walks.specs.Walked.{going_start, going_kept, going_end, going_fault, going_skip, going_found}
-use Rattle.wire.proofs.RecordsLaws.{places}
-use Rattle.writer.specs.Wrote.{named}
-use native.Mathlib.Omega.{arith}
-use native.Mathlib.Numerals.{add-one}
-use Rattle.std.specs.Prelude.{◌^◌, ◌<◌}
+use Rattle.std.proofs.Common.{arith, rules}
+use Rattle.writer.proofs.TextLaws.{placed}
 use Rattle.oneof_fields.proofs.append_oneof_fields.Goals as goal
 
-pub loop-f-init : goal.loop-f-init
-loop-f-init c = (omega arith, omega arith, going_start _ _ _ _ _ _ _ (search rules))
-
-pub shape_of-t-in-End : goal.shape_of-t-in-End
-shape_of-t-in-End c = going_kept _ _ _ _ _ _ _ c.loop-f.invariant.2
-
-pub returns-in-End : goal.returns-in-End
-unfolding oneof_field_texts
-returns-in-End c = going_end _ _ _ _ _ _ _ c.loop-f.invariant.2 _ c.read_step.ensures c.in-End.is
-
-pub shape_of-t-in-Fault : goal.shape_of-t-in-Fault
-shape_of-t-in-Fault c = going_kept _ _ _ _ _ _ _ c.loop-f.invariant.2
-
-pub returns-in-Fault : goal.returns-in-Fault
-unfolding oneof_field_texts
-returns-in-Fault c = going_fault _ _ _ _ _ _ _ c.loop-f.invariant.2 _ c.read_step.ensures _ c.in-Fault.is
-
-pub overflow_add-x : goal.overflow_add-x
-overflow_add-x c = let g = c.well_formed.1.1.1.1.1.1.1.1.1.1.0.1 in let h : c.loop-f.x < 2 ^ 63 = omega (arith, g) in search rules
-
-pub put_oneof-a-requires : goal.put_oneof-a-requires
-put_oneof-a-requires c = c.camel_sums-n.ensures
-
-pub loop-f-smaller-then-f-eq8 : goal.loop-f-smaller-then-f-eq8
-loop-f-smaller-then-f-eq8 c = search places
-
-pub loop-f-preserved-then-f-eq8 : goal.loop-f-preserved-then-f-eq8
-loop-f-preserved-then-f-eq8 c = (search places, search places, going_found _ _ _ _ _ _ _ c.loop-f.invariant.2 _ c.read_step.ensures _ c.in-Found.is c.if-f-eq8.true c.embedded-q.ensures (named (part_in_range c.args.messages.now _ _ _ _ _ c.fields_of-range.ensures.0 c.fields_of-range.ensures.1 _ _ _ _ _ c.loop-f.x _) (c.put_oneof-a.ensures c.args.messages.now)) _ (add-one c.loop-f.x))
-
-pub loop-f-smaller : goal.loop-f-smaller
-loop-f-smaller c = search places
-
-pub loop-f-preserved : goal.loop-f-preserved
-loop-f-preserved c = (search places, search places, going_skip _ _ _ _ _ _ _ c.loop-f.invariant.2 _ c.read_step.ensures _ c.in-Found.is c.if-f-eq8.false)
+pub returns : goal.returns
+returns c = placed c.append_oneof_fields.new.text (omega arith) (search rules) (rw c.new-options.ensures at c.append_oneof_fields.ensures) c.next.ensures

@@ -1,35 +1,24 @@
-use Rattle.base.specs.Bytes.{b}
-use Rattle.split.proofs.SplitLaws.{spans, parted_next}
-use Rattle.package_names.proofs.StandLaws.{dot_behind, stands_last, stands_hit, stands_on}
-use borrow.Author.Rules.{rules}
-use native.Mathlib.Omega.{arith}
-use mathlib.Core.Path.{refl, ◌∙◌}
-use mathlib.Core.List.{[]}
+use Rattle.std.proofs.Common.{sym, ap, ◌∙◌, List, ℕ, length}
+use Rattle.joined.specs.Joined.{◌⊙◌}
+use Rattle.name_rows.specs.Rows.{rows_in}
+use Rattle.package_names.specs.Packages.{module_of, module_in}
+use Rattle.package_names.proofs.StandLaws.{stand, stands_none, stands_hit, stands_on}
 use Rattle.package_names.proofs.package_stands.Goals as goal
 
-pub loop-e-init : goal.loop-e-init
-loop-e-init c = (record { starts = omega arith; ends = c.part_end-e.ensures }, refl, refl)
+pub returns-then-module_stands : goal.returns-then-module_stands
+returns-then-module_stands c =
+    let rows = rows_in (length c.args.rows.now) c.args.rows.now in
+    let is = c.module_stands.ensures ∙ ap (λ (home : List ℕ). module_in rows (module_of home c.in-Some.segment.now)) c.as_bytes.ensures in
+    stands_hit rows _ _ _ _ is c.if-module_stands.true ∙ ap (stand rows c.loop-segment.home) (sym c.in-Some.ensures.steps) ∙ c.loop-segment.invariant
 
-pub segment_stands-stands-requires : goal.segment_stands-stands-requires
-segment_stands-stands-requires c = let l = spans _ _ _ _ (omega arith) c.loop-e.invariant.0 in (l.order, l.within)
-
-pub returns-then-stands : goal.returns-then-stands
-returns-then-stands c = stands_hit _ _ _ _ c.loop-e.invariant.0 c.loop-e.invariant.1 _ c.segment_stands-stands.ensures c.loop-e-test.true c.if-stands.true ∙ c.loop-e.invariant.2
-
-pub overflow_add-from : goal.overflow_add-from
-overflow_add-from c = let l = spans _ _ _ _ (omega arith) c.loop-e.invariant.0 in search rules
-
-pub loop-e-smaller : goal.loop-e-smaller
-loop-e-smaller c =
-    let d = parted_next (b ".") _ _ _ (omega arith) c.loop-e.invariant.0 c.loop-e-test.true _ c.part_end-e-in-loop-e.ensures in
-    let l = spans _ _ _ _ (omega arith) d in
-    omega arith
-
-pub loop-e-preserved : goal.loop-e-preserved
-loop-e-preserved c = (parted_next (b ".") _ _ _ (omega arith) c.loop-e.invariant.0 c.loop-e-test.true _ c.part_end-e-in-loop-e.ensures, dot_behind [] _ _ _ c.loop-e.invariant.0 c.loop-e-test.true, stands_on _ _ _ _ c.loop-e.invariant.0 c.loop-e.invariant.1 _ c.segment_stands-stands.ensures c.loop-e-test.true c.if-stands.false ∙ c.loop-e.invariant.2)
-
-pub segment_stands-requires : goal.segment_stands-requires
-segment_stands-requires c = let l = spans _ _ _ _ (omega arith) c.loop-e.invariant.0 in (l.order, l.within)
+pub loop-segment-preserved : goal.loop-segment-preserved
+loop-segment-preserved c =
+    let rows = rows_in (length c.args.rows.now) c.args.rows.now in
+    let is = c.module_stands.ensures ∙ ap (λ (home : List ℕ). module_in rows (module_of home c.in-Some.segment.now)) c.as_bytes.ensures in
+    let next = c.new-home.ensures ∙ ap (λ (home : List ℕ). home ⊙ c.in-Some.segment.now) c.as_bytes-in-loop-segment.ensures in
+    stands_on rows _ _ _ _ is c.if-module_stands.false _ next ∙ ap (stand rows c.loop-segment.home) (sym c.in-Some.ensures.steps) ∙ c.loop-segment.invariant
 
 pub returns : goal.returns
-returns c = stands_last _ _ _ _ c.loop-e.invariant.0 c.loop-e.invariant.1 _ c.segment_stands.ensures c.loop-e-test.false ∙ c.loop-e.invariant.2
+returns c =
+    let rows = rows_in (length c.args.rows.now) c.args.rows.now in
+    stands_none rows c.loop-segment.home ∙ ap (stand rows c.loop-segment.home) (sym c.in-None.ensures.steps.0) ∙ c.loop-segment.invariant

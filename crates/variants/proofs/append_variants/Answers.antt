@@ -1,36 +1,32 @@
-use mathlib.Core.Path.{ap, refl, sym, ◌∙◌}
-use mathlib.Core.List.{List}
-use Prim.Native.Nat.{ℕ}
-use borrow.Author.Rules.{rules}
-use Rattle.options.specs.Settings.{settings}
-use Rattle.attributes.proofs.Onward.{begun, turned, passed, done}
-use Rattle.members.proofs.MemberLaws.{numbers_end, numbers_found, numbers_skip}
-use Rattle.code_generator.specs.Piece.{flat}
-use Rattle.variants.specs.Variants.{variant_texts}
+use Rattle.std.proofs.Common.{◌≡◌, ap, sym, ◌∙◌, arith, ◌<◌, ◌≤◌}
+use Rattle.context.specs.Given.{Given}
+use Rattle.text_tables.specs.Rows.{field_row}
+use Rattle.members.specs.Seen.{OneofSeen}
+use Rattle.variants.proofs.VariantLaws.{variants_on, variants_past, variants_done}
+use Rattle.variants.proofs.append_variants.Goals.{then-oneof_at-oneof, else-oneof_at-oneof}
 use Rattle.variants.proofs.append_variants.Goals as goal
 
-abbrev written : List ℕ → List ℕ → List ℕ → ℕ → List ℕ → List ℕ → List ℕ → List ℕ
-written o set fields d full oneof ks = flat (variant_texts (settings o) set fields d full oneof ks)
-
-pub loop-next-init : goal.loop-next-init
-loop-next-init c = begun (search rules)
-
-pub loop-next-preserved-then-which-c : goal.loop-next-preserved-then-which-c
-unfolding variant_texts
-loop-next-preserved-then-which-c c =
+pub loop-k-preserved : goal.loop-k-preserved
+loop-k-preserved c =
     let v = c.args in
-    turned c.loop-next.invariant
-    (ap (written v.o.now v.set.now v.fields.now v.d v.full.now v.oneof.now) (numbers_found _ _ _ c.loop-next-test.true _ refl _ (sym c.oneof_at-which.ensures ∙ c.if-which-c.true)))
-    c.append_variant-a.ensures
-
-pub loop-next-preserved : goal.loop-next-preserved
-loop-next-preserved c =
-    let v = c.args in
-    passed c.loop-next.invariant
-    (ap (written v.o.now v.set.now v.fields.now v.d v.full.now v.oneof.now) (numbers_skip _ _ _ c.loop-next-test.true _ refl _ (λ e. c.if-which-c.false (c.oneof_at-which.ensures ∙ e))))
+    let g = v.context.now in
+    let oneof = ap (λ (o : OneofSeen). o.number) c.oneof.view_is in
+    let last = ap (λ (o : OneofSeen). o.last) c.oneof.view_is in
+    let below : c.loop-k.k < v.oneof.now.last = omega (arith, c.loop-k-test.true, last) in
+    let is : c.oneof_at.result ≡ (field_row g.fields c.loop-k.k).oneof = c.oneof_at.ensures ∙ ap (λ (x : Given). (field_row x.fields c.loop-k.k).oneof) c.context.view_is in
+    elim c.if-oneof_at-oneof.branch [
+      | then-oneof_at-oneof w ↦
+          variants_on g.options g.set g.fields v.depth v.full.now v.path.now v.oneof.now.number v.oneof.now.last c.loop-k.k c.loop-k.text _ c.loop-k.invariant below
+          (sym is ∙ w.if-oneof_at-oneof.true ∙ oneof) _ (w.text-is ∙ w.append_variant.ensures)
+      | else-oneof_at-oneof w ↦
+          variants_past g.options g.set g.fields v.depth v.full.now v.path.now v.oneof.now.number v.oneof.now.last c.loop-k.k c.loop-k.text _ c.loop-k.invariant below
+          (λ e. w.if-oneof_at-oneof.false (is ∙ e ∙ sym oneof)) _ w.text-is
+    ]
 
 pub returns : goal.returns
-unfolding variant_texts
 returns c =
     let v = c.args in
-    done c.loop-next.invariant (ap (written v.o.now v.set.now v.fields.now v.d v.full.now v.oneof.now) (numbers_end _ _ _ _ c.loop-next-test.false))
+    let g = v.context.now in
+    let last = ap (λ (o : OneofSeen). o.last) c.oneof.view_is in
+    let ends : v.oneof.now.last ≤ c.loop-k.k = omega (arith, c.loop-k-test.false, last) in
+    variants_done g.options g.set g.fields v.depth v.full.now v.path.now v.oneof.now.number v.oneof.now.last c.loop-k.k c.loop-k.text _ c.loop-k.invariant ends

@@ -1,0 +1,11 @@
+use Rattle.std.specs.Prelude.{◌≡◌}
+use Rattle.std.specs.Iterator.Adapters.{enumerate_source, enumerate_count}
+use Rattle.writer.specs.Writing.{◌▻◌}
+use Rattle.walks.specs.Walked.{walked}
+use Rattle.oneof_text.specs.OneofText.{oneof_part, oneof_texts, next_index}
+use Rattle.oneof_text.proofs.writing.append_oneofs.Given as goal
+
+abbrev pub invariant-loop-index : goal.invariant-loop-index
+invariant-loop-index l =
+    l.text ▻ walked (oneof_part l.context.options l.context.set l.context.messages l.context.fields l.depth l.message.full l.message.nested l.message.number l.message.part) (next_index l.context.options l.context.set l.context.messages l.context.fields) (enumerate_count l.index-iterator) (enumerate_source l.index-iterator)
+    ≡ l.initial.text ▻ oneof_texts l.context.options l.context.set l.context.messages l.context.fields l.depth l.message.full l.message.nested l.message.number l.message.part
