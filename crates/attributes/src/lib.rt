@@ -1,142 +1,136 @@
 //! code_generator.rs: the lines that stand before a declaration, a field or a variant.
 #![tactic(auto)]
 
-ghost use Rattle.std.specs.Prelude.{[], ◌++◌};
-ghost use Rattle.writer.specs.Wrote.{Wrote};
-ghost use Rattle.writer.specs.Text.{pick, indent};
-ghost use Rattle.options.specs.Settings.{settings};
+ghost use Rattle.std.specs.Prelude.{◌≡◌};
+ghost use Rattle.writer.specs.Text.{pick};
+ghost use Rattle.options.specs.Kind.{kind_number};
 ghost use Rattle.path.specs.PathMap.{get};
 ghost use Rattle.joined.specs.Joined.{fits};
-ghost use Rattle.code_generator.specs.Piece.{flat, when};
+ghost use Rattle.code_generator.specs.Piece.{◌⟫◌, piece, raw, when, push_indent};
+ghost use Rattle.code_generator.specs.Writing.{◌⊳◌};
 ghost use Rattle.code_generator.specs.Attributes.{line, end, attributes, derive, append_field_attributes, append_prost_path_attribute, append_skip_debug};
 ghost use Rattle.attributes.specs.Lines.{attribute};
 
-pub mod writing;
+use joined::FullName;
+use options::{Kind, Options};
+use path::Values;
+use resolve::put_prost;
+use writer::Text;
 
-// What follows serves the crates that write over a slice from a place.
-
-// A line, or its start, at the depth d.
-pub fn put_line(t: &mut [u8], at: usize, d: usize, text: &[u8]) -> usize
-    ensures { Wrote t.old at (indent d ++ text.now) t.new result }
+/// A line, or its start.
+pub fn put_line(text: &mut Text<'_>, depth: usize, line: &[u8])
+    ensures { text.new ≡ text.old ⊳ (push_indent depth ⟫ piece (raw line.now)) }
 {
-    let a = writer::put_indent(t, at, d);
-    writer::put(t, a, text)
+    text.put_indent(depth);
+    text.put(line);
 }
 
-// A line, where `on` holds.
-pub fn put_line_if(t: &mut [u8], at: usize, d: usize, on: bool, text: &[u8]) -> usize
-    ensures { Wrote t.old at (pick on (indent d ++ text.now) []) t.new result }
+/// A line, where `on` holds.
+pub fn put_line_if(text: &mut Text<'_>, depth: usize, on: bool, line: &[u8])
+    ensures { text.new ≡ text.old ⊳ when on (push_indent depth ⟫ piece (raw line.now)) }
 {
     if on {
-        return put_line(t, at, d, text);
+        put_line(text, depth, line);
     }
-    at
 }
 
-// The line that closes a block.
-pub fn end(t: &mut [u8], at: usize, d: usize) -> usize
-    ensures { Wrote t.old at (flat (end d)) t.new result }
+/// The line that closes a block.
+pub fn end(text: &mut Text<'_>, depth: usize)
+    ensures { text.new ≡ text.old ⊳ end depth }
 {
-    put_line(t, at, d, b"}\n")
+    put_line(text, depth, b"}\n");
 }
 
-fn put_attribute(t: &mut [u8], at: usize, d: usize, v: &[u8]) -> usize
-    ensures { Wrote t.old at (flat (attribute d v.now)) t.new result }
+/// One attribute on its line.
+#[tactic(auto, unfolding(crate::specs::Lines::attribute))]
+fn put_attribute(text: &mut Text<'_>, depth: usize, value: &[u8])
+    ensures { text.new ≡ text.old ⊳ attribute depth value.now }
 {
-    let a = put_line(t, at, d, v);
-    writer::put(t, a, b"\n")
+    put_line(text, depth, value);
+    text.put(b"\n");
 }
 
-// The values of all rows of a kind that match the path, each on a line. Kind 5: type attributes, 7: message attributes,
-// 8: enum attributes, 6: field attributes.
+/// The values of all rows of a kind that match the path, each on a line.
+#[tactic(auto, unfolding(code_generator::specs::Attributes::attributes, crate::specs::Lines::attribute))]
 pub fn append_attributes(
-    t: &mut [u8],
-    at: usize,
-    o: &[u8],
-    kind: u16,
+    text: &mut Text<'_>,
+    options: &Options<'_>,
+    kind: Kind,
     path: &[u8],
-    d: usize,
-) -> usize
-    ensures { Wrote t.old at (flat (attributes d (get kind path.now (settings o.now)))) t.new result }
+    depth: usize,
+)
+    ensures { text.new ≡ text.old ⊳ attributes depth (get (kind_number kind) path.now options.now) }
 {
-    let mut a = at;
-    let mut i: u32 = 0;
-    let mut from = options::bodies_at(o);
-    loop {
-        let m = path::next_match(o, kind, path, i, from);
-        if !m.found {
-            return a;
-        }
-        let start = m.value;
-        let end = m.end;
-        a = put_attribute(t, a, d, &o[start..end]);
-        i = m.next;
-        from = end;
+    for value in Values::new(options, kind, path) {
+        put_attribute(text, depth, value);
     }
 }
 
-// The field attributes of a name in a message or enum. A path that no accepted set has is too long for the buffer, and has none.
+/// The field attributes of a name in a message or enum. A path that no accepted set has is too long for the buffer, and has
+/// none.
+#[tactic(auto, unfolding(base::specs::Choose::choose, code_generator::specs::Attributes::append_field_attributes), using(crate::proofs::AttributeLaws::none_appended))]
 pub fn append_field_attributes(
-    t: &mut [u8],
-    at: usize,
-    o: &[u8],
+    text: &mut Text<'_>,
+    options: &Options<'_>,
     full: &[u8],
     name: &[u8],
-    d: usize,
-) -> usize
-    ensures { Wrote t.old at (pick (fits full.now name.now) (flat (append_field_attributes (settings o.now) d full.now name.now)) []) t.new result }
+    depth: usize,
+)
+    ensures { text.new ≡ text.old ⊳ when (fits full.now name.now) (append_field_attributes options.now depth full.now name.now) }
 {
-    let mut path = [0u8; 512];
-    let n = joined::join(&mut path, full, name);
-    if n <= 512 {
-        return append_attributes(t, at, o, 6, &path[0..n], d);
+    // without such a row no full name is made
+    if !options.has(Kind::FieldAttribute) {
+        return;
     }
-    at
+    if let Some(path) = FullName::whole(full, name) {
+        append_attributes(text, options, Kind::FieldAttribute, path.as_bytes(), depth);
+    }
 }
 
-// `#[deprecated]`, where `on` holds.
-pub fn append_deprecated(t: &mut [u8], at: usize, d: usize, on: bool) -> usize
-    ensures { Wrote t.old at (flat (when on (line d "#[deprecated]\n"))) t.new result }
+/// `#[deprecated]`, where it is.
+pub fn append_deprecated(text: &mut Text<'_>, depth: usize, deprecated: bool)
+    ensures { text.new ≡ text.old ⊳ when deprecated (line depth "#[deprecated]\n") }
 {
-    put_line_if(t, at, d, on, b"#[deprecated]\n")
+    put_line_if(text, depth, deprecated, b"#[deprecated]\n");
 }
 
-// The derives of a struct or a oneof's enum; `what` ends the line.
+/// The derives of a struct or a oneof's enum; `what` ends the line.
+#[tactic(auto, unfolding(code_generator::specs::Attributes::derive))]
 pub fn derive(
-    t: &mut [u8],
-    at: usize,
-    o: &[u8],
-    d: usize,
+    text: &mut Text<'_>,
+    options: &Options<'_>,
+    depth: usize,
     copy: bool,
     eq: bool,
     what: &[u8],
-) -> usize
-    ensures { Wrote t.old at (flat (derive (settings o.now) d copy eq what.now)) t.new result }
+)
+    ensures { text.new ≡ text.old ⊳ derive options.now depth copy eq what.now }
 {
-    let a = put_line(t, at, d, b"#[derive(Clone, ");
-    let a = writer::put_if(t, a, copy, b"Copy, ");
-    let a = writer::put(t, a, b"PartialEq, ");
-    let a = writer::put_if(t, a, eq, b"Eq, Hash, ");
-    let a = resolve::put_prost(t, a, o);
-    writer::put(t, a, what)
+    put_line(text, depth, b"#[derive(Clone, ");
+    text.put_if(copy, b"Copy, ");
+    text.put(b"PartialEq, ");
+    text.put_if(eq, b"Eq, Hash, ");
+    put_prost(text, options);
+    text.put(what);
 }
 
-// The line that names the prost path, without an indent: only with kind 10.
-pub fn append_prost_path_attribute(t: &mut [u8], at: usize, o: &[u8]) -> usize
-    ensures { Wrote t.old at (flat (append_prost_path_attribute (settings o.now))) t.new result }
+/// The line that names the prost path, without an indent: only with a row for it.
+#[tactic(auto, unfolding(code_generator::specs::Attributes::append_prost_path_attribute), using(options::proofs::FindLaws::found_any))]
+pub fn append_prost_path_attribute(text: &mut Text<'_>, options: &Options<'_>)
+    ensures { text.new ≡ text.old ⊳ append_prost_path_attribute options.now }
 {
-    let f = options::find_kind(o, 10);
-    if f.found {
-        let a = writer::put(t, at, b"#[prost(prost_path = \"");
-        let a = options::put_prost_path(t, a, o);
-        return writer::put(t, a, b"\")]\n");
+    if options.has(Kind::ProstPath) {
+        text.put(b"#[prost(prost_path = \"");
+        text.put(options.prost_path());
+        text.put(b"\")]\n");
     }
-    at
 }
 
-pub fn append_skip_debug(t: &mut [u8], at: usize, o: &[u8], d: usize, full: &[u8]) -> usize
-    ensures { Wrote t.old at (flat (append_skip_debug (settings o.now) d full.now)) t.new result }
+/// The line that leaves `Debug` to the user, where a row asks for it.
+#[tactic(auto, unfolding(code_generator::specs::Attributes::append_skip_debug), using(crate::proofs::AttributeLaws::number_there))]
+pub fn append_skip_debug(text: &mut Text<'_>, options: &Options<'_>, depth: usize, full: &[u8])
+    ensures { text.new ≡ text.old ⊳ append_skip_debug options.now depth full.now }
 {
-    let f = path::find_first(o, 9, full);
-    put_line_if(t, at, d, f.found, b"#[prost(skip_debug)]\n")
+    let skips = path::get_first(options, Kind::SkipDebug, full).is_some();
+    put_line_if(text, depth, skips, b"#[prost(skip_debug)]\n");
 }

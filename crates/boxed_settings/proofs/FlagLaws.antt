@@ -1,5 +1,5 @@
 -- Flags written one behind the other, and one level of messages. Assumes nothing.
-use Rattle.std.proofs.Common.{◌≡◌, refl, sym, ap, ◌∙◌, ℕ, zero, suc, ◌-◌, Bool, true, false, List, [], ◌∷◌, take, Option, Some, None, is_some, if◌then◌else◌}
+use Rattle.std.proofs.Common.{◌≡◌, refl, sym, ap, ◌∙◌, ℕ, zero, suc, ◌-◌, Bool, true, false, List, [], ◌∷◌, Option, Some, None, is_some, if◌then◌else◌}
 use mir.Val.{bool_byte}
 use native.Mathlib.Numerals.{sub-one}
 use Rattle.base.specs.Choose.{choose}
@@ -9,10 +9,8 @@ use Rattle.writer.proofs.TextLaws.{put-nothing, put-append}
 use Rattle.descriptor.specs.Descriptor.{Bytes}
 use Rattle.options.specs.Settings.{Setting}
 use Rattle.path.specs.PathMap.{get_first, number_of}
-use Rattle.name_rules.specs.FullNames.{◌·◌}
 use Rattle.context.specs.Context.{has}
 use Rattle.walks.specs.Walked.{walked}
-use Rattle.joined.specs.Joined.{max_path, ◌⊙◌}
 use Rattle.boxed_settings.specs.Flags.{flag, stay, message_flags, messages_flags}
 
 module _ (g : ℕ → Bytes → Bytes) (t : Text) where
@@ -30,11 +28,6 @@ pub flags_are : (left : ℕ) (rs : List Setting) (scope : Bytes) (ps : List Byte
 unfolding messages_flags
 flags_are zero rs scope ps ne = absurd (ne refl)
 flags_are (suc k) rs scope ps ne = rw sub-one
-
--- the path of a field, as its buffer holds it
-pub path_cut : (scope name full x : Bytes) → x ≡ take max_path (scope · name) → name ≡ full → x ≡ scope ⊙ full
-unfolding ◌⊙◌
-path_cut scope name full x e is = e ∙ ap (λ (y : Bytes). take max_path (scope · y)) is
 
 -- a byte for whether a row was found
 pub flag_is : (rs : List Setting) (x y : Bytes) (o : Option ℕ) (t : Bool) (n : ℕ) → o ≡ number_of (get_first 4 x rs) → t ≡ is_some o → n ≡ bool_byte t → x ≡ y → n ∷ [] ≡ flag (has rs 4 y)

@@ -5,10 +5,10 @@ ghost use Rattle.std.specs.Prelude.{◌≡◌};
 ghost use Rattle.writer.specs.Wrote.{Wrote};
 ghost use Rattle.writer.specs.Writing.{◌▻◌};
 ghost use Rattle.descriptor.specs.Decode.{entries, parts};
-ghost use Rattle.options.specs.Settings.{settings};
 ghost use Rattle.boxed_settings.specs.Flags.{flag, field_flag, field_flags, messages_flags, file_flags, set_flags};
 
-use joined::MAX_PATH;
+use descriptor::field_number::{FILE_MESSAGE_TYPE, MESSAGE_FIELD, MESSAGE_NESTED_TYPE, SET_FILE};
+use joined::{FullName, name_of};
 use options::{Kind, Options};
 use parts::Parts;
 use writer::Text;
@@ -17,9 +17,8 @@ use writer::Text;
 fn put_field(text: &mut Text<'_>, options: &Options<'_>, full: &[u8], field: &[u8])
     ensures { text.new ≡ text.old ▻ field_flag options.now full.now 0 field.now }
 {
-    let mut path = [0u8; MAX_PATH];
-    let n = joined::path_in(&mut path, full, joined::name_of(field));
-    let boxed = path::get_first(options, Kind::Boxed, &path[..n]).is_some();
+    let path = FullName::new(full, name_of(field));
+    let boxed = path::get_first(options, Kind::Boxed, path.as_bytes()).is_some();
     text.put_byte(u8::from(boxed));
 }
 
@@ -28,7 +27,7 @@ fn put_field(text: &mut Text<'_>, options: &Options<'_>, full: &[u8], field: &[u
 fn put_fields(text: &mut Text<'_>, options: &Options<'_>, full: &[u8], message: &[u8])
     ensures { text.new ≡ text.old ▻ field_flags options.now full.now message.now }
 {
-    for field in Parts::new(message, 2) {
+    for field in Parts::new(message, MESSAGE_FIELD) {
         put_field(text, options, full, field);
     }
 }
@@ -49,10 +48,10 @@ fn put_messages(
         return;
     }
     for message in Parts::new(part, number) {
-        let mut full = [0u8; MAX_PATH];
-        let n = joined::path_in(&mut full, scope, joined::name_of(message));
-        put_fields(text, options, &full[..n], message);
-        put_messages(text, options, &full[..n], message, 3, left - 1);
+        let path = FullName::new(scope, name_of(message));
+        let full = path.as_bytes();
+        put_fields(text, options, full, message);
+        put_messages(text, options, full, message, MESSAGE_NESTED_TYPE, left - 1);
     }
 }
 
@@ -60,9 +59,8 @@ fn put_messages(
 fn put_file(text: &mut Text<'_>, options: &Options<'_>, file: &[u8])
     ensures { text.new ≡ text.old ▻ file_flags options.now 0 file.now }
 {
-    let mut scope = [0u8; MAX_PATH];
-    let n = joined::package_in(&mut scope, file);
-    put_messages(text, options, &scope[..n], file, 4, 16);
+    let scope = FullName::package(file);
+    put_messages(text, options, scope.as_bytes(), file, FILE_MESSAGE_TYPE, 16);
 }
 
 /// The files of a set.
@@ -70,16 +68,16 @@ fn put_file(text: &mut Text<'_>, options: &Options<'_>, file: &[u8])
 fn put_files(text: &mut Text<'_>, options: &Options<'_>, set: &[u8])
     ensures { text.new ≡ text.old ▻ set_flags options.now set.now }
 {
-    for file in Parts::new(set, 1) {
+    for file in Parts::new(set, SET_FILE) {
         put_file(text, options, file);
     }
 }
 
 /// The fields of a set in declaration order.
-pub fn boxed_settings(t: &mut [u8], o: &[u8], set: &[u8]) -> usize
-    ensures { Wrote t.old 0 (set_flags (settings o.now) set.now) t.new result }
+pub fn boxed_settings(bytes: &mut [u8], options: &Options<'_>, set: &[u8]) -> usize
+    ensures { Wrote bytes.old 0 (set_flags options.now set.now) bytes.new result }
 {
-    let mut text = Text::new(t);
-    put_files(&mut text, &Options::new(o), set);
+    let mut text = Text::new(bytes);
+    put_files(&mut text, options, set);
     text.next(0)
 }

@@ -2,7 +2,6 @@
 #![tactic(auto)]
 
 ghost use Rattle.std.specs.Prelude.{◌≡◌, ◌+◌, ◌-◌, ◌≤◌, length, get_or};
-ghost use Rattle.writer.specs.Wrote.{Wrote};
 ghost use Rattle.writer.specs.Writing.{◌▻◌};
 ghost use Rattle.literal.specs.Escape.{escape_bytes};
 ghost use Rattle.c_escaping.specs.Unescape.{byte_of, letter, is_octal, octal_at, is_hex, hex_value, hex_at, escape_at, unescape_at, unescapes, unescaped};
@@ -177,16 +176,4 @@ pub fn escape_unescaped(text: &mut Text, s: &[u8])
         };
         literal::escape_byte(text, byte);
     }
-}
-
-/// `escape_unescaped` over a slice from a place, for the writers over a place.
-pub fn put_unescaped(t: &mut [u8], at: usize, s: &[u8]) -> usize
-    ensures { Wrote t.old at (escape_bytes (unescaped s.now)) t.new result }
-{
-    let mut text = Text {
-        buffer: t,
-        length: at,
-    };
-    escape_unescaped(&mut text, s);
-    text.next(at)
 }

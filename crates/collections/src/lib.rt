@@ -2,7 +2,6 @@
 #![tactic(auto)]
 
 ghost use Rattle.std.specs.Prelude.{◌≡◌};
-ghost use Rattle.writer.specs.Wrote.{Wrote};
 ghost use Rattle.collections.specs.Collections.{map_type, map_annotation, bytes_type, bytes_annotation};
 
 /// The map type of a map field.
@@ -63,18 +62,4 @@ pub fn bytes_type(asbytes: bool) -> BytesType
     } else {
         BytesType::Vec
     }
-}
-
-/// `MapType::annotation` over a slice from a place, for the writers over a place.
-pub fn put_map_annotation(t: &mut [u8], at: usize, map: MapType) -> usize
-    ensures { Wrote t.old at (map_annotation map) t.new result }
-{
-    writer::put(t, at, map.annotation())
-}
-
-/// `BytesType::annotation` over a slice from a place, for the writers over a place.
-pub fn put_bytes_annotation(t: &mut [u8], at: usize, bytes: BytesType) -> usize
-    ensures { Wrote t.old at (bytes_annotation bytes) t.new result }
-{
-    writer::put(t, at, bytes.annotation())
 }

@@ -11,6 +11,7 @@ ghost use Rattle.derives.specs.Rules.{can_field_derive_copy, can_field_derive_eq
 ghost use Rattle.derives.specs.Can.{answer_of, row_can};
 ghost use Rattle.derives.specs.Memo.{Memo, Kept, unknown};
 
+use field_types::Sort;
 use message_graph::{Field, Graph, LABEL_REPEATED, MESSAGES, TYPE_MESSAGE};
 
 /// The trait that is asked for.
@@ -36,7 +37,10 @@ fn type_eq(kind: u8) -> bool
     ensures { result ≡ type_eq kind }
 {
     let sort = field_types::sort_of(u32::from(kind));
-    matches!(sort, b'i' | b'b' | b'e' | b't' | b'y')
+    matches!(
+        sort,
+        Some(Sort::Integer | Sort::Boolean | Sort::Enumerated | Sort::Text | Sort::Bytes)
+    )
 }
 
 #[tactic(auto, unfolding(crate::specs::Rules::can_field_derive_copy, base::specs::Choose::choose))]

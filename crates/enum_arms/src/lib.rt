@@ -6,7 +6,7 @@ ghost use Rattle.code_generator.specs.Writing.{◌⊳◌};
 ghost use Rattle.code_generator.specs.Enums.{variant_lines, as_str_arm, from_str_arm};
 ghost use Rattle.enum_arms.specs.ValueText.{variant_text, value_text, value_texts};
 
-use attributes::writing::{append_deprecated, append_field_attributes, put_line, put_line_if};
+use attributes::{append_deprecated, append_field_attributes, put_line, put_line_if};
 use descriptor::EnumValueDescriptor;
 use enum_values::{Enumeration, put_variant_name, value_name, value_number};
 use options::Options;

@@ -7,11 +7,11 @@ ghost use Rattle.code_generator.specs.Writing.{◌⊳◌};
 ghost use Rattle.code_generator.specs.Enums.{enum_derive};
 ghost use Rattle.enum_declaration.specs.DeclarationText.{behind_derive, declaration_text};
 
-use attributes::writing::{append_attributes, append_prost_path_attribute, end, put_line};
+use attributes::{append_attributes, append_prost_path_attribute, end, put_line};
 use enum_arms::{Arm, DEEPEST, put_values};
 use enum_values::Enumeration;
 use options::{Kind, Options};
-use resolve::writing::put_prost;
+use resolve::put_prost;
 use writer::Text;
 
 #[tactic(auto, unfolding(path::specs::PathMap::number_of))]

@@ -6,7 +6,7 @@ ghost use Rattle.code_generator.specs.Writing.{◌⊳◌};
 ghost use Rattle.code_generator.specs.Enums.{as_str_arms, from_str_arms, as_str_name, from_str_name, enum_impl};
 ghost use Rattle.enum_impl.specs.ImplText.{impl_line, methods};
 
-use attributes::writing::{end, put_line};
+use attributes::{end, put_line};
 use enum_arms::{Arm, DEEPEST, put_values};
 use enum_values::Enumeration;
 use options::Options;

@@ -2,9 +2,7 @@
 #![tactic(auto)]
 
 ghost use Rattle.std.specs.Prelude.{◌≡◌};
-ghost use Rattle.writer.specs.Wrote.{Wrote};
 ghost use Rattle.writer.specs.Draft.{Filled};
-ghost use Rattle.options.specs.Settings.{settings};
 ghost use Rattle.writer.specs.Writing.{◌▻◌};
 ghost use Rattle.descriptor.specs.Decode.{decode_enum};
 ghost use Rattle.code_generator.specs.Writing.{◌⊳◌};
@@ -89,31 +87,4 @@ pub fn append_enums(
     for enumeration in Parts::new(part, number) {
         lend_enum(text, enumeration, options, depth, scope);
     }
-}
-
-/// The same, written into a buffer from a place on, for message_text.
-pub fn append_enums_at(
-    t: &mut [u8],
-    at: usize,
-    part: &[u8],
-    bytes: &[u8],
-    depth: u32,
-    scope: &[u8],
-    number: u64,
-) -> usize
-    ensures { Wrote t.old at (enum_texts (settings bytes.now) depth scope.now (enums_in number part.now)) t.new result }
-{
-    let mut text = Text {
-        buffer: t,
-        length: at,
-    };
-    append_enums(
-        &mut text,
-        part,
-        &Options::new(bytes),
-        depth as usize,
-        scope,
-        number,
-    );
-    text.next(at)
 }

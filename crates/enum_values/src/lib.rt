@@ -11,13 +11,11 @@ ghost use Rattle.code_generator.specs.Enums.{value_number, is_used};
 ghost use Rattle.enum_values.specs.Kept.{numbers_before, no_values, note, noted, values_in, marked_in};
 
 use descriptor::EnumValueDescriptor;
+use descriptor::field_number::ENUM_VALUE;
 use options::Options;
 use parts::Parts;
 use std::marker::Model;
 use writer::Text;
-
-// EnumDescriptorProto in descriptor.proto
-const VALUE: u64 = 2;
 
 /// Which values of an enum are kept: how many were met, their numbers, and a mark for each whose number none before it has.
 #[derive(Clone, Copy)]
@@ -79,7 +77,7 @@ pub fn build_enum_value_mappings(part: &[u8]) -> Kept
     ensures { result ≡ noted no_values (values_in part.now) }
 {
     let mut kept = Kept::none();
-    for value in Parts::new(part, VALUE) {
+    for value in Parts::new(part, ENUM_VALUE) {
         kept.add(value_number(&EnumValueDescriptor::new(value)));
     }
     kept
@@ -111,7 +109,7 @@ impl<'a> Values<'a> {
         ensures bound { length result ≤ length marks.now }
     {
         Values {
-            parts: Parts::new(part, VALUE),
+            parts: Parts::new(part, ENUM_VALUE),
             marks,
         }
     }

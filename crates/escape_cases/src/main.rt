@@ -6,6 +6,7 @@
 use c_escaping::Unescaped;
 use std::alloc::Global;
 use std::{fs, io};
+use writer::Text;
 
 /// Are these the bytes that the default stands for?
 fn stands_for(default: &[u8], bytes: &[u8]) -> bool {
@@ -33,23 +34,23 @@ fn is_unescaped(alloc: Global, line: &str) -> Option<bool> {
     Some(stands_for(&default, &bytes))
 }
 
-fn put_bytes(text: &mut [u8], bytes: &[u8]) -> usize {
-    let mut end = 0;
-    for byte in bytes {
-        end = literal::put_byte(text, end, *byte);
+fn escape_bytes(text: &mut Text<'_>, bytes: &[u8]) {
+    for &byte in bytes {
+        literal::escape_byte(text, byte);
     }
-    end
 }
 
 /// A line of escape.txt.
 fn is_escaped(alloc: Global, line: &str) -> Option<bool> {
     let (given, want) = line.split_once(' ')?;
-    let mut text = [0u8; 4096];
-    let end = match given.strip_prefix('b') {
-        Some(bytes) => put_bytes(&mut text, &hex::decode(alloc, bytes).ok()?),
-        None => literal::put_text(&mut text, 0, &hex::decode(alloc, given).ok()?),
-    };
-    Some(text.get(..end)? == want.as_bytes())
+    let mut buffer = [0u8; 4096];
+    let mut text = Text::new(&mut buffer);
+    match given.strip_prefix('b') {
+        Some(bytes) => escape_bytes(&mut text, &hex::decode(alloc, bytes).ok()?),
+        None => literal::escape_text(&mut text, &hex::decode(alloc, given).ok()?),
+    }
+    let end = text.length;
+    Some(buffer.get(..end)? == want.as_bytes())
 }
 
 fn main(rt: HostRuntime) -> io::Result<()> {

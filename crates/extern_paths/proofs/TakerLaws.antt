@@ -122,6 +122,9 @@ module _ (rs : List Setting) (ident : List ℕ) (l : length ident < 2 ^ 63) (m :
   pub takes_not : m.worth ≡ 0 → taken rs ident ≡ false
   takes_not z = rw (← taken_is, eq-eqb m.worth 0 z) refl
 
+  pub takes_it : (m.worth ≡ 0 → ⊥) → taken rs ident ≡ true
+  takes_it z = rw (← taken_is, ne_eqb m.worth 0 z) refl
+
   pub resolves_not : m.worth ≡ 0 → resolve_ident rs ident ≡ []
   unfolding resolve_ident choose
   resolves_not z = rw (← taken_is, eq-eqb m.worth 0 z) refl

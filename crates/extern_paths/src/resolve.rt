@@ -2,7 +2,7 @@
 ghost use Rattle.std.specs.Prelude.{◌≡◌, true, false, ◌++◌, ◌+◌, ◌^◌, ◌<◌, ◌≤◌, length, IfSome, IfNone, []};
 ghost use Rattle.base.specs.Bytes.{b};
 ghost use Rattle.writer.specs.Writing.{◌▻◌};
-ghost use Rattle.options.specs.Settings.{settings, prost_path};
+ghost use Rattle.options.specs.Settings.{prost_path};
 ghost use Rattle.path.specs.Worth.{weighed, best_of, none_yet};
 ghost use Rattle.split.specs.Split.{split};
 ghost use Rattle.rust_paths.specs.Segments.{extern_text};
@@ -14,7 +14,7 @@ ghost use Rattle.extern_paths.specs.Seen.{extern_seen};
 use crate::prost_types::{PATHS, VALUES};
 use options::{Kind, Options};
 use path::Best;
-use rust_paths::writing::{put_behind, put_rust_path};
+use rust_paths::{put_behind, put_rust_path};
 use split::{Parts, Separator, word};
 use writer::Text;
 
@@ -106,6 +106,7 @@ fn numbered_prost_type<'a>(options: &Options<'a>, own: &'a [u8], j: usize) -> Ex
 pub fn find<'a>(options: &Options<'a>, ident: &[u8]) -> Option<ExternPath<'a>>
     ensures none { IfNone result (resolve_ident options.now ident.now ≡ []) }
     ensures free { IfNone result (taken options.now ident.now ≡ false) }
+    ensures held { IfSome result (λ _. taken options.now ident.now ≡ true) }
     ensures some { IfSome result (λ e. resolve_by (extern_seen e) ident.now ≡ resolve_ident options.now ident.now) }
     ensures tail { IfSome result (λ e. is_tail e.tail.now ≡ true) }
 {
@@ -126,8 +127,8 @@ pub fn find<'a>(options: &Options<'a>, ident: &[u8]) -> Option<ExternPath<'a>>
     Some(numbered_prost_type(options, own, best.number - count))
 }
 
-/// Writes what stands for a name that an extern path takes.
-fn put_by(text: &mut Text<'_>, by: &ExternPath<'_>, ident: &[u8])
+/// Writes what stands for a name that this extern path takes.
+pub fn put_by(text: &mut Text<'_>, by: &ExternPath<'_>, ident: &[u8])
     requires { is_tail by.now.tail.now ≡ true }
     ensures { text.new ≡ text.old ▻ extern_text (resolve_by (extern_seen by.now) ident.now) }
 {
@@ -148,13 +149,4 @@ pub fn resolve_ident(text: &mut Text<'_>, options: &Options<'_>, ident: &[u8])
     if let Some(by) = find(options, ident) {
         put_by(text, &by, ident);
     }
-}
-
-// What follows serves the crates that pass an options file as its bytes.
-
-/// Does an extern path take this full name?
-pub fn is_taken(bytes: &[u8], ident: &[u8]) -> bool
-    ensures { result ≡ taken (settings bytes.now) ident.now }
-{
-    takes(&Options::new(bytes), ident)
 }

@@ -1,29 +1,87 @@
 //! A field's line.
 #![tactic(auto)]
 
-ghost use Rattle.writer.specs.Wrote.{Wrote};
-ghost use Rattle.options.specs.Settings.{settings};
-ghost use Rattle.code_generator.specs.Piece.{flat};
-ghost use Rattle.code_generator.specs.Fields.{box_open, box_close};
+ghost use Rattle.std.specs.Prelude.{◌≡◌, []};
+ghost use Rattle.code_generator.specs.Piece.{◌⟫◌, lit};
+ghost use Rattle.code_generator.specs.Writing.{◌⊳◌};
+ghost use Rattle.code_generator.specs.Attributes.{line};
+ghost use Rattle.code_generator.specs.Fields.{shape_open, shape_close, box_open, box_close, field_name, field_line};
 
-pub mod writing;
+use descriptor::FieldDescriptor;
+use field_tags::optional;
+use ident::text::put_snake;
+use options::Options;
+use resolve::{put_prost, resolve_type};
+use writer::Text;
 
-// What follows serves the crates that write over a slice from a place.
+/// `Vec` or `Option` around a field's type, where it has one.
+#[tactic(auto, unfolding(code_generator::specs::Fields::shape_open))]
+fn shape_open(text: &mut Text<'_>, options: &Options<'_>, proto3: bool, field: &FieldDescriptor<'_>)
+    ensures { text.new ≡ text.old ⊳ shape_open options.now proto3 field.now }
+{
+    if field.is_repeated() {
+        put_prost(text, options);
+        text.put(b"::alloc::vec::Vec<");
+    } else {
+        text.put_if(optional(proto3, field), b"::core::option::Option<");
+    }
+}
+
+#[tactic(auto, unfolding(code_generator::specs::Fields::shape_close))]
+fn shape_close(text: &mut Text<'_>, proto3: bool, field: &FieldDescriptor<'_>)
+    ensures { text.new ≡ text.old ⊳ shape_close proto3 field.now }
+{
+    text.put_if(field.is_repeated() || optional(proto3, field), b">");
+}
 
 /// The start of a `Box`, where the value is boxed.
-pub fn box_open(t: &mut [u8], at: usize, o: &[u8], boxed: bool) -> usize
-    ensures { Wrote t.old at (flat (box_open (settings o.now) boxed)) t.new result }
+#[tactic(auto, unfolding(code_generator::specs::Fields::box_open))]
+pub fn box_open(text: &mut Text<'_>, options: &Options<'_>, boxed: bool)
+    ensures { text.new ≡ text.old ⊳ box_open options.now boxed }
 {
     if boxed {
-        let a = resolve::put_prost(t, at, o);
-        return writer::put(t, a, b"::alloc::boxed::Box<");
+        put_prost(text, options);
+        text.put(b"::alloc::boxed::Box<");
     }
-    at
 }
 
 /// The end of a `Box`, where the value is boxed.
-pub fn box_close(t: &mut [u8], at: usize, boxed: bool) -> usize
-    ensures { Wrote t.old at (flat (box_close boxed)) t.new result }
+#[tactic(auto, unfolding(code_generator::specs::Fields::box_close))]
+pub fn box_close(text: &mut Text<'_>, boxed: bool)
+    ensures { text.new ≡ text.old ⊳ box_close boxed }
 {
-    writer::put_if(t, at, boxed, b">")
+    text.put_if(boxed, b">");
+}
+
+/// The start of a field's line, up to its type.
+pub fn line_start(text: &mut Text<'_>, depth: usize, field: &FieldDescriptor<'_>)
+    ensures { text.new ≡ text.old ⊳ (line depth "pub " ⟫ field_name [] field.now ⟫ lit ": ") }
+{
+    text.put_indent(depth);
+    text.put(b"pub ");
+    put_snake(text, field.name());
+    text.put(b": ");
+}
+
+/// A field's line. `scope` is where the struct stands; `bytes`: the field's bytes are `Bytes`.
+#[tactic(auto, unfolding(code_generator::specs::Fields::field_line))]
+pub fn field_line(
+    text: &mut Text<'_>,
+    options: &Options<'_>,
+    proto3: bool,
+    depth: usize,
+    scope: &[u8],
+    field: &FieldDescriptor<'_>,
+    boxed: bool,
+    bytes: bool,
+)
+    ensures { text.new ≡ text.old ⊳ field_line options.now proto3 depth scope.now [] field.now boxed bytes }
+{
+    line_start(text, depth, field);
+    shape_open(text, options, proto3, field);
+    box_open(text, options, boxed);
+    resolve_type(text, options, scope, field, bytes);
+    box_close(text, boxed);
+    shape_close(text, proto3, field);
+    text.put(b",\n");
 }

@@ -7,8 +7,9 @@ ghost use Rattle.code_generator.specs.Writing.{◌⊳◌};
 ghost use Rattle.code_generator.specs.Fields.{optional, unpacked, label_tag, bytes_annotation, enum_value, default_text, default_tag, field_tag};
 
 use descriptor::{FieldDescriptor, LABEL_OPTIONAL};
+use field_types::Sort;
 use options::Options;
-use resolve::writing::field_type_tag;
+use resolve::field_type_tag;
 use writer::Text;
 
 // Label
@@ -55,7 +56,7 @@ fn label_tag(text: &mut Text<'_>, proto3: bool, field: &FieldDescriptor<'_>)
 fn bytes_annotation(text: &mut Text<'_>, field: &FieldDescriptor<'_>, bytes: bool)
     ensures { text.new ≡ text.old ⊳ bytes_annotation field.now bytes }
 {
-    if field.sort() == b'y' {
+    if matches!(field_types::sort_of(field.kind()), Some(Sort::Bytes)) {
         text.put(b" = \"");
         text.put(collections::bytes_type(bytes).annotation());
         text.put(b"\"");
@@ -84,13 +85,13 @@ fn default_text(
 )
     ensures { text.new ≡ text.old ⊳ default_text options.now field.now value.now }
 {
-    match field.sort() {
-        b'y' => {
+    match field_types::sort_of(field.kind()) {
+        Some(Sort::Bytes) => {
             text.put(b"b\\\"");
             c_escaping::escape_unescaped(text, value);
             text.put(b"\\\"");
         }
-        b'e' => enum_value(text, options, field, value),
+        Some(Sort::Enumerated) => enum_value(text, options, field, value),
         _ => literal::escape_text(text, value),
     }
 }

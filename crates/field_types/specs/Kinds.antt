@@ -1,5 +1,5 @@
 -- The types and sorts of code, by their number in descriptor.proto and their letter. Assumes nothing.
-use Rattle.std.specs.Prelude.{ℕ}
+use Rattle.std.specs.Prelude.{ℕ, Option, Some, None}
 use Rattle.field_types.specs.Types.{float, integer, boolean, text, group, message, bytes, enumerated}
 use Rattle.field_types.specs.declared.kinds.Sort.{Sort}
 use Rattle.field_types.specs.declared.kinds.Sort.TheVariants as sorts
@@ -15,6 +15,11 @@ letter sorts.Group = group
 letter sorts.Message = message
 letter sorts.Bytes = bytes
 letter sorts.Enumerated = enumerated
+
+-- the letter of a sort, and 0 for none
+abbrev pub letter_of : Option Sort → ℕ
+letter_of None = 0
+letter_of (Some sort) = letter sort
 
 abbrev pub number : Kind → ℕ
 number kinds.Double = 1

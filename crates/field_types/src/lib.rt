@@ -2,7 +2,7 @@
 #![tactic(auto)]
 
 ghost use Rattle.std.specs.Prelude.{◌≡◌};
-ghost use Rattle.writer.specs.Wrote.{Wrote};
+ghost use Rattle.field_types.specs.Kinds.{letter_of};
 ghost use Rattle.field_types.specs.Types.{sort_of, tag_word, rust_word, can_pack};
 
 mod kinds;
@@ -11,14 +11,14 @@ pub use kinds::{Sort, Type, UnknownType};
 
 // The same by the type's number in descriptor.proto, for the crates that hold a number.
 
-/// The letter of the sort of the type `k`, and 0 where that is no type.
+/// The sort of the type `k`, and none where that is no type.
 #[tactic(auto, unfolding(crate::specs::Types::sort_of))]
-pub fn sort_of(k: u32) -> u8
-    ensures { result ≡ sort_of k }
+pub fn sort_of(k: u32) -> Option<Sort>
+    ensures { letter_of result ≡ sort_of k }
 {
     match Type::try_from(k) {
-        Ok(kind) => kind.sort().into(),
-        Err(UnknownType) => 0,
+        Ok(kind) => Some(kind.sort()),
+        Err(UnknownType) => None,
     }
 }
 
@@ -53,18 +53,4 @@ pub fn rust_word(k: u32) -> &'static [u8]
         Ok(kind) => kind.rust_word(),
         Err(UnknownType) => b"",
     }
-}
-
-/// `tag_word` over a slice from a place.
-pub fn put_tag_word(t: &mut [u8], at: usize, k: u32) -> usize
-    ensures { Wrote t.old at (tag_word k) t.new result }
-{
-    writer::put(t, at, tag_word(k))
-}
-
-/// `rust_word` over a slice from a place.
-pub fn put_rust_word(t: &mut [u8], at: usize, k: u32) -> usize
-    ensures { Wrote t.old at (rust_word k) t.new result }
-{
-    writer::put(t, at, rust_word(k))
 }

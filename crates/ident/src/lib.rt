@@ -2,16 +2,12 @@
 #![tactic(auto)]
 
 ghost use Rattle.std.specs.Prelude.{◌≡◌};
-ghost use Rattle.writer.specs.Wrote.{Wrote};
-ghost use Rattle.ident.specs.Ident.{to_snake, to_upper_camel, strip_enum_prefix};
 ghost use Rattle.ident.specs.Convert.{convertible, spellings, convert};
 
 mod keywords;
 pub mod names;
 mod prefix;
 pub mod text;
-
-use writer::Text;
 
 /// The two names of a name, zeros behind them, and their lengths.
 #[derive(Drop)]
@@ -92,69 +88,5 @@ pub fn convert(name: &[u8]) -> Converted
             camel: [0; 64],
             camellen: 0,
         },
-    }
-}
-
-// The writers of `text`, for callers that write from a place in a buffer on and go on behind what is written.
-
-/// The place behind a written name.
-#[derive(Drop)]
-pub struct Named {
-    pub next: usize,
-}
-
-/// As `text::put_stripped`.
-pub fn put_stripped(t: &mut [u8], at: usize, prefix: &[u8], name: &[u8]) -> Named
-    ensures { Wrote t.old at (strip_enum_prefix prefix.now name.now) t.new result.next }
-{
-    let mut text = Text {
-        buffer: t,
-        length: at,
-    };
-    text::put_stripped(&mut text, prefix, name);
-    Named {
-        next: text.next(at),
-    }
-}
-
-/// As `text::put_snake`.
-pub fn put_snake(t: &mut [u8], at: usize, s: &[u8]) -> Named
-    ensures { Wrote t.old at (to_snake s.now) t.new result.next }
-{
-    let mut text = Text {
-        buffer: t,
-        length: at,
-    };
-    text::put_snake(&mut text, s);
-    Named {
-        next: text.next(at),
-    }
-}
-
-/// As `text::put_upper_camel`.
-pub fn put_upper_camel(t: &mut [u8], at: usize, s: &[u8]) -> Named
-    ensures { Wrote t.old at (to_upper_camel s.now) t.new result.next }
-{
-    let mut text = Text {
-        buffer: t,
-        length: at,
-    };
-    text::put_upper_camel(&mut text, s);
-    Named {
-        next: text.next(at),
-    }
-}
-
-/// As `text::put_variant`.
-pub fn put_variant(t: &mut [u8], at: usize, prefix: &[u8], name: &[u8]) -> Named
-    ensures { Wrote t.old at (strip_enum_prefix (to_upper_camel prefix.now) (to_upper_camel name.now)) t.new result.next }
-{
-    let mut text = Text {
-        buffer: t,
-        length: at,
-    };
-    text::put_variant(&mut text, prefix, name);
-    Named {
-        next: text.next(at),
     }
 }

@@ -2,9 +2,10 @@
 //! prefix, a name and what strip_enum_prefix gives. A line that differs is printed.
 #![tactic(auto)]
 
-use ident::Named;
+use ident::text::{fill_snake, fill_upper_camel, put_stripped};
 use std::rt::Files;
 use std::{fs, io};
+use writer::Text;
 
 /// The three words of a line.
 fn words(line: &str) -> Option<(&[u8], &[u8], &[u8])> {
@@ -13,13 +14,19 @@ fn words(line: &str) -> Option<(&[u8], &[u8], &[u8])> {
     Some((first.as_bytes(), second.as_bytes(), third.as_bytes()))
 }
 
-/// Is this what `put` writes?
-fn is_written<F: Fn(&mut [u8]) -> Named>(want: &[u8], put: F) -> bool
-    requires { F.IsAlwaysCallable put }
+/// Is this what `fill` writes?
+fn is_written<F: Fn(&mut [u8]) -> usize>(want: &[u8], fill: F) -> bool
+    requires { F.IsAlwaysCallable fill }
 {
     let mut buffer = [0u8; 256];
-    let end = put(&mut buffer).next;
+    let end = fill(&mut buffer);
     buffer.get(..end) == Some(want)
+}
+
+fn fill_stripped(buffer: &mut [u8], prefix: &[u8], name: &[u8]) -> usize {
+    let mut text = Text::new(buffer);
+    put_stripped(&mut text, prefix, name);
+    text.length
 }
 
 /// Does the convert call give these two names, where it takes the name?
@@ -34,8 +41,8 @@ fn names_are(line: &str) -> bool {
     let Some((name, snake, camel)) = words(line) else {
         return false;
     };
-    is_written(snake, |text| ident::put_snake(text, 0, name))
-        && is_written(camel, |text| ident::put_upper_camel(text, 0, name))
+    is_written(snake, |buffer| fill_snake(buffer, name))
+        && is_written(camel, |buffer| fill_upper_camel(buffer, name))
         && is_converted(name, snake, camel)
 }
 
@@ -43,7 +50,7 @@ fn is_stripped(line: &str) -> bool {
     let Some((prefix, name, stripped)) = words(line) else {
         return false;
     };
-    is_written(stripped, |text| ident::put_stripped(text, 0, prefix, name))
+    is_written(stripped, |buffer| fill_stripped(buffer, prefix, name))
 }
 
 fn run<F: Fn(&str) -> bool + Drop>(

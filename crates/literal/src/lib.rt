@@ -3,7 +3,6 @@
 
 ghost use Rattle.std.specs.Prelude.{◌≡◌, ℕ, List};
 ghost use Rattle.base.specs.Each.{each};
-ghost use Rattle.writer.specs.Wrote.{Wrote};
 ghost use Rattle.writer.specs.Writing.{◌▻◌};
 ghost use Rattle.literal.specs.Escape.{hex_digit, hex_digits, escape, form_text, unicode_escape, escape_char, escape_byte, escape_text};
 
@@ -115,30 +114,4 @@ pub fn escape_text(text: &mut Text, s: &[u8])
     for c in Chars::new(s) {
         escape_char(text, c);
     }
-}
-
-// The same as texts laid over a slice from a place, for the writers over a place.
-
-/// `escape_byte` over a slice.
-pub fn put_byte(t: &mut [u8], at: usize, x: u8) -> usize
-    ensures { Wrote t.old at (each escape_char (escape_byte x)) t.new result }
-{
-    let mut text = Text {
-        buffer: t,
-        length: at,
-    };
-    escape_byte(&mut text, x);
-    text.next(at)
-}
-
-/// `escape_text` over a slice.
-pub fn put_text(t: &mut [u8], at: usize, s: &[u8]) -> usize
-    ensures { Wrote t.old at (escape_text s.now) t.new result }
-{
-    let mut text = Text {
-        buffer: t,
-        length: at,
-    };
-    escape_text(&mut text, s);
-    text.next(at)
 }

@@ -6,9 +6,9 @@ ghost use Rattle.code_generator.specs.Writing.{◌⊳◌};
 ghost use Rattle.code_generator.specs.MapFields.{map_tag, map_open, map_line};
 
 use descriptor::FieldDescriptor;
-use field_lines::writing::line_start;
+use field_lines::line_start;
 use options::Options;
-use resolve::writing::{field_type_tag, map_value_type_tag, put_prost, resolve_type};
+use resolve::{field_type_tag, map_value_type_tag, put_prost, resolve_type};
 use std::marker::Model;
 use writer::Text;
 

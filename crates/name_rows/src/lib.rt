@@ -1,11 +1,8 @@
 //! Names in their modules, each a row of 384 bytes, so that same names are found by their checksums.
 #![tactic(auto)]
 
-ghost use Rattle.std.specs.Prelude.{◌≡◌, [], ◌∷◌, ◌++◌, length};
-ghost use Rattle.base.specs.Bytes.{b, same};
-ghost use Rattle.writer.specs.Text.{pick};
-ghost use Rattle.writer.specs.Wrote.{Wrote};
-ghost use Rattle.ident.specs.Ident.{to_snake, to_upper_camel};
+ghost use Rattle.std.specs.Prelude.{◌≡◌, length};
+ghost use Rattle.base.specs.Bytes.{same};
 ghost use Rattle.writer.specs.Draft.{Filled};
 ghost use Rattle.writer.specs.Writing.{◌▻◌};
 ghost use Rattle.path.specs.Forms.{among};
@@ -94,39 +91,6 @@ fn fill_row(buffer: &mut [u8], home: &[u8], spelling: Spelling, name: &[u8]) -> 
     let mut text = Text::new(buffer);
     put_row(&mut text, home, spelling, name);
     text.length
-}
-
-// The same from a place on, for callers that have a buffer and a place.
-fn row_at(t: &mut [u8], at: usize, home: &[u8], case: Spelling, name: &[u8]) -> usize
-    ensures { Wrote t.old at (row home.now (spelt_by case name.now)) t.new result }
-{
-    let mut text = Text {
-        buffer: t,
-        length: at,
-    };
-    put_row(&mut text, home, case, name);
-    text.next(at)
-}
-
-/// The row of its snake name, from a place on: place_rows and member_rows go by a buffer and a place.
-pub fn put_snake_row(t: &mut [u8], at: usize, home: &[u8], name: &[u8]) -> usize
-    ensures { Wrote t.old at (row home.now (to_snake name.now)) t.new result }
-{
-    row_at(t, at, home, Spelling::Snake, name)
-}
-
-/// The row of its camel name, from a place on, for the same callers.
-pub fn put_camel_row(t: &mut [u8], at: usize, home: &[u8], name: &[u8]) -> usize
-    ensures { Wrote t.old at (row home.now (to_upper_camel name.now)) t.new result }
-{
-    row_at(t, at, home, Spelling::UpperCamel, name)
-}
-
-/// The row of the name of a oneof's enum, from a place on, for place_rows.
-pub fn put_oneof_row(t: &mut [u8], at: usize, home: &[u8], name: &[u8], conflict: bool) -> usize
-    ensures { Wrote t.old at (row home.now (to_upper_camel name.now ++ pick conflict (b "OneOf") [])) t.new result }
-{
-    row_at(t, at, home, Spelling::OneofType(conflict), name)
 }
 
 /// The row of a name in a home, by itself.

@@ -2,27 +2,14 @@
 use Rattle.std.proofs.Common.{◌≡◌, refl, ap, ℕ, ◌+◌, Bool, true, false, not, List, [], ◌∷◌, Option, Some, None, if◌then◌else◌, ◌||◌}
 use Rattle.std.proofs.Math.Option.{some}
 use Rattle.std.proofs.Math.Option as math
-use Rattle.std.specs.List.{list_any, find, position_from}
+use Rattle.std.specs.List.{list_any, find}
 use Rattle.base.specs.Choose.{choose}
 use Rattle.base.specs.Bytes.{b}
 use Rattle.options.specs.Rows.{is_of}
 use Rattle.options.specs.declared.Found.{Found}
-use Rattle.options.specs.Settings.{Setting, found_at, not_found, first_of_kind, value_of, or_else, prost_path, strips_prefix}
+use Rattle.options.specs.Settings.{Setting, found_at, first_of_kind, value_of, or_else, prost_path, strips_prefix}
 
-abbrev pub number_found : Option ℕ → Found
-number_found None = not_found
-number_found (Some i) = found_at i
-
-pub first_position : (kind i : ℕ) (rs : List Setting) → first_of_kind kind i rs ≡ number_found (position_from (is_of kind) i rs)
-unfolding first_of_kind choose
-first_position kind i [] = refl
-first_position kind i (r ∷ rs) = go (is_of kind r) _ _ (first_position kind (i + 1) rs)
-  where
-    go : (t : Bool) (f : Found) (o : Option ℕ) → f ≡ number_found o → choose t (found_at i) f ≡ number_found (if t then Some i else o)
-    go true f o e = refl
-    go false f o e = e
-
-found_any : (kind i : ℕ) (rs : List Setting) → (first_of_kind kind i rs).found ≡ list_any (is_of kind) rs
+pub found_any : (kind i : ℕ) (rs : List Setting) → (first_of_kind kind i rs).found ≡ list_any (is_of kind) rs
 unfolding first_of_kind choose
 found_any kind i [] = refl
 found_any kind i (r ∷ rs) = go (is_of kind r) _ _ (found_any kind (i + 1) rs)
@@ -52,4 +39,4 @@ pub prost_path_found : (rs : List Setting) → prost_path rs ≡ value_or (find 
 unfolding prost_path
 prost_path_found rs = found_value 10 rs (b "::prost")
 
-pub ruleset finds = (first_position, strips_any, prost_path_found)
+pub ruleset finds = (strips_any, prost_path_found)

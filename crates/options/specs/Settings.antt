@@ -1,5 +1,5 @@
 -- The rows of an options file, as its layout places them.
-use Rattle.std.specs.Prelude.{Bool, true, false, not, List, [], ◌∷◌, ℕ, zero, suc, ◌+◌, ◌*◌, ◌-◌, eqb, take, drop, get_or}
+use Rattle.std.specs.Prelude.{Bool, true, false, not, List, [], ◌∷◌, ℕ, zero, suc, ◌+◌, ◌*◌, eqb, take, drop, get_or}
 use Rattle.std.proofs.Math.Option.{Option, some, none}
 use Rattle.base.specs.Choose.{choose}
 use Rattle.base.specs.Bytes.{b}
@@ -48,10 +48,6 @@ settings_from o (suc k) i at =
 
 unfoldable pub settings : List ℕ → List Setting
 settings o = settings_from o (row_count o) 0 (bodies o)
-
--- from one place to another
-abbrev pub between : List ℕ → ℕ → ℕ → List ℕ
-between o a e = take (e - a) (drop a o)
 
 -- ---- what a search for a row finds
 abbrev pub found_at : ℕ → Found

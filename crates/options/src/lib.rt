@@ -4,10 +4,9 @@
 ghost use Rattle.std.specs.Prelude.{◌≡◌, ◌<◌, ◌^◌, length, slice_get, find};
 ghost use Rattle.std.specs.List.{list_any};
 ghost use Rattle.std.specs.Option.{option_map};
-ghost use Rattle.writer.specs.Wrote.{Wrote};
 ghost use Rattle.options.specs.Kind.{kind_number};
 ghost use Rattle.options.specs.Rows.{row_seen, is_of};
-ghost use Rattle.options.specs.Settings.{row_count, bodies, settings, first_of_kind, prost_path, strips_prefix};
+ghost use Rattle.options.specs.Settings.{settings, prost_path, strips_prefix};
 
 pub mod check;
 pub mod kind;
@@ -98,57 +97,9 @@ impl<'a> Options<'a> {
     }
 }
 
-// What follows serves the crates that read an options file by places in its bytes.
-
-/// The number of a row, if there is one.
+/// The number of a row, if there is one: what the definitions of a search give.
 #[derive(Drop)]
 pub struct Found {
     pub found: bool,
     pub number: u32,
-}
-
-/// How many rows there are.
-pub fn row_count(bytes: &[u8]) -> u32
-    ensures { result ≡ row_count bytes.now }
-{
-    u32::from(rows::row_count(bytes))
-}
-
-/// Where the bodies start.
-pub fn bodies_at(bytes: &[u8]) -> usize
-    ensures { (result ≡ bodies bytes.now) × (result < 100000000000) }
-{
-    rows::bodies_at(bytes)
-}
-
-/// The first row of a kind.
-#[tactic(auto, using(crate::proofs::FindLaws::finds))]
-pub fn find_kind(bytes: &[u8], kind: u16) -> Found
-    ensures { result ≡ first_of_kind kind 0 (settings bytes.now) }
-{
-    match Rows::new(bytes).position(|row| row.kind == kind) {
-        // a cast: there are fewer than 2 ^ 16 rows
-        Some(row) => Found {
-            found: true,
-            number: row as u32,
-        },
-        None => Found {
-            found: false,
-            number: 0,
-        },
-    }
-}
-
-/// Is an enum's name stripped from its values' names?
-pub fn strips(bytes: &[u8]) -> bool
-    ensures { result ≡ strips_prefix (settings bytes.now) }
-{
-    Options::new(bytes).strips_enum_prefix()
-}
-
-/// Writes the path of prost in Rust.
-pub fn put_prost_path(t: &mut [u8], at: usize, bytes: &[u8]) -> usize
-    ensures { Wrote t.old at (prost_path (settings bytes.now)) t.new result }
-{
-    writer::put(t, at, Options::new(bytes).prost_path())
 }

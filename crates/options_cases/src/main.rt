@@ -4,15 +4,13 @@
 #![tactic(auto)]
 
 use base::refusal::{Refusal, Returned};
-use options::Options;
+use options::{Kind, Options};
+use path::Values;
 use std::alloc::{AllocError, Global};
 use std::io::Write;
 use std::rt::Files;
 use std::{fs, io};
 use writer::Text;
-
-/// The kind of a type attribute.
-const TYPE_ATTRIBUTE: u16 = 5;
 
 fn check(options: &[u8]) -> Result<(), Refusal> {
     options::check::check(options)?;
@@ -20,46 +18,39 @@ fn check(options: &[u8]) -> Result<(), Refusal> {
 }
 
 /// The values of all rows that a path finds, with commas between them.
-fn put_values(text: &mut Vec<u8>, options: &[u8], path: &[u8]) -> Result<(), AllocError> {
-    let mut row = 0;
-    let mut body = options::bodies_at(options);
-    for index in 0..options::row_count(options) {
-        let found = path::next_match(options, TYPE_ATTRIBUTE, path, row, body);
-        if !found.found {
-            break;
-        }
-        if index != 0 {
+fn put_values(text: &mut Vec<u8>, options: &Options<'_>, path: &[u8]) -> Result<(), AllocError> {
+    let mut is_first = true;
+    for value in Values::new(options, Kind::TypeAttribute, path) {
+        if !is_first {
             text.push(b',')?;
         }
-        text.extend_from_slice(&options[found.value..found.end])?;
-        row = found.next;
-        body = found.end;
+        is_first = false;
+        text.extend_from_slice(value)?;
     }
     Ok(())
 }
 
 /// The first row that a path finds, and the values of all.
-fn put_found(text: &mut Vec<u8>, options: &[u8], path: &[u8]) -> io::Result<()> {
-    let first = path::find_first(options, TYPE_ATTRIBUTE, path);
-    if !first.found {
+fn put_found(text: &mut Vec<u8>, options: &Options<'_>, path: &[u8]) -> io::Result<()> {
+    let Some(first) = path::get_first(options, Kind::TypeAttribute, path) else {
         return text.write_all(b"- -");
-    }
-    write!(text, "{} ", first.number)?;
+    };
+    write!(text, "{first} ")?;
     put_values(text, options, path)?;
     Ok(())
 }
 
 /// What extern paths make of a full name.
-fn put_extern(text: &mut Vec<u8>, options: &[u8], name: &[u8]) -> io::Result<()> {
-    if extern_checks::check(&Options::new(options)).is_err() {
+fn put_extern(text: &mut Vec<u8>, options: &Options<'_>, name: &[u8]) -> io::Result<()> {
+    if extern_checks::check(options).is_err() {
         return text.write_all(b"refused");
     }
-    if !extern_paths::resolve::is_taken(options, name) {
+    if !extern_paths::resolve::takes(options, name) {
         return text.write_all(b"-");
     }
     let mut buffer = [0u8; 4096];
     let mut written = Text::new(&mut buffer);
-    extern_paths::resolve::resolve_ident(&mut written, &Options::new(options), name);
+    extern_paths::resolve::resolve_ident(&mut written, options, name);
     let end = written.length;
     text.write_all(buffer.get(..end).unwrap_or(b"too long"))
 }
@@ -70,8 +61,8 @@ fn put_answer(text: &mut Vec<u8>, asked: &str, options: &[u8], name: &[u8]) -> i
             let returned = Returned::from(check(options).map(|()| 0));
             write!(text, "{} {}", returned.number, returned.place)
         }
-        "p" => put_found(text, options, name),
-        _ => put_extern(text, options, name),
+        "p" => put_found(text, &Options::new(options), name),
+        _ => put_extern(text, &Options::new(options), name),
     }
 }
 

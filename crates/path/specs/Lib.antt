@@ -1,4 +1,3 @@
 pub mod Forms
 pub mod PathMap
 pub mod Worth
-pub mod Matches

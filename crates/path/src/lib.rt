@@ -5,14 +5,11 @@ ghost use Rattle.std.specs.Prelude.{◌≡◌, IsTrue, [], ◌∷◌, ◌<◌, �
 ghost use Rattle.base.specs.Choose.{choose};
 ghost use Rattle.options.specs.Kind.{kind_number};
 ghost use Rattle.options.specs.Rows.{row_seen};
-ghost use Rattle.options.specs.Settings.{settings};
 ghost use Rattle.path.specs.Forms.{suffixes, prefixes, among};
 ghost use Rattle.path.specs.PathMap.{get, get_first, number_of};
 ghost use Rattle.path.specs.Worth.{weighed, global, worth_in, worth_of, improve, best_of, none_yet};
-ghost use Rattle.path.specs.Matches.{Matches};
 
-use options::rows::{read_row, row_count};
-use options::{Found, Kind, Options, Row};
+use options::{Kind, Options, Row};
 
 pub mod values;
 
@@ -116,55 +113,4 @@ pub fn get_first(options: &Options<'_>, kind: Kind, path: &[u8]) -> Option<usize
 {
     let best = best_row(options, kind.number(), path, true);
     (best.worth != 0).then_some(best.number)
-}
-
-// What follows serves the crates that read an options file by places in its bytes.
-
-/// The row that a single look-up picks.
-#[tactic(auto, using(crate::proofs::MatchLaws::first_found))]
-pub fn find_first(bytes: &[u8], kind: u16, path: &[u8]) -> Found
-    ensures { result ≡ get_first kind path.now (settings bytes.now) }
-{
-    let best = best_row(&Options::new(bytes), kind, path, true);
-    // a cast: there are fewer than 2 ^ 16 rows
-    Found {
-        found: best.worth != 0,
-        number: best.number as u32,
-    }
-}
-
-/// Where the next row's value starts and ends, and the row behind it. That row's body starts at `end`.
-#[derive(Drop)]
-pub struct Match {
-    pub found: bool,
-    pub next: u32,
-    pub value: usize,
-    pub end: usize,
-}
-
-/// The first match from row i on, whose body starts at `at`.
-pub fn next_match(bytes: &[u8], kind: u16, path: &[u8], i: u32, at: usize) -> Match
-    ensures { Matches bytes.now kind path.now i at result }
-{
-    let mut body = at.min(bytes.len());
-    for number in i..u32::from(row_count(bytes)) {
-        let row = read_row(bytes, number, body);
-        let value = body + row.path.len();
-        let end = value + row.value.len();
-        if row_worth(&row, kind, path, true) != 0 {
-            return Match {
-                found: true,
-                next: number + 1,
-                value,
-                end,
-            };
-        }
-        body = end;
-    }
-    Match {
-        found: false,
-        next: i,
-        value: 0,
-        end: 0,
-    }
 }

@@ -1,137 +1,120 @@
-//! code_generator.rs, resolve_ident and resolve_type: the paths and types that a text names, and the types in tags.
+//! code_generator.rs, resolve_ident and resolve_type.
 #![tactic(auto)]
 
-ghost use Rattle.std.specs.Prelude.{◌≡◌, ◌||◌, eqb};
-ghost use Rattle.writer.specs.Wrote.{Wrote};
-ghost use Rattle.options.specs.Settings.{settings};
-ghost use Rattle.field_types.specs.Types.{group, message};
-ghost use Rattle.descriptor.specs.Views.{field_of};
-ghost use Rattle.code_generator.specs.Piece.{flat};
+ghost use Rattle.std.specs.Prelude.{◌≡◌};
+ghost use Rattle.code_generator.specs.Piece.{◌⟫◌, piece, raw};
+ghost use Rattle.code_generator.specs.Writing.{◌⊳◌};
 ghost use Rattle.code_generator.specs.Resolve.{prost, resolve_ident, resolve_bytes, resolve_type, tag_ident, field_type_tag, map_value_type_tag};
 
-pub mod writing;
-
-use descriptor::FieldView;
+use descriptor::FieldDescriptor;
+use extern_paths::resolve;
+use field_types::Sort;
 use options::Options;
+use way::put_way;
 use writer::Text;
 
-// What follows serves the crates that write over a slice from a place, or that hold views of a set's bytes.
-
-// prost_path
-pub fn put_prost(t: &mut [u8], at: usize, o: &[u8]) -> usize
-    ensures { Wrote t.old at (flat (prost (settings o.now))) t.new result }
+/// The path of prost in Rust.
+#[tactic(auto, using(crate::proofs::ProstLaws::prost_written))]
+pub fn put_prost(text: &mut Text<'_>, options: &Options<'_>)
+    ensures { text.new ≡ text.old ⊳ prost options.now }
 {
-    options::put_prost_path(t, at, o)
+    text.put(options.prost_path());
 }
 
-// What is written for the full name of a type in a scope: by an extern path, or the way to it.
-pub fn resolve_ident(t: &mut [u8], at: usize, o: &[u8], scope: &[u8], ident: &[u8]) -> usize
-    ensures { Wrote t.old at (flat (resolve_ident (settings o.now) scope.now ident.now)) t.new result }
+/// What is written for the full name of a type in a scope: by an extern path, or the way to it.
+#[tactic(auto, unfolding(code_generator::specs::Resolve::resolve_ident))]
+pub fn resolve_ident(text: &mut Text<'_>, options: &Options<'_>, scope: &[u8], ident: &[u8])
+    ensures { text.new ≡ text.old ⊳ resolve_ident options.now scope.now ident.now }
 {
-    let mut text = Text {
-        buffer: t,
-        length: at,
-    };
-    writing::resolve_ident(&mut text, &Options::new(o), scope, ident);
-    text.next(at)
-}
-
-// The Rust type of bytes: `Bytes`, or a Vec.
-fn resolve_bytes(t: &mut [u8], at: usize, o: &[u8], asbytes: bool) -> usize
-    ensures { Wrote t.old at (flat (resolve_bytes (settings o.now) asbytes)) t.new result }
-{
-    let a = put_prost(t, at, o);
-    if asbytes {
-        return writer::put(t, a, b"::bytes::Bytes");
+    match resolve::find(options, ident) {
+        Some(by) => resolve::put_by(text, &by, ident),
+        None => put_way(text, scope, ident),
     }
-    let a = writer::put(t, a, b"::alloc::vec::Vec<");
-    writer::put(t, a, b"u8>")
 }
 
-// Is it the sort of groups or messages?
-fn is_message(sort: u8) -> bool
-    ensures { result ≡ (eqb sort group || eqb sort message) }
+/// The Rust type of bytes: `Bytes`, or a Vec.
+#[tactic(auto, unfolding(code_generator::specs::Resolve::resolve_bytes))]
+fn resolve_bytes(text: &mut Text<'_>, options: &Options<'_>, bytes: bool)
+    ensures { text.new ≡ text.old ⊳ resolve_bytes options.now bytes }
 {
-    if sort == b'g' {
-        return true;
+    put_prost(text, options);
+    if bytes {
+        text.put(b"::bytes::Bytes");
+    } else {
+        text.put(b"::alloc::vec::Vec<");
+        text.put(b"u8>");
     }
-    sort == b'm'
 }
 
-// The Rust type of a field's values.
+/// The Rust type of a field's values; bytes are `Bytes` where `bytes` holds.
+#[tactic(auto, unfolding(code_generator::specs::Resolve::resolve_type))]
 pub fn resolve_type(
-    t: &mut [u8],
-    at: usize,
-    o: &[u8],
+    text: &mut Text<'_>,
+    options: &Options<'_>,
     scope: &[u8],
-    s: &[u8],
-    f: FieldView,
-    asbytes: bool,
-) -> usize
-    ensures { Wrote t.old at (flat (resolve_type (settings o.now) scope.now asbytes (field_of s.now f))) t.new result }
+    field: &FieldDescriptor<'_>,
+    bytes: bool,
+)
+    ensures { text.new ≡ text.old ⊳ resolve_type options.now scope.now bytes field.now }
 {
-    let sort = accessors::sort(s, f);
-    if sort == b't' {
-        let a = put_prost(t, at, o);
-        return writer::put(t, a, b"::alloc::string::String");
+    match field_types::sort_of(field.kind()) {
+        Some(Sort::Text) => {
+            put_prost(text, options);
+            text.put(b"::alloc::string::String");
+        }
+        Some(Sort::Bytes) => resolve_bytes(text, options, bytes),
+        Some(Sort::Group | Sort::Message) => resolve_ident(text, options, scope, field.type_name()),
+        _ => text.put(field_types::rust_word(field.kind())),
     }
-    if sort == b'y' {
-        return resolve_bytes(t, at, o, asbytes);
-    }
-    let named = is_message(sort);
-    if named {
-        let ident = accessors::type_name(s, f);
-        return resolve_ident(t, at, o, scope, ident);
-    }
-    let kind = accessors::kind(s, f);
-    field_types::put_rust_word(t, at, kind)
 }
 
-// The path in a tag.
-fn tag_ident(t: &mut [u8], at: usize, o: &[u8], scope: &[u8], s: &[u8], f: FieldView) -> usize
-    ensures { Wrote t.old at (flat (tag_ident (settings o.now) scope.now (field_of s.now f))) t.new result }
+/// An enum's path in a tag, between what stands before it and behind it.
+#[tactic(auto, unfolding(code_generator::specs::Resolve::tag_ident))]
+fn put_enumeration(
+    text: &mut Text<'_>,
+    options: &Options<'_>,
+    scope: &[u8],
+    field: &FieldDescriptor<'_>,
+    before: &[u8],
+    behind: &[u8],
+)
+    ensures { text.new ≡ text.old ⊳ (piece (raw before.now) ⟫ tag_ident options.now scope.now field.now ⟫ piece (raw behind.now)) }
 {
-    let ident = accessors::type_name(s, f);
-    resolve_ident(t, at, o, scope, ident)
+    text.put(before);
+    resolve_ident(text, options, scope, field.type_name());
+    text.put(behind);
 }
 
-// The type in a field's tag.
+/// The type in a field's tag.
+#[tactic(auto, unfolding(code_generator::specs::Resolve::field_type_tag))]
 pub fn field_type_tag(
-    t: &mut [u8],
-    at: usize,
-    o: &[u8],
+    text: &mut Text<'_>,
+    options: &Options<'_>,
     scope: &[u8],
-    s: &[u8],
-    f: FieldView,
-) -> usize
-    ensures { Wrote t.old at (flat (field_type_tag (settings o.now) scope.now (field_of s.now f))) t.new result }
+    field: &FieldDescriptor<'_>,
+)
+    ensures { text.new ≡ text.old ⊳ field_type_tag options.now scope.now field.now }
 {
-    let sort = accessors::sort(s, f);
-    if sort == b'e' {
-        let a = writer::put(t, at, b"enumeration = \"");
-        let a = tag_ident(t, a, o, scope, s, f);
-        return writer::put(t, a, b"\"");
+    if matches!(field_types::sort_of(field.kind()), Some(Sort::Enumerated)) {
+        put_enumeration(text, options, scope, field, b"enumeration = \"", b"\"");
+    } else {
+        text.put(field_types::tag_word(field.kind()));
     }
-    let kind = accessors::kind(s, f);
-    field_types::put_tag_word(t, at, kind)
 }
 
-// The type of a map's values in its tag.
+/// The type of a map's values in its tag.
+#[tactic(auto, unfolding(code_generator::specs::Resolve::map_value_type_tag))]
 pub fn map_value_type_tag(
-    t: &mut [u8],
-    at: usize,
-    o: &[u8],
+    text: &mut Text<'_>,
+    options: &Options<'_>,
     scope: &[u8],
-    s: &[u8],
-    f: FieldView,
-) -> usize
-    ensures { Wrote t.old at (flat (map_value_type_tag (settings o.now) scope.now (field_of s.now f))) t.new result }
+    field: &FieldDescriptor<'_>,
+)
+    ensures { text.new ≡ text.old ⊳ map_value_type_tag options.now scope.now field.now }
 {
-    let sort = accessors::sort(s, f);
-    if sort == b'e' {
-        let a = writer::put(t, at, b"enumeration(");
-        let a = tag_ident(t, a, o, scope, s, f);
-        return writer::put(t, a, b")");
+    if matches!(field_types::sort_of(field.kind()), Some(Sort::Enumerated)) {
+        put_enumeration(text, options, scope, field, b"enumeration(", b")");
+    } else {
+        field_type_tag(text, options, scope, field);
     }
-    field_type_tag(t, at, o, scope, s, f)
 }

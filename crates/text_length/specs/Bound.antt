@@ -1,6 +1,6 @@
 -- Every text of a set within the limits is shorter than 2 ^ 52 bytes. Assumes nothing.
-use Rattle.std.specs.Prelude.{◌≡◌, refl, Bool, true, false, ℕ, zero, suc, ◌+◌, ◌*◌, ◌-◌, ◌^◌, ◌≤◌, ◌<◌, eqb, leb, ltb, take, drop, Ok}
-use Rattle.std.proofs.Common.{ap, length-take, length-drop, leb-true, eqb-true}
+use Rattle.std.specs.Prelude.{◌≡◌, ℕ, zero, suc, ◌+◌, ◌*◌, ◌-◌, ◌^◌, ◌≤◌, ◌<◌, eqb, leb, ltb, take, drop, Ok}
+use Rattle.std.proofs.Common.{length-take, length-drop, leb-true, eqb-true}
 use Rattle.std.proofs.Math.Option.{Option, some, none}
 use mathlib.Core.List.{List, [], ◌∷◌, ◌++◌, map}
 use native.Mathlib.Omega.{arith}

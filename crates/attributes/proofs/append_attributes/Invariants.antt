@@ -1,13 +1,9 @@
-use Prim.Native.Nat.{◌-◌}
-use Rattle.options.specs.Settings.{row_count}
-use Rattle.path.specs.Matches.{values_from}
-use Rattle.code_generator.specs.Piece.{flat}
+use Rattle.std.proofs.Common.{◌≡◌}
+use Rattle.options.specs.Kind.{kind_number}
+use Rattle.path.specs.PathMap.{get}
 use Rattle.code_generator.specs.Attributes.{attributes}
-use Rattle.attributes.proofs.Onward.{Onward}
+use Rattle.code_generator.specs.Writing.{◌⊳◌}
 use Rattle.attributes.proofs.append_attributes.Given as goal
 
-abbrev pub invariant-loop-m : goal.invariant-loop-m
-invariant-loop-m l = Onward l.initial.t l.at (flat (attributes l.d (values_from l.o l.kind l.path 0 l.initial.from))) l.t l.a (flat (attributes l.d (values_from l.o l.kind l.path l.i l.from)))
-
-abbrev pub decreases-loop-m : goal.decreases-loop-m
-decreases-loop-m l = row_count l.o - l.i
+abbrev pub invariant-loop-value : goal.invariant-loop-value
+invariant-loop-value l = l.text ⊳ attributes l.depth l.value-iterator ≡ l.initial.text ⊳ attributes l.depth (get (kind_number l.fn.kind) l.path l.fn.options)

@@ -5,7 +5,8 @@ use Rattle.walks.specs.Walked.{walked}
 use Rattle.descriptor.specs.Descriptor.{Bytes}
 use Rattle.descriptor.specs.Decode.{entries, parts}
 use Rattle.boxed_settings.specs.Flags.{field_flags, message_flags, messages_flags, stay}
-use Rattle.boxed_settings.proofs.FlagLaws.{walk_on, flags_are, flags_none, path_cut}
+use Rattle.joined.specs.Joined.{◌⊙◌}
+use Rattle.boxed_settings.proofs.FlagLaws.{walk_on, flags_are, flags_none}
 use Rattle.boxed_settings.proofs.+put_messages.Goals as goal
 use mathlib.Core.List.{List}
 
@@ -19,7 +20,7 @@ loop-message-init t c =
 
 pub loop-message-preserved : goal.loop-message-preserved
 loop-message-preserved t c =
-    let full = path_cut _ _ _ _ c.path_in-n.ensures.1 c.name_of.ensures in
+    let full = c.as_bytes-full.ensures ∙ c.new-path.ensures ∙ ap (λ (x : Bytes). c.args.scope.now ⊙ x) c.name_of.ensures in
     let p = c.in-Some.message.now in
     let own = c.put_fields.ensures ∙ ap (λ (x : Bytes). c.loop-message.text ▻ field_flags c.args.options.now x p) full in
     let nested = c.put_messages.ensures ∙ ap (λ (x : Bytes). c.put_fields.new.text ▻ messages_flags (c.args.left - 1) c.args.options.now x (parts 3 (entries p))) full in

@@ -2,7 +2,7 @@ use Rattle.std.proofs.Common.{sym, ap, ◌∙◌, arith, rules}
 use Rattle.std.specs.Option.{option_map}
 use Rattle.options.specs.Rows.{row_seen}
 use Rattle.extern_paths.proofs.ByLaws.{tail_none}
-use Rattle.extern_paths.proofs.TakerLaws.{takes_not, resolves_not, row_there, resolved_row, types_there, resolved_type}
+use Rattle.extern_paths.proofs.TakerLaws.{takes_not, takes_it, resolves_not, row_there, resolved_row, types_there, resolved_type}
 use Rattle.extern_paths.proofs.resolve.find.Goals as goal
 
 pub returns-then-best-eq0-clause-none : goal.returns-then-best-eq0-clause-none
@@ -23,6 +23,9 @@ pub returns-then-best-count-clause-some : goal.returns-then-best-count-clause-so
 returns-then-best-count-clause-some c =
     resolved_row _ _ (search rules) _ c.best_extern-best.ensures c.if-best-eq0.false (omega arith) _ (sym c.row.ensures ∙ ap (option_map row_seen) c.in_ok-row.was)
 
+pub returns-then-best-count-clause-held : goal.returns-then-best-count-clause-held
+returns-then-best-count-clause-held c = takes_it _ _ (search rules) _ c.best_extern-best.ensures c.if-best-eq0.false
+
 pub returns-then-best-count-clause-tail : goal.returns-then-best-count-clause-tail
 returns-then-best-count-clause-tail c = tail_none
 
@@ -33,6 +36,9 @@ returns-in_err-own-clause-none c =
 pub returns-in_err-own-clause-free : goal.returns-in_err-own-clause-free
 returns-in_err-own-clause-free c =
     absurd (types_there _ _ (search rules) _ c.best_extern-best.ensures c.if-best-eq0.false (omega arith) (sym c.find.ensures ∙ ap (option_map row_seen) c.in_err-own.was))
+
+pub returns-clause-held : goal.returns-clause-held
+returns-clause-held c = takes_it _ _ (search rules) _ c.best_extern-best.ensures c.if-best-eq0.false
 
 pub returns-clause-some : goal.returns-clause-some
 returns-clause-some c =

@@ -1,7 +1,0 @@
-use borrow.Author.Rules.{rules}
-use Rattle.std.proofs.Common.{arith}
-use Rattle.writer.proofs.TextLaws.{placed}
-use Rattle.literal.proofs.put_byte.Goals as goal
-
-pub returns : goal.returns
-returns c = placed c.escape_byte.new.text (omega arith) (search rules) c.escape_byte.ensures c.next.ensures

@@ -1,7 +1,0 @@
-use Rattle.std.proofs.Common.{◌≡◌, ◌∷◌}
-use Rattle.writer.specs.Writing.{◌▻◌}
-use Rattle.way.specs.Names.{downwards}
-use Rattle.way.proofs.writing.put_downwards.Given as goal
-
-abbrev pub invariant-loop-name : goal.invariant-loop-name
-invariant-loop-name l = l.text ▻ downwards (l.last ∷ l.name-iterator) ≡ l.initial.text ▻ downwards (l.initial.last ∷ l.initial.name-iterator)
