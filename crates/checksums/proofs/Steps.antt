@@ -2,12 +2,14 @@
 use Prim.Native.Nat.{ℕ, ◌+◌, ◌-◌, ◌*◌, ◌%◌, ◌^◌, ◌<◌, ◌≤◌}
 use mathlib.Core.Path.{◌≡◌, refl, sym, ap, ◌∙◌}
 use mathlib.Core.Bool.{Bool, true, false, ◌||◌}
-use mathlib.Core.List.{List}
+use mathlib.Core.List.{List, [], ◌∷◌}
+use Rattle.std.specs.List.{list_any}
 use native.Mathlib.Numerals.{add-one}
 use native.Mathlib.Omega.{arith}
 use lib.ListN.{length, set, get_or, take, drop, length-drop, drop_of_length-le}
 use lib.Seq.{set_out, drop-cons, take_all}
-use borrow.Author.Tests.{eq-eqb, ne_eqb, lt-ltb, le-ltb}
+use lib.Dec.{eqb}
+use borrow.Author.Tests.{eq-eqb, ne_eqb, eqb-true, eqb-false, lt-ltb, le-ltb}
 use Rattle.base.specs.Choose.{choose}
 use Rattle.checksums.specs.Sums.{sum_from, holds, repeats, Put}
 
@@ -19,21 +21,19 @@ pub sum_end : (s : List ℕ) (h i : ℕ) → length s ≤ i → sum_from h (drop
 unfolding sum_from
 sum_end s h i l = rw (drop_of_length-le s {i = i} l)
 
+swapped : (x y : ℕ) → eqb y x ≡ eqb x y
+swapped x y = by (eqb y x) refl
+  where
+    by : (b : Bool) → eqb y x ≡ b → b ≡ eqb x y
+    by true e = sym (eq-eqb x y (sym (eqb-true y x e)))
+    by false e = sym (ne_eqb x y (λ q. eqb-false y x e (sym q)))
+
+pub holds_is : (x : ℕ) (ys : List ℕ) → list_any (λ (y : ℕ). eqb y x) ys ≡ holds x ys
+unfolding holds
+holds_is x [] = refl
+holds_is x (y ∷ ys) = rw (swapped x y, holds_is x ys)
+
 module _ (t : List ℕ) (i : ℕ) where
-  module _ (x : ℕ) where
-    pub holds_end : length t ≤ i → false ≡ holds x (drop i t)
-    unfolding holds
-    holds_end l = rw (drop_of_length-le t {i = i} l)
-
-    module _ (l : i < length t) where
-      pub holds_found : x ≡ get_or t i 0 → true ≡ holds x (drop i t)
-      unfolding holds
-      holds_found e = rw (drop-cons t i 0 l, eq-eqb x (get_or t i 0) e)
-
-      pub holds_next : (x ≡ get_or t i 0 → ⊥) → holds x (drop (i + 1) t) ≡ holds x (drop i t)
-      unfolding holds
-      holds_next ne = rw (drop-cons t i 0 l, add-one, ne_eqb x (get_or t i 0) ne)
-
   pub repeats_end : length t ≤ i → false ≡ repeats (drop i t)
   unfolding repeats
   repeats_end l = rw (drop_of_length-le t {i = i} l)

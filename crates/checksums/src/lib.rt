@@ -1,73 +1,54 @@
-// Checksums of byte strings, and tables of them: the same strings have the same checksum.
+//! Checksums of byte strings, and tables of them: the same strings have the same checksum.
 #![tactic(auto)]
 
 ghost use Rattle.std.specs.Prelude.{◌≡◌, ◌<◌, ◌%◌, ◌^◌};
 ghost use Rattle.checksums.specs.Sums.{sum_from, sum_of, holds, repeats, Put};
 
-fn wide(x: u8) -> u64
-    ensures { (result ≡ x) × (result < 256) }
-{
-    x as u64
-}
-
-// Of bytes behind those whose checksum is h, of which its last 32 bits are taken.
-pub fn checksum_from(h: u64, s: &[u8]) -> u64
-    ensures value { result ≡ sum_from (h % 2 ^ 32) s.now }
+/// Of bytes behind those whose checksum is `sum`, of which its last 32 bits are taken.
+pub fn checksum_from(sum: u64, bytes: &[u8]) -> u64
+    ensures value { result ≡ sum_from (sum % 2 ^ 32) bytes.now }
     ensures upper_bound { result < 2 ^ 32 }
 {
-    let mut sum = h % 4294967296;
-    let mut i: usize = 0;
-    while i < s.len() {
-        let x = wide(s[i]);
-        sum = (sum * 1000003 + x) % 4294967296;
-        i += 1;
+    let mut so_far = sum % 4294967296;
+    for byte in bytes {
+        so_far = (so_far * 1000003 + u64::from(*byte)) % 4294967296;
     }
-    sum
+    so_far
 }
 
-pub fn checksum(s: &[u8]) -> u64
-    ensures { result ≡ sum_of s.now }
+pub fn checksum(bytes: &[u8]) -> u64
+    ensures { result ≡ sum_of bytes.now }
 {
-    checksum_from(0, s)
+    checksum_from(0, bytes)
 }
 
-// Is x one of the numbers of t?
-pub fn holds(t: &[u64], x: u64) -> bool
-    ensures { result ≡ holds x t.now }
+/// Is this one of the numbers?
+#[tactic(auto, unfolding(crate::specs::Sums::holds))]
+pub fn holds(sums: &[u64], sum: u64) -> bool
+    ensures { result ≡ holds sum sums.now }
 {
-    let mut i: usize = 0;
-    while i < t.len() {
-        if x == t[i] {
-            return true;
-        }
-        i += 1;
-    }
-    false
+    sums.contains(&sum)
 }
 
-// Are two of the numbers of t the same?
-pub fn repeats(t: &[u64]) -> bool
-    ensures { result ≡ repeats t.now }
+/// Are two of the numbers the same?
+pub fn repeats(sums: &[u64]) -> bool
+    ensures { result ≡ repeats sums.now }
 {
-    let mut i: usize = 0;
-    while i < t.len() {
-        let x = t[i];
-        i += 1;
-        let again = holds(&t[i..], x);
-        if again {
+    for (n, sum) in sums.iter().enumerate() {
+        if holds(&sums[n + 1..], *sum) {
             return true;
         }
     }
     false
 }
 
-// Number n of a table is x, and so many are there with it: one more than the table has room for, where there is none for x.
-pub fn put_sum(t: &mut [u64], n: usize, x: u64) -> usize
-    ensures { Put t.old n x t.new result }
+/// Number `n` of a table is `sum`, and so many are there with it: one more than the table has room for, where there is no place.
+pub fn put_sum(sums: &mut [u64], n: usize, sum: u64) -> usize
+    ensures { Put sums.old n sum sums.new result }
 {
-    if n < t.len() {
-        t[n] = x;
+    if n < sums.len() {
+        sums[n] = sum;
         return n + 1;
     }
-    t.len() + 1
+    sums.len() + 1
 }

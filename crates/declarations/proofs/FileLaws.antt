@@ -1,15 +1,12 @@
 -- A file's rows, and the loop of `declare_set`: what holds before each file. Assumes nothing.
-use mathlib.Core.Path.{◌≡◌, refl, sym, ap, ◌∙◌}
-use mathlib.Core.Bool.{Bool, true, false, not}
+use mathlib.Core.Path.{◌≡◌, sym, ap, ◌∙◌}
+use mathlib.Core.Bool.{Bool, true, false}
 use mathlib.Core.List.{List, [], ◌∷◌}
-use Prim.Native.Nat.{ℕ, ◌+◌, ◌≤◌}
-use native.Mathlib.Omega.{arith}
+use Prim.Native.Nat.{ℕ, ◌+◌, ◌-◌, ◌≤◌}
 use lib.ListN.{length, set}
-use borrow.Author.Tests.{not-true, not-false}
 use Rattle.base.specs.Choose.{choose}
-use Rattle.descriptor.specs.Views.{file_in}
-use Rattle.descriptor.specs.declared.FileView.{FileView}
-use Rattle.declarations.specs.Rows.{State, state, Became, bytes_at, has_room, places, package_of, package_row, declare_enums, declare_messages, declare_members, declare_file, declare_files}
+use Rattle.std.specs.Prelude.{Option, None, Some}
+use Rattle.declarations.specs.Rows.{State, state, Became, has_room, places, package_of, package_row, declare_enums, declare_messages, declare_members, declare_file, declare_files}
 use Rattle.declarations.specs.declared.Kind.TheVariants.{Package}
 use Rattle.declarations.specs.declared.places.Place.{Place}
 use Rattle.declarations.specs.declared.Declaration.{Declaration as Row}
@@ -22,30 +19,25 @@ module _ (bytes : List ℕ) (file : ℕ) (p : Place) (t : List Row) (c : Count) 
   unfolding declare_members
   members_are up u w own all a b = record { is = b.is ∙ ap (declare_enums bytes file up (places bytes 5 p)) a.is; fewer = b.fewer }
 
-  module _ (v : FileView) (v_is : v ≡ file_in p.start (bytes_at bytes p)) where
-    same_given : v.«package».given ≡ (package_of bytes p).given
-    same_given = ap (λ (x : FileView). x.«package».given) v_is
-
-    pub no_package : not v.«package».given ≡ true → (w : List Row) (all : Count) → Became (declare_members bytes file 0 p (state t c)) w all → Became (declare_file bytes file p (state t c)) w all
+  module _ (v : Option Place) (v_is : v ≡ package_of bytes p) where
+    pub no_package : v ≡ None → (w : List Row) (all : Count) → Became (declare_members bytes file 0 p (state t c)) w all → Became (declare_file bytes file p (state t c)) w all
     unfolding declare_file choose
-    no_package h w all b = let z : (package_of bytes p).given ≡ false = sym same_given ∙ not-true _ h in record { is = rw z b.is; fewer = b.fewer }
+    no_package h w all b = record { is = rw (← v_is, h) b.is; fewer = b.fewer }
 
-    module _ (h : not v.«package».given ≡ false) (r : Bool) (r_is : r ≡ has_room t c.rows) where
+    module _ (q : Place) (h : v ≡ Some q) (r : Bool) (r_is : r ≡ has_room t c.rows) where
       pub package_full : r ≡ false → c.messages ≤ c.rows → Became (declare_file bytes file p (state t c)) t c
       unfolding declare_file choose
       package_full e few =
-          let z : (package_of bytes p).given ≡ true = sym same_given ∙ not-false _ h in
           let y : has_room t c.rows ≡ false = sym r_is ∙ e in
-          record { is = rw (z, y); fewer = few }
+          record { is = rw (← v_is, h, y); fewer = few }
 
-      pub package_put : r ≡ true → (w : List Row) (all : Count)
-          → Became (declare_members bytes file (c.rows + 1) p (state (set t c.rows (record { kind = Package; name = v.«package».start; len = v.«package».len; up = 0; file = file; start = p.start; end = p.end })) (record { rows = c.rows + 1; messages = c.messages }))) w all
+      pub package_put : r ≡ true → (len : ℕ) → len ≡ q.end - q.start → (w : List Row) (all : Count)
+          → Became (declare_members bytes file (c.rows + 1) p (state (set t c.rows (record { kind = Package; name = q.start; len = len; up = 0; file = file; start = p.start; end = p.end })) (record { rows = c.rows + 1; messages = c.messages }))) w all
           → Became (declare_file bytes file p (state t c)) w all
       unfolding declare_file choose package_row
-      package_put e w all b =
-          let z : (package_of bytes p).given ≡ true = sym same_given ∙ not-false _ h in
+      package_put e len len_is w all b =
           let y : has_room t c.rows ≡ true = sym r_is ∙ e in
-          record { is = rw (z, y) (rw v_is at b.is); fewer = b.fewer }
+          record { is = rw (← v_is, h, y, ← len_is) b.is; fewer = b.fewer }
 
 module _ (bytes : List ℕ) (all : State) where
   pub record Going (size file : ℕ) (ps : List Place) (t : List Row) (c : Count) : Type 0 where

@@ -1,5 +1,6 @@
 -- A table keeps its length. Assumes nothing.
 use mathlib.Core.Path.{◌≡◌, refl, ◌∙◌}
+use Rattle.std.specs.Option.{is_some}
 use mathlib.Core.List.{List, [], ◌∷◌}
 use Prim.Native.Nat.{ℕ, zero, suc, ◌+◌}
 use lib.ListN.{length, length-set}
@@ -39,7 +40,7 @@ members_length bytes file up p x =
 pub file_length : (bytes : List ℕ) (file : ℕ) (p : Place) (x : State) → size (declare_file bytes file p x) ≡ size x
 unfolding declare_file
 file_length bytes file p x =
-    choose_case (λ (y : State). size y ≡ size x) (package_of bytes p).given
+    choose_case (λ (y : State). size y ≡ size x) (is_some (package_of bytes p))
     (λ _. choose_case (λ (y : State). size y ≡ size x) (room x)
     (λ _. members_length bytes file (x.rows + 1) p (push (package_row bytes file p) x) ∙ length-set x.table x.rows (package_row bytes file p)) (λ _. refl))
     (λ _. members_length bytes file 0 p x)

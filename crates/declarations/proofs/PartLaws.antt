@@ -13,16 +13,18 @@ use Rattle.wire.proofs.RecordsLaws.{In, AllIn, records_in, length_part}
 use Rattle.wire.specs.declared.Record.{Record}
 use Rattle.wire.specs.declared.Step.{Step}
 use Rattle.wire.specs.declared.Step.TheVariants.{End, Fault, Found}
-use Rattle.descriptor.specs.Decode.{entries, entries_of, bytes_in, parts, decode_message, decode_enum, decode_file}
-use Rattle.descriptor.specs.Views.{given_at, record_at, length_in, text_at, text_of, name_in, message_in}
-use Rattle.descriptor.specs.Latest.{latest_of}
-use Rattle.descriptor.proofs.ViewLaws.{bytes_of}
-use Rattle.descriptor.proofs.ViewTheorems.{part_part, message_name_is, enum_name_is, file_package_is}
-use Rattle.descriptor.specs.declared.Latest.{Latest}
-use Rattle.descriptor.specs.declared.Text.{Text}
+use Rattle.descriptor.specs.Decode.{entries, entries_of, last, last_from, text as decoded, bytes_in, parts, decode_message, decode_enum, decode_file}
+use Rattle.descriptor.specs.Descriptor.{Bytes}
+use Rattle.wire.specs.Encoding.{Field, Value}
+use Rattle.std.proofs.Math.Option as option
+use Rattle.std.specs.Prelude.{Option, None, Some}
+use Rattle.std.specs.Option.{is_some}
+use Rattle.std.specs.List.{last_or}
+use Rattle.descriptor.proofs.PartLaws.{bytes_of}
+use Rattle.descriptor.proofs.PartLaws.{part_part}
 use Rattle.declarations.specs.declared.places.Place.{Place}
 use Rattle.name_rules.specs.Accessors.{text}
-use Rattle.declarations.specs.Rows.{bytes_at, end_in, place, places_of, places, package_of, declaration_row}
+use Rattle.declarations.specs.Rows.{bytes_at, end_in, place, places_of, places, last_place, lies, package_of, declaration_row}
 use Rattle.declarations.specs.declared.Kind.{Kind}
 use Rattle.declarations.specs.Listed.{name_of}
 
@@ -83,26 +85,50 @@ pub places_are : (bytes : List ℕ) (number : ℕ) (p : Place) → map (bytes_at
 unfolding places entries
 places_are bytes number p = pass_are bytes p.start (p.end - p.start) number (records (bytes_at bytes p) 0) (records_in (bytes_at bytes p) 0)
 
--- a name that is missing is empty
-text_there : (bytes : List ℕ) (base : ℕ) (x : Latest) (n : ℕ) → part bytes (text_at base x n).start (text_at base x n).len ≡ text (text_of bytes (text_at base x n))
-unfolding text_at choose
-text_there bytes base x n = go (given_at x n)
-  where
-    one : Bool → Text
-    one b = choose b (record { given = true; start = base + (record_at x n).start; len = length_in (record_at x n) }) (record { given = false; start = 0; len = 0 })
+-- ---- the last of them
+last_bytes : option.Option Bytes → List Bytes → option.Option Bytes
+last_bytes d [] = d
+last_bytes d (x ∷ xs) = last_bytes (option.some x) xs
 
-    go : (b : Bool) → part bytes (one b).start (one b).len ≡ text (text_of bytes (one b))
-    go true = refl
-    go false = refl
+seen : List ℕ → Option Place → option.Option Bytes
+seen bytes q = choose (is_some q) (option.some (bytes_at bytes (lies q))) option.none
+
+last_seen : (bytes : List ℕ) (ps : List Place) (q : Option Place) → seen bytes (last_or q ps) ≡ last_bytes (seen bytes q) (map (bytes_at bytes) ps)
+unfolding seen last_bytes choose
+last_seen bytes [] q = refl
+last_seen bytes (p ∷ ps) q = last_seen bytes ps (Some p)
+
+last_part : (n : ℕ) (fs : List Field) (v : option.Option Value) → decoded (last_from n fs v) ≡ last_bytes (decoded v) (parts n fs)
+unfolding last_from parts last_bytes choose
+last_part n [] v = refl
+last_part n (f ∷ fs) v = by (eqb f.number n) (last_part n fs)
+  where
+    by : (b : Bool) → ((u : option.Option Value) → decoded (last_from n fs u) ≡ last_bytes (decoded u) (parts n fs))
+        → decoded (last_from n fs (choose b (option.some f.value) v)) ≡ last_bytes (decoded v) (choose b (bytes_in f.value ∷ parts n fs) (parts n fs))
+    by true rest = rest (option.some f.value)
+    by false rest = rest v
+
+last_is : (bytes : List ℕ) (number : ℕ) (p : Place) → seen bytes (last_place bytes number p) ≡ decoded (last number (entries (bytes_at bytes p)))
+unfolding last_place seen choose
+last_is bytes number p =
+    last_seen bytes (places bytes number p) None
+    ∙ ap (last_bytes option.none) (places_are bytes number p) ∙ sym (last_part number (entries (bytes_at bytes p)) option.none)
+
+-- a name that is missing is empty
+text_there : (bytes : List ℕ) (q : Option Place) → bytes_at bytes (lies q) ≡ text (seen bytes q)
+unfolding seen choose
+text_there bytes None = refl
+text_there bytes (Some p) = refl
 
 module _ (bytes : List ℕ) (p : Place) (file up : ℕ) (kind : Kind) where
   pub message_name : name_of bytes (declaration_row bytes file up kind p) ≡ text (decode_message (bytes_at bytes p)).name
-  unfolding declaration_row name_in message_in
-  message_name = text_there bytes p.start (latest_of (bytes_at bytes p)) 1 ∙ ap text (message_name_is bytes p.start (p.end - p.start))
+  unfolding declaration_row decode_message
+  message_name = text_there bytes (last_place bytes 1 p) ∙ ap text (last_is bytes 1 p)
 
   pub enum_name : name_of bytes (declaration_row bytes file up kind p) ≡ text (decode_enum (bytes_at bytes p)).name
-  unfolding declaration_row name_in
-  enum_name = text_there bytes p.start (latest_of (bytes_at bytes p)) 1 ∙ ap text (enum_name_is bytes p.start (p.end - p.start))
+  unfolding declaration_row decode_enum
+  enum_name = text_there bytes (last_place bytes 1 p) ∙ ap text (last_is bytes 1 p)
 
-pub package_is : (bytes : List ℕ) (p : Place) → text_of bytes (package_of bytes p) ≡ (decode_file (bytes_at bytes p)).package_name
-package_is bytes p = file_package_is bytes p.start (p.end - p.start)
+pub package_is : (bytes : List ℕ) (p : Place) → choose (is_some (package_of bytes p)) (option.some (bytes_at bytes (lies (package_of bytes p)))) option.none ≡ (decode_file (bytes_at bytes p)).package_name
+unfolding seen decode_file
+package_is bytes p = last_is bytes 2 p

@@ -1,6 +1,7 @@
 -- The table of a set lists the declarations of its files in turn. Assumes nothing.
 use mathlib.Core.Path.{◌≡◌, refl, sym, ap, ◌∙◌}
 use mathlib.Core.Bool.{Bool, true, false}
+use Rattle.std.specs.Option.{is_some}
 use mathlib.Core.List.{List, [], ◌∷◌, ◌++◌, map, append-nil, append_assoc}
 use mathlib.Core.Option.{some, none}
 use Prim.Native.Nat.{ℕ, ◌+◌, ◌≤◌, ◌<◌}
@@ -8,14 +9,13 @@ use native.Mathlib.Omega.{arith}
 use lib.ListN.{length, length-append}
 use Rattle.base.specs.Choose.{choose}
 use Rattle.base.specs.Lists.{map_length}
-use Rattle.wire.specs.Records.{part}
 use Rattle.descriptor.specs.Descriptor.{Bytes, FileDescriptor}
 use Rattle.descriptor.specs.Decode.{parts, decode_messages, decode_enum, decode_file, decode_set}
 use Rattle.descriptor.specs.Decode as decode
 use Rattle.declarations.specs.declared.places.Place.{Place}
 use Rattle.name_rules.specs.FullNames.{◌·◌, package_scope}
-use Rattle.name_rules.proofs.ViewedLaws.{whole_part}
-use Rattle.declarations.specs.Rows.{State, kind_number, has_room, bytes_at, places, push, package_of, package_row, declare_enums, declare_messages, declare_members, declare_file, declare_files, declared, no_rows}
+use Rattle.descriptor.proofs.PartLaws.{whole_part}
+use Rattle.declarations.specs.Rows.{lies, State, kind_number, has_room, bytes_at, places, push, package_of, package_row, declare_enums, declare_messages, declare_members, declare_file, declare_files, declared, no_rows}
 use Rattle.declarations.specs.Listed.{name_of, full, Listed, listed_row, listed, listed_enums, listed_entries, file_entries, listed_file, listed_files}
 use Rattle.declarations.specs.declared.Declaration.{Declaration as Row}
 use Rattle.declarations.proofs.RoomLaws.{room_there}
@@ -70,10 +70,10 @@ module _ (bytes : Bytes) (cap file : ℕ) (p : Place) where
   abbrev L : ℕ → List Listed
   L m = listed_file file m f
 
-  named : package_scope f.package_name ≡ package_scope (choose (package_of bytes p).given (some (part bytes (package_of bytes p).start (package_of bytes p).len)) none)
+  named : package_scope f.package_name ≡ package_scope (choose (is_some (package_of bytes p)) (some (bytes_at bytes (lies (package_of bytes p)))) none)
   named = ap package_scope (sym (package_is bytes p))
 
-  file_grown : (b : Bool) → (package_of bytes p).given ≡ b → (x : State) → Wide cap x → x.rows + 1 + length (L x.messages) ≤ cap
+  file_grown : (b : Bool) → (is_some (package_of bytes p)) ≡ b → (x : State) → Wide cap x → x.rows + 1 + length (L x.messages) ≤ cap
       → Within bytes cap x (declare_file bytes file p x) (L x.messages) (length (file_entries f)) (1 + length (L x.messages))
   unfolding declare_file choose package_row
   file_grown false given x w room =
@@ -101,7 +101,7 @@ module _ (bytes : Bytes) (cap file : ℕ) (p : Place) where
 
   file_listed : (x : State) → Wide cap x → x.rows + 1 + length (L x.messages) ≤ cap
       → Within bytes cap x (declare_file bytes file p x) (L x.messages) (length (file_entries f)) (1 + length (L x.messages))
-  file_listed = file_grown (package_of bytes p).given refl
+  file_listed = file_grown (is_some (package_of bytes p)) refl
 
 abbrev files_of : Bytes → List Place → List FileDescriptor
 files_of bytes ps = map decode_file (map (bytes_at bytes) ps)

@@ -1,13 +1,13 @@
 -- The rows of a set's declarations in a table, in declaration order: files in turn, each message followed by its own enums and the messages nested
 -- in it, a file's own enums last; before them a row for its package, where it has one. A table that is full is left as it is.
-use Rattle.std.specs.Prelude.{ℕ, zero, suc, ◌+◌, ◌-◌, ◌≤◌, ◌≡◌, Bool, false, List, [], ◌∷◌, length, set, get_or, eqb, ltb}
+use Rattle.std.specs.Prelude.{ℕ, zero, suc, ◌+◌, ◌-◌, ◌≤◌, ◌≡◌, Bool, false, List, [], ◌∷◌, length, set, get_or, eqb, ltb, Option, None}
+use Rattle.std.specs.Option.{is_some, unwrap_or}
+use Rattle.std.specs.List.{last_or}
 use Rattle.base.specs.Choose.{choose}
 use Rattle.wire.specs.Records.{records, part}
 use Rattle.wire.specs.declared.Record.{Record}
 use Rattle.wire.specs.declared.Step.{Step}
 use Rattle.wire.specs.declared.Step.TheVariants.{End, Fault, Found}
-use Rattle.descriptor.specs.Views.{name_in, file_in}
-use Rattle.descriptor.specs.declared.Text.{Text}
 use Rattle.declarations.specs.declared.places.Place.{Place}
 use Rattle.declarations.specs.declared.Kind.{Kind}
 use Rattle.declarations.specs.declared.Kind.TheVariants.{Package, Enum, Message}
@@ -55,12 +55,20 @@ unfoldable pub has_room : List Row → ℕ → Bool
 has_room t i = choose (ltb 65535 i) false (ltb i (length t))
 
 -- a message or enum at a place, in the file with the index, in what has the row before up
+-- where the last string with the field number of the message at a place lies
+unfoldable pub last_place : List ℕ → ℕ → Place → Option Place
+last_place bytes number p = last_or None (places bytes number p)
+
+-- that place, or one without bytes
+abbrev pub lies : Option Place → Place
+lies q = unwrap_or q (record { start = 0; end = 0 })
+
 unfoldable pub declaration_row : List ℕ → ℕ → ℕ → Kind → Place → Row
 declaration_row bytes file up kind p =
     record {
       kind = kind;
-      name = (name_in p.start (bytes_at bytes p)).start;
-      len = (name_in p.start (bytes_at bytes p)).len;
+      name = (lies (last_place bytes 1 p)).start;
+      len = (lies (last_place bytes 1 p)).end - (lies (last_place bytes 1 p)).start;
       up = up;
       file = file;
       start = p.start;
@@ -68,12 +76,12 @@ declaration_row bytes file up kind p =
     }
 
 -- a file's package
-abbrev pub package_of : List ℕ → Place → Text
-package_of bytes p = (file_in p.start (bytes_at bytes p)).«package»
+abbrev pub package_of : List ℕ → Place → Option Place
+package_of bytes p = last_place bytes 2 p
 
 unfoldable pub package_row : List ℕ → ℕ → Place → Row
 package_row bytes file p =
-    record { kind = Package; name = (package_of bytes p).start; len = (package_of bytes p).len; up = 0; file = file; start = p.start; end = p.end }
+    record { kind = Package; name = (lies (package_of bytes p)).start; len = (lies (package_of bytes p)).end - (lies (package_of bytes p)).start; up = 0; file = file; start = p.start; end = p.end }
 
 -- a table, how many rows it has, and how many of them are messages
 pub record State : Type 0 where
@@ -114,7 +122,7 @@ declare_members bytes file up p x = declare_enums bytes file up (places bytes 5 
 
 unfoldable pub declare_file : List ℕ → ℕ → Place → State → State
 declare_file bytes file p x =
-    choose (package_of bytes p).given
+    choose (is_some (package_of bytes p))
     (choose (room x) (declare_members bytes file (x.rows + 1) p (push (package_row bytes file p) x)) x)
     (declare_members bytes file 0 p x)
 

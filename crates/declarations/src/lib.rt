@@ -2,11 +2,19 @@
 #![tactic(auto)]
 
 ghost use Rattle.std.specs.Prelude.{◌≡◌, true, ℕ, ◌+◌, ◌<◌, ◌≤◌, length};
-ghost use Rattle.declarations.specs.Rows.{row_at, has_room, kind_number, push_message, state, Became, places, declaration_row, declare_enums, declare_messages, declare_members, declare_file, declared};
+ghost use Rattle.declarations.specs.Rows.{row_at, has_room, kind_number, push_message, state, Became, places, last_place, declaration_row, declare_enums, declare_messages, declare_members, declare_file, declared};
 
+use descriptor::field_number::{
+    FILE_ENUM_TYPE, FILE_MESSAGE_TYPE, MESSAGE_ENUM_TYPE, MESSAGE_NESTED_TYPE,
+};
 use places::{Place, Places};
 
 pub mod places;
+
+// The name of a message or an enum, and the package of a file, in descriptor.proto.
+const NAME: u64 = 1;
+
+const PACKAGE: u64 = 2;
 
 /// What a row declares: a file's package, an enum, or the message with a number in declaration order. No table has room for
 /// more messages than such a number counts.
@@ -19,6 +27,7 @@ pub enum Kind {
 
 /// A row: what it declares; where its name starts in the set, and its length; what it stands in (0, or one more than the
 /// row of that); the index of its file; and where its bytes lie.
+// `up` is no `Option`: full names are defined by this number, which falls from a row to what it stands in.
 #[derive(Clone, Copy)]
 pub struct Declaration {
     pub kind: Kind,
@@ -87,15 +96,23 @@ fn has_room(rows: &[Declaration], i: usize) -> bool
     i < rows.len()
 }
 
+// Where the last string with a field number of the message at a place lies.
+#[tactic(auto, unfolding(crate::specs::Rows::last_place))]
+fn last_string(set: &[u8], part: Place, number: u64) -> Option<Place>
+    ensures { result ≡ last_place set.now number part }
+{
+    Places::new(set, part, number).last()
+}
+
 #[tactic(auto, unfolding(crate::specs::Rows::declaration_row))]
 fn declaration_row(set: &[u8], place: Place, file: usize, up: usize, kind: Kind) -> Declaration
     ensures { result ≡ declaration_row set.now file up kind place }
 {
-    let name = descriptor::name_view(set, place.start, place.end);
+    let name = last_string(set, place, NAME).unwrap_or_default();
     Declaration {
         kind,
         name: name.start,
-        len: name.len,
+        len: name.end.saturating_sub(name.start),
         up,
         file,
         start: place.start,
@@ -147,7 +164,7 @@ fn declare_message(
         rows: count.rows + 1,
         messages: count.messages + 1,
     };
-    declare_enums(set, place, 4, file, own.rows, rows, own)
+    declare_enums(set, place, MESSAGE_ENUM_TYPE, file, own.rows, rows, own)
 }
 
 // The messages with this field number of the message at a place, with what is nested in them in so many levels.
@@ -174,7 +191,16 @@ fn declare_messages(
             return count;
         }
         let own = declare_message(set, place, file, up, rows, count);
-        count = declare_messages(set, place, 3, left - 1, file, row + 1, rows, own);
+        count = declare_messages(
+            set,
+            place,
+            MESSAGE_NESTED_TYPE,
+            left - 1,
+            file,
+            row + 1,
+            rows,
+            own,
+        );
     }
     count
 }
@@ -192,8 +218,8 @@ fn declare_members(
     requires { count.messages ≤ count.rows }
     ensures { Became (declare_members set.now file up part (state rows.old count)) rows.new result }
 {
-    let messages = declare_messages(set, part, 4, 16, file, up, rows, count);
-    declare_enums(set, part, 5, file, up, rows, messages)
+    let messages = declare_messages(set, part, FILE_MESSAGE_TYPE, 16, file, up, rows, count);
+    declare_enums(set, part, FILE_ENUM_TYPE, file, up, rows, messages)
 }
 
 fn declare_file(
@@ -206,17 +232,16 @@ fn declare_file(
     requires { count.messages ≤ count.rows }
     ensures { Became (declare_file set.now file part (state rows.old count)) rows.new result }
 {
-    let package = descriptor::file_view(set, part.start, part.end).package;
-    if !package.given {
+    let Some(package) = last_string(set, part, PACKAGE) else {
         return declare_members(set, part, file, 0, rows, count);
-    }
+    };
     if !has_room(rows, count.rows) {
         return count;
     }
     rows[count.rows] = Declaration {
         kind: Kind::Package,
         name: package.start,
-        len: package.len,
+        len: package.end.saturating_sub(package.start),
         up: 0,
         file,
         start: part.start,

@@ -10,7 +10,7 @@ use std::marker::Model;
 use wire::records::Records;
 
 /// Where the bytes of a message lie in a set.
-#[derive(Clone, Copy)]
+#[derive(Clone, Copy, Default)]
 pub struct Place {
     pub start: usize,
     pub end: usize,

@@ -1,4 +1,5 @@
 -- A table has at most 65,536 rows. Assumes nothing.
+use Rattle.std.specs.Option.{is_some}
 use mathlib.Core.List.{List, [], ◌∷◌}
 use Prim.Native.Nat.{ℕ, zero, suc, ◌+◌, ◌≤◌}
 use native.Mathlib.Omega.{arith}
@@ -40,7 +41,7 @@ members_few bytes file up p x h =
 file_few : (bytes : List ℕ) (file : ℕ) (p : Place) (x : State) → Few x → Few (declare_file bytes file p x)
 unfolding declare_file
 file_few bytes file p x h =
-    choose_case Few (package_of bytes p).given
+    choose_case Few (is_some (package_of bytes p))
     (λ _. choose_case Few (room x)
     (λ e. let l = room_is x.table x.rows e in members_few bytes file (x.rows + 1) p (push (package_row bytes file p) x) (omega (arith, l.0))) (λ _. h))
     (λ _. members_few bytes file 0 p x h)

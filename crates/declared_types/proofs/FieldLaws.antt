@@ -1,4 +1,6 @@
--- A field's view and its type, and the loop of `undeclared_by`. Assumes nothing.
+-- A field's type, and the loop of `undeclared_by`. Assumes nothing.
+use Rattle.std.specs.Prelude.{Option}
+use Rattle.std.specs.Option.{is_some}
 use mathlib.Core.Path.{◌≡◌, refl, ap, ◌∙◌}
 use mathlib.Core.Bool.{Bool, true, false, not}
 use mathlib.Core.List.{List}
@@ -11,45 +13,41 @@ use Rattle.base.specs.Lists.{all}
 use Rattle.wire.specs.Records.{part}
 use Rattle.descriptor.specs.Descriptor.{FieldDescriptor}
 use Rattle.descriptor.specs.Decode.{entries, parts, decode_field}
-use Rattle.descriptor.specs.Views.{text_of, number_of}
-use Rattle.descriptor.specs.Views as view
-use Rattle.descriptor.specs.declared.FieldView.{FieldView}
-use Rattle.name_rules.specs.Accessors.{or_else, text, type}
-use Rattle.name_rules.proofs.ViewedLaws.{field_is}
+use Rattle.name_rules.specs.Accessors.{text, type}
 use Rattle.declarations.specs.Rows.{row_at, kind_number}
 use Rattle.declarations.specs.declared.Kind.TheVariants.{Package, Enum, Message}
 use Rattle.declarations.specs.declared.Declaration.{Declaration as Row}
-use Rattle.type_names.specs.LookUp.{declared_before}
+use Rattle.type_names.specs.LookUp.{found_row, declared_before}
+use Rattle.type_names.specs.declared.Sort.{Sort}
+use Rattle.type_names.specs.declared.Sort.TheVariants as sorts
+use Rattle.type_names.proofs.FindLaws.{found_some}
 use Rattle.declared_types.specs.Undeclared.{found, type_known, row_good, undeclared_from, first_undeclared_row}
 
-module _ (bytes : List ℕ) (t : List Row) (count : ℕ) (s : List ℕ) (v : FieldView) (v_is : v ≡ view.field_in 0 (part s 0 (length s - 0)))
-    (k : ℕ) (k_is : k ≡ or_else 1 (number_of v.kind)) (name : List ℕ) (name_is : name ≡ text (text_of s v.typename)) where
-  seen : view.field_of s v ≡ decode_field s
-  seen = field_is s v v_is
-
+module _ (bytes : List ℕ) (t : List Row) (count : ℕ) (s : List ℕ) (f : FieldDescriptor) (f_is : f ≡ decode_field s) (k : ℕ) (k_is : k ≡ type f) where
   type_as : k ≡ type (decode_field s)
-  unfolding view.field_of
-  type_as = k_is ∙ ap type seen
+  type_as = k_is ∙ ap type f_is
 
-  name_as : name ≡ text (decode_field s).type_name
-  unfolding view.field_of
-  name_as = name_is ∙ ap (λ (f : FieldDescriptor). text f.type_name) seen
+  module _ (name : List ℕ) (name_is : name ≡ text f.type_name) (sort : Sort) (r : Option ℕ) (r_is : r ≡ found_row bytes t name sort count) where
+    known : is_some r ≡ found bytes t count (text (decode_field s).type_name) sort
+    known = ap is_some r_is ∙ found_some bytes t name sort count ∙ ap (λ (x : List ℕ). found bytes t count x sort) (name_is ∙ ap (λ (g : FieldDescriptor). text g.type_name) f_is)
 
-  pub known_message : k ≡ 11 → (r : Bool) → r ≡ found bytes t count name 2 → r ≡ type_known bytes t count s
-  unfolding type_known choose
-  known_message e r h = rw (← type_as, ← name_as, eq-eqb k 11 e) h
+    pub known_message : k ≡ 11 → sort ≡ sorts.Message → is_some r ≡ type_known bytes t count s
+    unfolding type_known choose
+    known_message e q = rw (← type_as, eq-eqb k 11 e) (rw q at known)
 
-  pub known_group : (k ≡ 11 → ⊥) → k ≡ 10 → (r : Bool) → r ≡ found bytes t count name 2 → r ≡ type_known bytes t count s
-  unfolding type_known choose
-  known_group n e r h = rw (← type_as, ← name_as, ne_eqb k 11 n, eq-eqb k 10 e) h
+    pub known_group : k ≡ 10 → sort ≡ sorts.Message → is_some r ≡ type_known bytes t count s
+    unfolding type_known choose
+    known_group e q = rw (← type_as, ne_eqb k 11 (λ z. omega arith), eq-eqb k 10 e) (rw q at known)
 
-  pub known_enum : (k ≡ 11 → ⊥) → (k ≡ 10 → ⊥) → k ≡ 14 → (r : Bool) → r ≡ found bytes t count name 1 → r ≡ type_known bytes t count s
-  unfolding type_known choose
-  known_enum n m e r h = rw (← type_as, ← name_as, ne_eqb k 11 n, ne_eqb k 10 m, eq-eqb k 14 e) h
+    pub known_enum : k ≡ 14 → sort ≡ sorts.Enum → is_some r ≡ type_known bytes t count s
+    unfolding type_known choose
+    known_enum e q = rw (← type_as, ne_eqb k 11 (λ z. omega arith), ne_eqb k 10 (λ z. omega arith), eq-eqb k 14 e) (rw q at known)
 
   pub known_other : (k ≡ 11 → ⊥) → (k ≡ 10 → ⊥) → (k ≡ 14 → ⊥) → true ≡ type_known bytes t count s
   unfolding type_known choose
   known_other n m o = rw (← type_as, ne_eqb k 11 n, ne_eqb k 10 m, ne_eqb k 14 o)
+
+pub ruleset known_laws = (known_message, known_group, known_enum, known_other)
 
 module _ (bytes : List ℕ) (t : List Row) (count i : ℕ) (r : Row) (r_is : r ≡ row_at t i) where
   pub good_package : r.kind ≡ Package → true ≡ row_good bytes t count i

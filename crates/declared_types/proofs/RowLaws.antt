@@ -15,6 +15,8 @@ use Rattle.name_rules.specs.FullNames.{Declaration, declared, declared_as, equal
 use Rattle.declarations.specs.Rows.{row_at, kind_number}
 use Rattle.declarations.specs.Listed.{full, Listed, listed_row, listed, declaration_of}
 use Rattle.declarations.specs.declared.Declaration.{Declaration as Row}
+use Rattle.type_names.specs.declared.Sort.{Sort}
+use Rattle.type_names.specs.declared.Sort.TheVariants.{Enum, Message}
 use Rattle.type_names.specs.LookUp.{named, wanted, fits, find_from, find_row, same_row, before_by, declared_before}
 use Rattle.type_names.proofs.FreshLaws.{declared_append}
 use Rattle.declared_types.specs.Undeclared.{found, field_known}
@@ -56,9 +58,9 @@ module _ (bytes : List ℕ) (t : List Row) where
   listed_all n = ap (listed bytes t) (let z : n ≡ 0 + n = omega arith in z) ∙ listed_split n 0
 
 -- the sort that a type asks for
-abbrev sort_of : Bool → ℕ
-sort_of true = 1
-sort_of false = 2
+abbrev sort_of : Bool → Sort
+sort_of true = Enum
+sort_of false = Message
 
 or_false : (b : Bool) → (b || false) ≡ b
 or_false true = refl

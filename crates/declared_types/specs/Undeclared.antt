@@ -8,16 +8,18 @@ use Rattle.descriptor.specs.Decode.{entries, parts, decode_field}
 use Rattle.name_rules.specs.Accessors.{text, type}
 use Rattle.declarations.specs.Rows.{row_at, kind_number}
 use Rattle.declarations.specs.declared.Declaration.{Declaration as Row}
+use Rattle.type_names.specs.declared.Sort.{Sort}
+use Rattle.type_names.specs.declared.Sort.TheVariants as sorts
 use Rattle.type_names.specs.LookUp.{find_row, declared_before}
 
 -- is a declaration of the sort in the table?
-abbrev pub found : Bytes → List Row → ℕ → Bytes → ℕ → Bool
+abbrev pub found : Bytes → List Row → ℕ → Bytes → Sort → Bool
 found bytes t count name sort = ltb (find_row bytes t name sort count) count
 
 abbrev pub field_known : Bytes → List Row → ℕ → FieldDescriptor → Bool
 field_known bytes t count f =
-    choose (eqb (type f) 11) (found bytes t count (text f.type_name) 2)
-    (choose (eqb (type f) 10) (found bytes t count (text f.type_name) 2) (choose (eqb (type f) 14) (found bytes t count (text f.type_name) 1) true))
+    choose (eqb (type f) 11) (found bytes t count (text f.type_name) sorts.Message)
+    (choose (eqb (type f) 10) (found bytes t count (text f.type_name) sorts.Message) (choose (eqb (type f) 14) (found bytes t count (text f.type_name) sorts.Enum) true))
 
 -- of the field with these bytes
 unfoldable pub type_known : Bytes → List Row → ℕ → Bytes → Bool

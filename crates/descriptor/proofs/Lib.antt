@@ -1,7 +1,4 @@
-pub mod LatestLaws
-pub mod ViewLaws
-pub mod PassLaws
-pub mod ViewTheorems
+pub mod PartLaws
 pub mod EntriesLaws
 pub mod StepLaws
 pub mod Examples

@@ -1,8 +1,5 @@
-pub mod Latest
 pub mod Descriptor
 pub mod Decode
-pub mod Views
-pub mod Passes
 pub mod Limits
 pub mod Accessors
 pub mod Steps

@@ -182,11 +182,14 @@ impl<'a> FieldDescriptor<'a> {
         self.kind.unwrap_or(TYPE_DOUBLE)
     }
 
-    /// The sort of the type.
+    /// The letter of the type's sort, and 0 where that is no type.
     pub fn sort(&self) -> u8
         ensures { result ≡ sort_of (type self.now) }
     {
-        field_types::sort_of(self.kind())
+        match field_types::sort_of(self.kind()) {
+            Some(sort) => sort.into(),
+            None => 0,
+        }
     }
 
     pub fn is_repeated(&self) -> bool

@@ -8,7 +8,12 @@ ghost use Rattle.descriptor.specs.Seen.{option_seen, text_seen};
 ghost use Rattle.name_rules.specs.Rules.{is_text, key_type, key_good, value_field_good, key_and_value, entry_good, messages_good, file_good};
 ghost use Rattle.file_names.specs.Walks.{is_optional, own_good};
 
+use descriptor::field_number::{
+    FILE_ENUM_TYPE, FILE_MESSAGE_TYPE, MESSAGE_ENUM_TYPE, MESSAGE_FIELD, MESSAGE_NESTED_TYPE,
+    MESSAGE_ONEOF_DECL, SET_FILE,
+};
 use descriptor::{FieldDescriptor, FileHeader, LABEL_OPTIONAL, MessageHeader, TYPE_GROUP};
+use field_types::Sort;
 use name_rules::rules::{is_number, package_good, syntax_good};
 use parts::Parts;
 
@@ -25,7 +30,12 @@ fn is_text(text: Option<&[u8]>, wanted: &[u8]) -> bool
 fn key_type(kind: Option<u32>) -> bool
     ensures { result ≡ key_type (option_seen kind) }
 {
-    kind.is_some_and(|kind| matches!(field_types::sort_of(kind), b'i' | b'b' | b't'))
+    kind.is_some_and(|kind| {
+        matches!(
+            field_types::sort_of(kind),
+            Some(Sort::Integer | Sort::Boolean | Sort::Text)
+        )
+    })
 }
 
 /// Has the field this name and number, and is it optional?
@@ -60,7 +70,7 @@ fn value_field_good(part: &[u8]) -> bool
 fn key_and_value(s: &[u8]) -> bool
     ensures { result ≡ key_and_value (map decode_field (parts 2 (entries s.now))) }
 {
-    let mut fields = Parts::new(s, 2);
+    let mut fields = Parts::new(s, MESSAGE_FIELD);
     match (fields.next(), fields.next(), fields.next()) {
         (Some(key), Some(value), None) => key_field_good(key) && value_field_good(value),
         _ => false,
@@ -79,7 +89,10 @@ fn none_of(s: &[u8], number: u64) -> bool
 fn entry_good(s: &[u8], left: usize) -> bool
     ensures { result ≡ entry_good (decode_message s.now) (decode_messages left (parts 3 (entries s.now))) }
 {
-    key_and_value(s) && none_of(s, 4) && none_of(s, 8) && (left == 0 || none_of(s, 3))
+    key_and_value(s)
+        && none_of(s, MESSAGE_ENUM_TYPE)
+        && none_of(s, MESSAGE_ONEOF_DECL)
+        && (left == 0 || none_of(s, MESSAGE_NESTED_TYPE))
 }
 
 /// A message without those nested in it.
@@ -100,7 +113,7 @@ fn messages_good(s: &[u8], number: u64, left: usize) -> bool
         return true;
     }
     for message in Parts::new(s, number) {
-        if !own_good(message, left - 1) || !messages_good(message, 3, left - 1) {
+        if !own_good(message, left - 1) || !messages_good(message, MESSAGE_NESTED_TYPE, left - 1) {
             return false;
         }
     }
@@ -115,15 +128,15 @@ pub fn file_good(s: &[u8]) -> bool
     let file = FileHeader::new(s);
     package_good(file.package)
         && syntax_good(file.syntax)
-        && messages_good(s, 4, 16)
-        && file_rules::enums_good(s, 5)
+        && messages_good(s, FILE_MESSAGE_TYPE, 16)
+        && file_rules::enums_good(s, FILE_ENUM_TYPE)
 }
 
 /// The index of the first file at fault, and the count of files where there is none.
 pub fn first_bad_file(set: &[u8]) -> usize
     ensures { result ≡ first_failing file_good (decode_set set.now) }
 {
-    Parts::new(set, 1)
+    Parts::new(set, SET_FILE)
         .take_while(|file| file_good(file))
         .count()
 }

@@ -6,6 +6,7 @@ ghost use Rattle.descriptor.specs.Decode.{entries, parts};
 ghost use Rattle.base.specs.Lists.{all};
 ghost use Rattle.file_rules.specs.Walks.{field_part_good, value_part_good, oneof_part_good, enum_part_good, message_part_good};
 
+use descriptor::field_number::{ENUM_VALUE, MESSAGE_ENUM_TYPE, MESSAGE_FIELD, MESSAGE_ONEOF_DECL};
 use descriptor::name_of;
 use name_rules::rules::has_name;
 use parts::Parts;
@@ -15,7 +16,7 @@ use parts::Parts;
 fn fields_good(s: &[u8], oneofs: usize) -> bool
     ensures { result ≡ all (field_part_good oneofs) (parts 2 (entries s.now)) }
 {
-    Parts::new(s, 2).all(|field| name_rules::field_good(field, oneofs))
+    Parts::new(s, MESSAGE_FIELD).all(|field| name_rules::field_good(field, oneofs))
 }
 
 /// The values of an enum.
@@ -23,7 +24,7 @@ fn fields_good(s: &[u8], oneofs: usize) -> bool
 fn values_good(s: &[u8]) -> bool
     ensures { result ≡ all value_part_good (parts 2 (entries s.now)) }
 {
-    Parts::new(s, 2).all(name_rules::value_good)
+    Parts::new(s, ENUM_VALUE).all(name_rules::value_good)
 }
 
 /// The oneofs of a message.
@@ -31,7 +32,7 @@ fn values_good(s: &[u8]) -> bool
 fn oneofs_good(s: &[u8]) -> bool
     ensures { result ≡ all oneof_part_good (parts 8 (entries s.now)) }
 {
-    Parts::new(s, 8).all(name_rules::oneof_good)
+    Parts::new(s, MESSAGE_ONEOF_DECL).all(name_rules::oneof_good)
 }
 
 /// An enum's own name and its values.
@@ -55,6 +56,9 @@ pub fn enums_good(s: &[u8], number: u64) -> bool
 pub fn message_good(s: &[u8]) -> bool
     ensures { result ≡ message_part_good s.now }
 {
-    let oneofs = parts::count_parts(s, 8);
-    has_name(name_of(s)) && fields_good(s, oneofs) && enums_good(s, 4) && oneofs_good(s)
+    let oneofs = parts::count_parts(s, MESSAGE_ONEOF_DECL);
+    has_name(name_of(s))
+        && fields_good(s, oneofs)
+        && enums_good(s, MESSAGE_ENUM_TYPE)
+        && oneofs_good(s)
 }

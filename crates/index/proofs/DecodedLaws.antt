@@ -17,8 +17,8 @@ use Rattle.wire.specs.declared.Step.TheVariants.{End, Fault, Found}
 use Rattle.descriptor.specs.Descriptor.{Bytes, Forest, done, node, MessageDescriptor, preorder}
 use Rattle.descriptor.specs.Decode.{entries, entries_of, bytes_in, parts, decode_message, decode_messages}
 use Rattle.base.specs.Lists.{all_of}
-use Rattle.descriptor.proofs.ViewLaws.{bytes_of}
-use Rattle.descriptor.proofs.ViewTheorems.{part_part}
+use Rattle.descriptor.proofs.PartLaws.{bytes_of}
+use Rattle.descriptor.proofs.PartLaws.{part_part}
 use Rattle.index.specs.Places.{end_in, inside}
 use Rattle.index.specs.Tree.{Place, place, forest_record, forest_in, size, rows, row_bytes, file_record, file_forests, rows_of}
 

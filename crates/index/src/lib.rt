@@ -4,6 +4,7 @@
 ghost use Rattle.std.specs.Prelude.{◌≡◌, ◌+◌, ◌<◌, ◌≤◌, length};
 ghost use Rattle.index.specs.Tree.{forest_in, put, Indexed, file_forests, IndexedFiles, row_at, row_bytes, Holds, all_members};
 
+use descriptor::field_number::{MESSAGE_NESTED_TYPE, SET_FILE};
 use parts::value_bytes;
 use wire::records::Records;
 
@@ -82,7 +83,16 @@ fn index_in(
             let bytes = value_bytes(record.value);
             let end = record.start + bytes.len();
             let inner = next + 1;
-            let after = index_in(bytes, record.start, 3, left - 1, file, inner, rows, inner);
+            let after = index_in(
+                bytes,
+                record.start,
+                MESSAGE_NESTED_TYPE,
+                left - 1,
+                file,
+                inner,
+                rows,
+                inner,
+            );
             put_row(rows, next, made_row(record.start, end, file, up, after));
             next = after;
         }
@@ -102,7 +112,7 @@ pub fn index_files(set: &[u8], number: u64, left: usize, rows: &mut [Row]) -> us
     let mut file = 0;
     for record in Records::new(set, 0) {
         if let Ok(record) = record
-            && record.number == 1
+            && record.number == SET_FILE
         {
             let bytes = value_bytes(record.value);
             next = index_in(bytes, record.start, number, left, file, 0, rows, next);

@@ -22,7 +22,7 @@ use Rattle.wire.specs.declared.Step.TheVariants.{End, Fault, Found}
 use Rattle.descriptor.specs.Descriptor.{Bytes, preorder, MessageDescriptor, FileDescriptor}
 use Rattle.descriptor.specs.Decode.{entries, entries_of, bytes_in, parts, decode_field, decode_enum, decode_message, decode_messages, decode_file, decode_set}
 use Rattle.descriptor.specs.Limits.{messages_in, fields_in, enums_in}
-use Rattle.descriptor.proofs.ViewLaws.{bytes_of}
+use Rattle.descriptor.proofs.PartLaws.{bytes_of}
 use Rattle.limits.specs.Sums.{sum}
 use Rattle.limits.proofs.SumLaws.{sum_plus, sum_append, sum_below, sum_map, sum_all_of}
 use Rattle.limits.proofs.PartTallies.{at_number, sum_parts}

@@ -10,13 +10,12 @@ ghost use Rattle.std.specs.List.{find};
 
 use base::refusal::Refusal;
 use descriptor::bytes_in;
-use field_number::{NAME, SET_FILE};
+use descriptor::field_number::{NAME, SET_FILE};
 use limit::{LIMITS, Limit, MAX_FILES, MAX_SET};
 use sort::Sort;
 use totals::Totals;
 use wire::records::Records;
 
-mod field_number;
 mod limit;
 mod sort;
 mod strings;

@@ -4,9 +4,9 @@ ghost use Rattle.descriptor.specs.Decode.{entries, parts};
 ghost use Rattle.limits.specs.Fits.{one_of, Adds};
 ghost use Rattle.limits.specs.Weights.{text_length, long_segment, sort_below, message_below, counts, long_name, long_full_name, holds_none, around_below};
 
-use crate::field_number::*;
 use crate::limit::{Limit, MAX_DEFAULT, MAX_FULL_NAME, MAX_NAME, MAX_VALUES};
 use crate::strings::{long_segment, text};
+use descriptor::field_number::*;
 
 /// A set and its declarations.
 #[derive(Clone, Copy)]

@@ -8,55 +8,52 @@ use lib.ListN.{length, get_or, get_or-eq_default}
 use lib.Dec.{eqb}
 use borrow.Author.Tests.{eq-eqb, ne_eqb, lt-ltb, le-ltb, not-true, not-false}
 use Rattle.base.specs.Choose.{choose}
-use Rattle.wire.specs.Records.{part}
-use Rattle.descriptor.specs.Decode.{entries, parts}
-use Rattle.descriptor.specs.Views.{message_in}
-use Rattle.descriptor.specs.declared.MessageView.{MessageView}
-use Rattle.descriptor.proofs.ViewTheorems.{message_entry_is}
+use Rattle.wire.specs.Records.{part as part_of}
+use Rattle.descriptor.specs.Descriptor.{Bytes, MessageHeader, message_header}
+use Rattle.descriptor.specs.Decode.{entries, parts, decode_message}
 use Rattle.declarations.specs.Rows.{row_at, kind_number}
 use Rattle.declarations.specs.declared.Declaration.{Declaration as Row}
+use Rattle.declarations.specs.declared.Kind.{Kind}
+use Rattle.declarations.specs.declared.Kind.TheVariants.{Package, Enum, Message}
+use mathlib.Core.Logic.{◌⊎◌}
+use Rattle.map_entries.proofs.UseLaws.{no_message_kind}
 use Rattle.map_entries.specs.Named.{parent_kind, entry_row_named, is_entry_row, row_named, unnamed_from, first_unnamed}
 
 module _ (t : List Row) (i up : ℕ) (up_is : up ≡ (row_at t i).up) where
-  pub parent_none : up ≡ 0 → 0 ≡ parent_kind t i
-  unfolding parent_kind choose
+  pub parent_none : up ≡ 0 → kind_number Package ≡ parent_kind t i
+  unfolding parent_kind kind_number choose
   parent_none e = rw (← up_is, eq-eqb up 0 e)
 
-  pub parent_behind : (up ≡ 0 → ⊥) → i < up → 0 ≡ parent_kind t i
+  pub parent_behind : i < up → kind_number Package ≡ parent_kind t i
+  unfolding parent_kind kind_number choose
+  parent_behind h = rw (← up_is, ne_eqb up 0 (λ e. omega arith), lt-ltb i up h)
+
+  pub parent_is : (up ≡ 0 → ⊥) → up ≤ i → (r : Row) → r ≡ row_at t (up - 1) → kind_number r.kind ≡ parent_kind t i
   unfolding parent_kind choose
-  parent_behind ne h = rw (← up_is, ne_eqb up 0 ne, lt-ltb i up h)
+  parent_is ne h r e = rw (← up_is, ne_eqb up 0 ne, le-ltb i up h, e)
 
-  pub parent_is : (up ≡ 0 → ⊥) → up ≤ i → (r : ℕ) → r ≡ kind_number (row_at t (up - 1)).kind → r ≡ parent_kind t i
-  unfolding parent_kind choose
-  parent_is ne h r e = rw (← up_is, ne_eqb up 0 ne, le-ltb i up h) e
+module _ (bytes : List ℕ) (t : List Row) (i : ℕ) (r : Row) (r_is : r ≡ row_at t i) where
+  pub entry_none : kind_number r.kind < 2 → false ≡ is_entry_row bytes t i
+  unfolding is_entry_row choose
+  entry_none h = rw (← r_is, lt-ltb (kind_number r.kind) 2 h)
 
-module _ (bytes : List ℕ) (t : List Row) (i : ℕ) where
-  module _ (r : Row) (r_is : r ≡ row_at t i) where
-    pub entry_none : kind_number r.kind < 2 → false ≡ is_entry_row bytes t i
-    unfolding is_entry_row choose
-    entry_none h = rw (← r_is, lt-ltb (kind_number r.kind) 2 h)
+  pub entry_is : 2 ≤ kind_number r.kind → (part : Bytes) → part ≡ part_of bytes r.start (r.end - r.start) → (m : MessageHeader) → m ≡ message_header (decode_message part) → m.map_entry ≡ is_entry_row bytes t i
+  unfolding is_entry_row choose
+  entry_is h part part_is m m_is = rw (m_is, part_is, ← r_is, le-ltb (kind_number r.kind) 2 h)
 
-    pub entry_is : 2 ≤ kind_number r.kind → (v : MessageView) → v ≡ message_in r.start (part bytes r.start (r.end - r.start)) → v.entry ≡ is_entry_row bytes t i
-    unfolding is_entry_row choose
-    entry_is h v v_is =
-        ap (λ (x : MessageView). x.entry) v_is ∙ message_entry_is bytes r.start (r.end - r.start) ∙ rw (← r_is, le-ltb (kind_number r.kind) 2 h)
+-- a row that is asked for who names it
+module _ (t : List Row) (who : List ℕ) (i : ℕ) (k : Kind) (k_is : kind_number k ≡ parent_kind t i) where
+  pub at_top : (k ≡ Package) ⊎ (k ≡ Enum) → false ≡ entry_row_named t who i
+  unfolding entry_row_named choose
+  at_top is = let l = no_message_kind k is in rw (← k_is, lt-ltb (kind_number k) 2 l)
 
-  module _ (who : List ℕ) (r : Bool) (r_is : r ≡ is_entry_row bytes t i) where
-    pub no_entry : not r ≡ true → true ≡ row_named bytes t who i
-    unfolding row_named choose
-    no_entry h = rw (← r_is, not-true r h)
+  module _ (number : ℕ) (e : k ≡ Message number) where
+    pub row_said : (w : ℕ) → w ≡ get_or who i 0 → eqb w (number + 2) ≡ entry_row_named t who i
+    unfolding entry_row_named kind_number choose
+    row_said w w_is = rw (← k_is, e, le-ltb (number + 2) 2 (omega arith), w_is)
 
-    module _ (h : not r ≡ false) (kind : ℕ) (kind_is : kind ≡ parent_kind t i) where
-      pub at_top : kind < 2 → false ≡ row_named bytes t who i
-      unfolding row_named entry_row_named choose
-      at_top l = rw (← r_is, not-false r h, ← kind_is, lt-ltb kind 2 l)
-
-      pub row_said : 2 ≤ kind → eqb (get_or who i 0) kind ≡ row_named bytes t who i
-      unfolding row_named entry_row_named choose
-      row_said l = rw (← r_is, not-false r h, ← kind_is, le-ltb kind 2 l)
-
-      pub row_past : 2 ≤ kind → length who ≤ i → false ≡ row_named bytes t who i
-      row_past l out = sym (ne_eqb 0 kind (λ e. omega arith)) ∙ ap (λ (w : ℕ). eqb w kind) (sym (get_or-eq_default who 0 {n = i} out)) ∙ row_said l
+    pub row_past : length who ≤ i → false ≡ entry_row_named t who i
+    row_past out = sym (ne_eqb 0 (number + 2) (λ q. omega arith)) ∙ row_said 0 (sym (get_or-eq_default who 0 {n = i} out))
 
 module _ (bytes : List ℕ) (t : List Row) (who : List ℕ) (count : ℕ) where
   pub record Going (i : ℕ) : Type 0 where

@@ -1,3 +1,4 @@
+pub mod NumberedLaws
 pub mod CountLaws
 pub mod UseLaws
 pub mod PassLaws

@@ -1,72 +1,46 @@
 -- The pass over the fields: what is noted. Assumes nothing.
+use Rattle.std.specs.Prelude.{Some}
 use mathlib.Core.Path.{◌≡◌, refl, sym, ap, ◌∙◌}
-use mathlib.Core.Bool.{Bool, true, false, not}
-use mathlib.Core.List.{List, [], ◌∷◌, ◌++◌, append-nil}
+use mathlib.Core.Bool.{Bool, true, false}
+use mathlib.Core.List.{List, [], ◌∷◌, ◌++◌}
 use Prim.Native.Nat.{ℕ, zero, suc, ◌+◌, ◌-◌, ◌≤◌, ◌<◌}
 use native.Mathlib.Numerals.{add-one}
 use native.Mathlib.Decide.{dec_le}
 use native.Mathlib.Omega.{arith}
-use lib.ListN.{length, get_or, set, drop, replicate, length-set, length-replicate, drop_of_length-le}
-use lib.Seq.{drop-cons, set_at, set_out, get_or-set_other, set_comm}
+use lib.ListN.{length, get_or, set, replicate, length-set}
+use lib.Seq.{set_out, get_or-set_other, set_comm}
 use borrow.Author.Tests.{lt-ltb, le-ltb}
 use Rattle.base.specs.Choose.{choose, choose_case}
 use Rattle.base.specs.Lists.{all_of}
 use Rattle.wire.specs.Records.{part}
-use Rattle.descriptor.specs.Descriptor.{Bytes}
-use Rattle.descriptor.specs.Decode.{entries, parts}
-use Rattle.descriptor.specs.Views.{field_in, field_of}
-use Rattle.descriptor.specs.declared.FieldView.{FieldView}
+use Rattle.std.proofs.Math.Option as option
+use Rattle.std.proofs.lemmas.List.{map-set, get_or-map}
+use Rattle.base.specs.Lists.{map_length}
+use Rattle.descriptor.specs.Descriptor.{Bytes, FieldDescriptor}
+use Rattle.descriptor.specs.Decode.{entries, parts, decode_field}
 use Rattle.declarations.specs.declared.Kind.TheVariants.{Message}
 use Rattle.declarations.specs.Rows.{row_at, kind_number}
 use Rattle.declarations.specs.Listed.{full, listed_row, listed}
 use Rattle.declarations.specs.declared.Declaration.{Declaration as Row}
 use Rattle.checksums.specs.Sums.{sum_of}
-use Rattle.type_names.specs.LookUp.{named}
-use Rattle.type_names.specs.RowSums.{Others}
+use Rattle.type_names.specs.LookUp.{named, row_sums}
+use Rattle.type_names.specs.RowSums.{Others, Seeks, SeeksOn}
+use Rattle.type_names.specs.declared.Likely.{Likely}
 use Rattle.type_names.proofs.RowSumLaws.{name_other}
-use Rattle.map_entries.specs.Named.{Use, is_mapping, part_use, row_uses, uses, vote, joined, noted, noted_rows, tally, naming}
-use Rattle.map_entries.proofs.UseLaws.{field_none, field_some, uses_append, uses_row}
-
--- ---- all zeros
-module _ (who₀ : List ℕ) where
-  pub record Cleared (who : List ℕ) (i : ℕ) : Type 0 where
-    pub inside : i ≤ length who₀
-    pub is : who ≡ replicate i 0 ++ drop i who₀
-    pub long : length who ≡ length who₀
-
-  pub cleared_start : Cleared who₀ 0
-  cleared_start = record { inside = omega arith; is = refl; long = refl }
-
-  shift : (n : ℕ) (ys : List ℕ) → replicate n 0 ++ (0 ∷ ys) ≡ replicate (suc n) 0 ++ ys
-  shift zero ys = refl
-  shift (suc n) ys = ap (λ (l : List ℕ). 0 ∷ l) (shift n ys)
-
-  module _ (who : List ℕ) (i : ℕ) (c : Cleared who i) where
-    pub cleared_more : i < length who → Cleared (set who i 0) (i + 1)
-    cleared_more h =
-        let l = c.long in
-        let less : i < length who₀ = omega arith in
-        record {
-          inside = omega arith;
-          is = ap (λ (w : List ℕ). set w i 0) (c.is ∙ ap (λ (w : List ℕ). replicate i 0 ++ w) (drop-cons who₀ i 0 less)) ∙ set_at (replicate i 0) (get_or who₀ i 0) (drop (suc i) who₀) 0 i (length-replicate i 0) ∙ rw add-one (shift i (drop (suc i) who₀));
-          long = length-set who i 0 ∙ l;
-        }
-
-    pub cleared_end : length who ≤ i → who ≡ replicate (length who₀) 0
-    cleared_end h =
-        let l = c.long in
-        let k = c.inside in
-        let e : i ≡ length who₀ = omega arith in
-        c.is ∙ rw (drop_of_length-le who₀ {i = i} (omega arith)) (append-nil (replicate i 0) ∙ ap (λ (n : ℕ). replicate n 0) e)
+use Rattle.map_entries.specs.Named.{Use, is_mapping, field_use, part_use, row_uses, uses, vote, joined, noted, noted_rows, tally, naming}
+use Rattle.map_entries.specs.Numbers.{number_of, numbers}
+use Rattle.map_entries.specs.declared.Namers.{Namers}
+use Rattle.map_entries.specs.declared.Namers.TheVariants.{Nobody}
+use Rattle.map_entries.proofs.UseLaws.{uses_append, uses_row}
 
 -- ---- one field
-pub noted_out : (i v : ℕ) (who : List ℕ) → length who ≤ i → who ≡ noted i v who
+pub noted_out : (i v : ℕ) (who : List Namers) → length who ≤ i → numbers who ≡ noted i v (numbers who)
 unfolding noted
-noted_out i v who h = sym (set_out who i (joined (get_or who i 0) v) h)
+noted_out i v who h = sym (set_out (numbers who) i (joined (get_or (numbers who) i 0) v) (let n = map_length number_of who in omega arith))
 
-pub noted_in : (i v : ℕ) (who : List ℕ) (r : ℕ) → r ≡ joined (get_or who i 0) v → set who i r ≡ noted i v who
+pub noted_in : (i v : ℕ) (who : List Namers) → i < length who → (r : Namers) → number_of r ≡ joined (number_of (get_or who i Nobody)) v → numbers (set who i r) ≡ noted i v (numbers who)
 unfolding noted
-noted_in i v who r e = ap (set who i) e
+noted_in i v who h r e = map-set number_of who i r ∙ ap (set (numbers who) i) (e ∙ ap (λ (w : ℕ). joined w v) (sym (get_or-map number_of who i Nobody 0 h)))
 
 pub noted_length : (i v : ℕ) (who : List ℕ) → length (noted i v who) ≡ length who
 unfolding noted
@@ -140,8 +114,41 @@ module _ (bytes : List ℕ) (t : List Row) where
         rows_less e = record { is = sym (one ∙ rw e) ∙ p.is; size = p.size }
 
       -- rows with other checksums
-      pub rows_skip : (sum k : ℕ) → sum ≡ sum_of name → k ≤ i → Others bytes t sum k i → Noted who k
+      rows_skip : (sum k : ℕ) → sum ≡ sum_of name → k ≤ i → Others bytes t sum k i → Noted who k
       rows_skip sum k sum_is l others = record { is = rows_none name v k who i l (λ j a h. name_other bytes t sum k i others j a h name sum_is) ∙ p.is; size = p.size }
+
+    -- and the rows that may have the checksum of the name
+    module _ (sums : List ℕ) (sum : ℕ) where
+      pub record Noting (who : List ℕ) (l : Likely) : Type 0 where
+        pub kept : (l.sums.now ≡ sums) × (l.sum ≡ Some sum)
+        pub sum_is : sum ≡ sum_of name
+        pub noted : Noted who l.left
+
+      module _ (are : sums ≡ row_sums bytes t (length sums)) where
+        pub noting_start : sum ≡ sum_of name → (l : Likely) → Seeks sums (Some sum) n l → Noting who₀ l
+        noting_start is l s = record { kept = s.kept; sum_is = is; noted = rows_skip who₀ n rows_start sum l.left is s.fewer (s.others bytes t sum are refl) }
+
+        module _ (who : List ℕ) (old new : Likely) (row : ℕ) (noting : Noting who old) (on : SeeksOn old (Some row) new) (r : Bool) (r_is : r ≡ named bytes t name row) where
+          at : row ≡ old.left - 1
+          at = let e = on.0 in omega arith
+
+          moved : (w : List ℕ) → Noted w (old.left - 1) → Noting w new
+          moved w p =
+              let f : new.left ≤ old.left - 1 = rw (← at) on.1.fewer in
+              record {
+                kept = (on.1.kept.0 ∙ noting.kept.0, on.1.kept.1 ∙ noting.kept.1);
+                sum_is = noting.sum_is;
+                noted = rows_skip w (old.left - 1) p sum new.left noting.sum_is f (rw (← at) (on.1.others bytes t sum (rw noting.kept.0 are) (rw noting.kept.1 refl)));
+              }
+
+          pub noting_more : r ≡ true → (w : List ℕ) → w ≡ noted row v who → Noting w new
+          noting_more e w w_is = let p = on.0 in moved w (rows_more who old.left noting.noted (omega arith) r (rw (← at) r_is) e w (rw (← at) w_is))
+
+          pub noting_less : r ≡ false → Noting who new
+          noting_less e = let p = on.0 in moved who (rows_less who old.left noting.noted (omega arith) r (rw (← at) r_is) e)
+
+      pub noting_end : (who : List ℕ) (l : Likely) → Noting who l → l.left ≡ 0 → who ≡ noted_rows bytes t name v n who₀
+      noting_end who l noting z = rows_end who l.left noting.noted (omega arith)
 
   module _ (n : ℕ) where
     pub tally_length : (us : List Use) (who : List ℕ) → length (tally bytes t n us who) ≡ length who
@@ -158,14 +165,15 @@ module _ (bytes : List ℕ) (t : List Row) where
     unfolding tally
     tally_none us who e = rw e
 
-    module _ (s : Bytes) (x : FieldView) (x_is : x ≡ field_in 0 (part s 0 (length s - 0))) (number : ℕ) (who : List ℕ) where
-      pub unnamed_field : not x.typename.given ≡ true → who ≡ tally bytes t n (part_use number s) who
-      unnamed_field h = tally_none (part_use number s) who (field_none s x x_is number h)
+    module _ (s : Bytes) (f : FieldDescriptor) (f_is : f ≡ decode_field s) (number : ℕ) (who : List ℕ) where
+      pub unnamed_field : f.type_name ≡ option.none → who ≡ tally bytes t n (part_use number s) who
+      unfolding field_use
+      unnamed_field e = tally_none (part_use number s) who (rw (← f_is, e))
 
-      pub named_field : not x.typename.given ≡ false → (m : Bool) → ((s : Bytes) → m ≡ is_mapping (field_of s x)) → (v : ℕ) → v ≡ vote number m
-          → (name : Bytes) → name ≡ part s x.typename.start x.typename.len → (w : List ℕ) → w ≡ noted_rows bytes t name v n who → w ≡ tally bytes t n (part_use number s) who
-      unfolding tally
-      named_field h m m_is v v_is name name_is w w_is = w_is ∙ rw (field_some s x x_is number h, ← m_is s, ← v_is, ← name_is)
+      pub named_field : (name : Bytes) → f.type_name ≡ option.some name → (m : Bool) → m ≡ is_mapping f → (v : ℕ) → v ≡ vote number m
+          → (w : List ℕ) → w ≡ noted_rows bytes t name v n who → w ≡ tally bytes t n (part_use number s) who
+      unfolding tally field_use
+      named_field name e m m_is v v_is w w_is = w_is ∙ rw (← f_is, e, ← m_is, ← v_is)
 
     -- the fields of a message
     module _ (number : ℕ) (total : List ℕ) (size : ℕ) where

@@ -1,6 +1,7 @@
 -- The messages of a set's table are those of its files in turn. Assumes nothing.
 use mathlib.Core.Path.{◌≡◌, refl, sym, ap, ◌∙◌}
 use mathlib.Core.Bool.{Bool, true, false}
+use Rattle.std.specs.Option.{is_some}
 use mathlib.Core.List.{List, [], ◌∷◌, ◌++◌, map, append-nil, append_assoc}
 use mathlib.Core.Option.{some, none}
 use Prim.Native.Nat.{ℕ, ◌+◌, ◌≤◌}
@@ -9,14 +10,13 @@ use native.Mathlib.Omega.{arith}
 use lib.ListN.{length}
 use Rattle.base.specs.Choose.{choose, choose_case}
 use Rattle.base.specs.Tests.{both_ways}
-use Rattle.wire.specs.Records.{part}
 use Rattle.descriptor.specs.Descriptor.{Bytes, FileDescriptor}
 use Rattle.descriptor.specs.Decode.{parts, decode_messages, decode_file, decode_set}
 use Rattle.descriptor.specs.Decode as decode
 use Rattle.declarations.specs.declared.places.Place.{Place}
 use Rattle.name_rules.specs.FullNames.{◌·◌, package_scope}
-use Rattle.name_rules.proofs.ViewedLaws.{whole_part}
-use Rattle.declarations.specs.Rows.{State, kind_number, bytes_at, room, push, places, package_of, package_row, declare_messages, declare_members, declare_file, declare_files, declared, no_rows}
+use Rattle.descriptor.proofs.PartLaws.{whole_part}
+use Rattle.declarations.specs.Rows.{lies, State, kind_number, bytes_at, room, push, places, package_of, package_row, declare_messages, declare_members, declare_file, declare_files, declared, no_rows}
 use Rattle.declarations.specs.Listed.{name_of, full, file_entries}
 use Rattle.declarations.specs.declared.Declaration.{Declaration as Row}
 use Rattle.declarations.proofs.FullLaws.{full_none}
@@ -49,7 +49,7 @@ module _ (bytes : Bytes) (file : ℕ) (p : Place) where
   pub file_kept : (x : State) → Kept x (declare_file bytes file p x)
   unfolding declare_file
   file_kept x =
-      choose_case (Kept x) (package_of bytes p).given
+      choose_case (Kept x) (is_some (package_of bytes p))
       (λ _. choose_case (Kept x) (room x)
       (λ _. kept_more x (push (package_row bytes file p) x) _ (kept_push x (package_row bytes file p) x.messages) (members_kept (x.rows + 1) (push (package_row bytes file p) x)))
       (λ _. kept_none x))
@@ -66,14 +66,14 @@ module _ (bytes : Bytes) (file : ℕ) (p : Place) where
       let g : FileGrew x y = rw its_messages at (messages_shown bytes file 16 up (places bytes 4 p) scope 0 x e k h (room_before y _ (enums_kept bytes file up (places bytes 5 p) y) last)) in
       record { shows = enums_shown bytes file up (places bytes 5 p) y (omega arith) ∙ g.shows; count = enums_messages bytes file up (places bytes 5 p) y ∙ g.count }
 
-  package_scoped : (b : Bool) → (package_of bytes p).given ≡ b → scope ≡ package_scope (choose b (some (part bytes (package_of bytes p).start (package_of bytes p).len)) none)
+  package_scoped : (b : Bool) → (is_some (package_of bytes p)) ≡ b → scope ≡ package_scope (choose b (some (bytes_at bytes (lies (package_of bytes p)))) none)
   package_scoped b e = ap package_scope (sym (package_is bytes p)) ∙ rw e
 
-  no_package : (x : State) → (package_of bytes p).given ≡ false → room (declare_members bytes file 0 p x) ≡ true → FileGrew x (declare_members bytes file 0 p x)
+  no_package : (x : State) → (is_some (package_of bytes p)) ≡ false → room (declare_members bytes file 0 p x) ≡ true → FileGrew x (declare_members bytes file 0 p x)
   unfolding code_kind choose
   no_package x given last = members_shown 0 x (full_none bytes x.table ∙ sym (package_scoped false given)) refl (omega arith) last
 
-  in_package : (x : State) → (package_of bytes p).given ≡ true → room x ≡ true → room (declare_members bytes file (x.rows + 1) p (push (package_row bytes file p) x)) ≡ true
+  in_package : (x : State) → (is_some (package_of bytes p)) ≡ true → room x ≡ true → room (declare_members bytes file (x.rows + 1) p (push (package_row bytes file p) x)) ≡ true
       → FileGrew x (declare_members bytes file (x.rows + 1) p (push (package_row bytes file p) x))
   unfolding package_row kind_number choose
   in_package x given free last =
@@ -90,12 +90,12 @@ module _ (bytes : Bytes) (file : ℕ) (p : Place) where
 
   pub file_shown : (x : State) → room (declare_file bytes file p x) ≡ true → FileGrew x (declare_file bytes file p x)
   unfolding declare_file choose
-  file_shown x last = by (package_of bytes p).given (room x) refl refl last
+  file_shown x last = by (is_some (package_of bytes p)) (room x) refl refl last
     where
       in_file : Bool → Bool → State
       in_file b c = choose b (choose c (declare_members bytes file (x.rows + 1) p (push (package_row bytes file p) x)) x) (declare_members bytes file 0 p x)
 
-      by : (b c : Bool) → (package_of bytes p).given ≡ b → room x ≡ c → room (in_file b c) ≡ true → FileGrew x (in_file b c)
+      by : (b c : Bool) → (is_some (package_of bytes p)) ≡ b → room x ≡ c → room (in_file b c) ≡ true → FileGrew x (in_file b c)
       by false c given e l = no_package x given l
       by true true given e l = in_package x given e l
       by true false given e l = both_ways l e

@@ -1,12 +1,11 @@
 -- The uses of a field, and of a row. Assumes nothing.
 use mathlib.Core.Path.{◌≡◌, refl, sym, ap, ◌∙◌}
-use mathlib.Core.Bool.{Bool, true, false, not}
+use mathlib.Core.Bool.{Bool, true, false}
 use mathlib.Core.List.{List, [], ◌∷◌, ◌++◌, map, append-nil, append_assoc}
 use Prim.Native.Nat.{ℕ, zero, suc, ◌-◌, ◌≤◌, ◌<◌}
 use native.Mathlib.Omega.{arith}
-use lib.ListN.{length}
 use lib.Dec.{eqb}
-use borrow.Author.Tests.{eq-eqb, ne_eqb, lt-ltb, le-ltb, eqb-true, eqb-false, not-true, not-false}
+use borrow.Author.Tests.{lt-ltb, le-ltb, eqb-true, eqb-false}
 use mathlib.Core.Logic.{◌⊎◌, ⊎_elim}
 use Rattle.declarations.specs.declared.Kind.{Kind}
 use Rattle.declarations.specs.declared.Kind.TheVariants.{Package, Enum}
@@ -15,42 +14,10 @@ use Rattle.base.specs.Lists.{all_of}
 use Rattle.wire.specs.Records.{part}
 use Rattle.descriptor.specs.Descriptor.{Bytes}
 use Rattle.descriptor.specs.Decode.{entries, parts, decode_field, decode_message}
-use Rattle.descriptor.specs.Views.{field_in, field_of}
-use Rattle.descriptor.specs.declared.FieldView.{FieldView}
-use Rattle.name_rules.proofs.ViewedLaws.{field_is}
 use Rattle.declarations.specs.Rows.{row_at, kind_number}
 use Rattle.declarations.specs.declared.Declaration.{Declaration as Row}
 use Rattle.declarations.specs.Listed.{Listed, listed_row}
-use Rattle.map_entries.specs.Named.{Use, is_mapping, field_use, part_use, row_uses, uses}
-
-module _ (v : FieldView) (s : Bytes) where
-  pub no_label : not v.label.given ≡ true → false ≡ is_mapping (field_of s v)
-  unfolding field_of choose
-  no_label h = rw (not-true v.label.given h)
-
-  module _ (g : not v.label.given ≡ false) where
-    pub other_label : (v.label.value ≡ 3 → ⊥) → false ≡ is_mapping (field_of s v)
-    unfolding field_of choose
-    other_label n = rw (not-false v.label.given g, ne_eqb v.label.value 3 n)
-
-    module _ (e : v.label.value ≡ 3) where
-      pub no_kind : not v.kind.given ≡ true → false ≡ is_mapping (field_of s v)
-      unfolding field_of choose
-      no_kind h = rw (not-false v.label.given g, eq-eqb v.label.value 3 e, not-true v.kind.given h)
-
-      pub both : not v.kind.given ≡ false → eqb v.kind.value 11 ≡ is_mapping (field_of s v)
-      unfolding field_of choose
-      both h = rw (not-false v.label.given g, eq-eqb v.label.value 3 e, not-false v.kind.given h)
-
-module _ (s : Bytes) (v : FieldView) (v_is : v ≡ field_in 0 (part s 0 (length s - 0))) (number : ℕ) where
-  pub field_none : not v.typename.given ≡ true → part_use number s ≡ []
-  unfolding field_use field_of choose
-  field_none h = rw (← field_is s v v_is, not-true v.typename.given h)
-
-  pub field_some : not v.typename.given ≡ false
-      → part_use number s ≡ record { name = part s v.typename.start v.typename.len; number = number; mapping = is_mapping (field_of s v) } ∷ []
-  unfolding field_use field_of choose
-  field_some h = rw (← field_is s v v_is, not-false v.typename.given h)
+use Rattle.map_entries.specs.Named.{Use, field_use, part_use, row_uses, uses}
 
 -- ---- the rows
 pub uses_append : (ls ks : List Listed) → uses (ls ++ ks) ≡ uses ls ++ uses ks

@@ -1,4 +1,3 @@
-pub mod ViewedLaws
 pub mod SegmentLaws
 pub mod WellFormedLaws
 pub mod NamesLaws

@@ -2,11 +2,10 @@
 #![tactic(auto)]
 
 ghost use Rattle.std.specs.Prelude.{◌≡◌};
-ghost use Rattle.wire.specs.Records.{part};
 ghost use Rattle.descriptor.specs.Decode.{decode_field, decode_value, decode_oneof};
 ghost use Rattle.name_rules.specs.Rules.{has_name, field_good, value_good};
 
-use descriptor::{EnumValueDescriptor, FieldDescriptor, Text};
+use descriptor::{EnumValueDescriptor, FieldDescriptor};
 
 pub mod rules;
 
@@ -29,21 +28,4 @@ pub fn oneof_good(part: &[u8]) -> bool
     ensures { result ≡ has_name (decode_oneof part.now) }
 {
     rules::has_name(descriptor::name_of(part))
-}
-
-/// The bytes of a text, for callers that hold a set and the places of its texts.
-pub fn text_bytes(s: &[u8], t: Text) -> &[u8]
-    ensures { result.now ≡ part s.now t.start t.len }
-{
-    let start = t.start;
-    let len = t.len;
-    if s.len() <= start {
-        return &s[0..0];
-    }
-    let room = s.len() - start;
-    if room < len {
-        return &s[start..];
-    }
-    let end = start + len;
-    &s[start..end]
 }

@@ -3,12 +3,10 @@
 
 ghost use Rattle.std.specs.Prelude.{◌≡◌, ◌≤◌, length};
 ghost use Rattle.std.specs.Iterator.{item_count, YieldsFirstRef};
-ghost use Rattle.wire.specs.Contents.{value_of};
 ghost use Rattle.wire.specs.Value.{value_seen};
 ghost use Rattle.descriptor.specs.Decode.{entries, bytes_in, parts};
 
 use std::marker::Model;
-use wire::Record;
 use wire::records::{Records, Value};
 
 /// The embedded messages with one field number that are left, as bytes.
@@ -70,18 +68,6 @@ pub fn value_bytes(value: Value<'_>) -> &[u8]
     ensures { result.now ≡ bytes_in (value_seen value.entry) }
 {
     descriptor::bytes_in(value)
-}
-
-/// The bytes of an embedded message, of a record by its position; one of another wire type has none.
-pub fn embedded(s: &[u8], f: Record) -> &[u8]
-    ensures { result.now ≡ bytes_in (value_of s.now f) }
-{
-    let start = f.start;
-    let next = f.next;
-    if f.wiretype == 2 {
-        return descriptor::part_of(s, start, next);
-    }
-    &s[0..0]
 }
 
 /// How many embedded messages with this field number there are.

@@ -23,13 +23,14 @@ use Rattle.declarations.specs.declared.Declaration.{Declaration as Row}
 use Rattle.declarations.proofs.SetLaws.{set_listed, set_room}
 use Rattle.declared_types.specs.Undeclared.{first_undeclared_row}
 use Rattle.declared_types.proofs.SevenLaws.{first_undeclared_is}
+use Rattle.map_entries.specs.declared.Namers.{Namers}
 use Rattle.map_entries.specs.Named.{naming, first_unnamed}
 use Rattle.map_entries.proofs.FailingLaws.{first_six_is}
 use Rattle.map_entries.proofs.UnnamedTheorem.{table_unnamed}
 use Rattle.set_rules.specs.Room.{Room, row_count}
 
 module _ (bytes : Bytes) where
-  module _ (t u : List Row) (column : List ℕ) (there : Room bytes t column) (c : Count) (became : Became (declared bytes t) u c) where
+  module _ (t u : List Row) (column : List Namers) (there : Room bytes t column) (c : Count) (became : Became (declared bytes t) u c) where
     fewer : (row_count bytes ≤ 65536) × (row_count bytes ≤ length t)
     fewer = let s = there.small in let w = there.wide in (omega arith, omega arith)
 

@@ -17,6 +17,7 @@ use Rattle.field_columns.proofs.EntryLaws.{set_messages}
 use Rattle.limits.specs.Short.{short}
 use Rattle.limits.proofs.Sizes.{declarations_short}
 use Rattle.declarations.specs.declared.Declaration.{Declaration as Row}
+use Rattle.map_entries.specs.declared.Namers.{Namers}
 use Rattle.set_rules.specs.Room.{Room, row_count}
 
 all_of_append {ℓ κ} : {A : Type ℓ} {B : Type κ} (g : A → List B) (xs ys : List A) → all_of g (xs ++ ys) ≡ all_of g xs ++ all_of g ys
@@ -97,8 +98,8 @@ pub short_rows : (set : Bytes) → row_count set * 2 ≤ length set
 short_rows set = let all = declarations_short set in let count = declarations_counted (decode_set set) in omega arith
 
 -- so these tables have room
-pub room_within : (set : Bytes) (t : List Row) (column : List ℕ) → limit_passed set ≡ 0 → 545 ≤ length t → 544 ≤ length column → Room set t column
+pub room_within : (set : Bytes) (t : List Row) (column : List Namers) → limit_passed set ≡ 0 → 545 ≤ length t → 544 ≤ length column → Room set t column
 room_within set t column e wide long = let few = few_rows set e in record { small = omega arith; wide = omega arith; long = omega arith }
 
-pub room_short : (set : Bytes) (t : List Row) (column : List ℕ) → length set ≤ short → 151 ≤ length t → 150 ≤ length column → Room set t column
+pub room_short : (set : Bytes) (t : List Row) (column : List Namers) → length set ≤ short → 151 ≤ length t → 150 ≤ length column → Room set t column
 room_short set t column short wide long = let few = short_rows set in record { small = omega arith; wide = omega arith; long = omega arith }

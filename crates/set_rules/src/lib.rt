@@ -6,12 +6,15 @@ ghost use Rattle.descriptor.specs.Decode.{decode_set};
 ghost use Rattle.descriptor.specs.Limits.{limit_passed};
 ghost use Rattle.name_rules.specs.Answer.{names};
 ghost use Rattle.declarations.specs.Rows.{no_row};
+ghost use Rattle.map_entries.specs.declared.Namers.TheVariants.{Nobody};
 ghost use Rattle.set_rules.specs.Judge.{judge_set};
 ghost use Rattle.set_rules.specs.Room.{Room, Declares};
 
 use base::refusal::Refusal;
 use declarations::{Count, Declaration, NO_DECLARATION};
+use descriptor::field_number::SET_FILE;
 use limits::SHORT;
+use map_entries::Namers;
 
 /// A row for each file and each declaration of a set within the limits, and one more.
 pub const ROWS: usize = 545;
@@ -24,12 +27,12 @@ fn judge_rows(
     set: &[u8],
     rows: &[Declaration],
     count: Count,
-    who: &mut [usize],
+    who: &mut [Namers],
     sums: &mut [u64],
 ) -> Result<(), Refusal>
     ensures { Declares set.now rows.now count who.old → result ≡ names (decode_set set.now) }
 {
-    let files = parts::count_parts(set, 1);
+    let files = parts::count_parts(set, SET_FILE);
     map_entries::note_set(set, rows, count.rows, sums, who);
     let bad = file_names::first_bad_file(set);
     let unnamed = map_entries::first_unnamed(set, rows, count.rows, who);
@@ -47,10 +50,10 @@ fn judge_rows(
 // Refusals 6 and 7, with a table and columns for so many rows, which are to have room for the set's files and declarations.
 fn judge_within<const SIZE: usize>(set: &[u8]) -> Result<(), Refusal>
     requires { SIZE ≤ 65536 }
-    ensures { Room set.now (replicate SIZE no_row) (replicate SIZE 0) → result ≡ names (decode_set set.now) }
+    ensures { Room set.now (replicate SIZE no_row) (replicate SIZE Nobody) → result ≡ names (decode_set set.now) }
 {
     let mut rows = [NO_DECLARATION; SIZE];
-    let mut who = [0usize; SIZE];
+    let mut who = [Namers::Nobody; SIZE];
     let mut sums = [0u64; SIZE];
     let count = declarations::declare_set(set, &mut rows);
     let sums = &mut sums[..];

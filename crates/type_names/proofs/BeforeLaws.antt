@@ -1,67 +1,23 @@
--- The loops of `same_name` and `declared_before`. Assumes nothing.
+-- The search of `declared_before`. Assumes nothing.
+use Rattle.std.specs.Prelude.{Some}
 use mathlib.Core.Path.{◌≡◌, refl, sym, ap, ◌∙◌}
-use mathlib.Core.Bool.{Bool, true, false, not}
-use mathlib.Core.List.{List, [], ◌∷◌, ◌++◌}
+use mathlib.Core.Bool.{Bool, true, false}
+use mathlib.Core.List.{List}
 use Prim.Native.Nat.{ℕ, zero, suc, ◌+◌, ◌-◌, ◌%◌, ◌≤◌, ◌<◌}
 use native.Mathlib.Decide.{dec_le}
 use native.Mathlib.Omega.{arith}
-use lib.ListN.{length, get_or, length-append}
+use lib.ListN.{length, get_or}
 use lib.Dec.{eqb}
-use borrow.Author.Tests.{not-true, not-false, le-ltb, lt-ltb, eq-eqb, ne_eqb}
+use borrow.Author.Tests.{le-ltb, lt-ltb, eq-eqb, ne_eqb}
 use Rattle.base.specs.Bytes.{same}
 use Rattle.base.specs.Choose.{choose, choose_case}
 use Rattle.declarations.specs.Rows.{row_at, kind_number}
 use Rattle.declarations.specs.Listed.{full}
 use Rattle.declarations.specs.declared.Declaration.{Declaration as Row}
-use Rattle.type_names.specs.Cursors.{spelled, Sits, Entered, Prior}
 use Rattle.type_names.specs.LookUp.{same_row, before_by, declared_before, row_sum, row_sums}
-use Rattle.type_names.specs.RowSums.{Apart, Others}
-use Rattle.type_names.specs.declared.Cursor.{Cursor}
-use Rattle.type_names.specs.declared.Back.{Back}
+use Rattle.type_names.specs.RowSums.{Apart, Others, Seeks, SeeksOn, IsSum}
+use Rattle.type_names.specs.declared.Likely.{Likely}
 use Rattle.type_names.proofs.RowSumLaws.{full_apart, full_other}
-use Rattle.type_names.proofs.CursorLaws.{last_alike, last_unlike, longer, shorter}
-
-module _ (bytes : List ℕ) (t : List Row) (i j : ℕ) where
-  abbrev whole : Bool
-  whole = same (full bytes t i) (full bytes t j)
-
-  pub record Going (a b : Cursor) : Type 0 where
-    pub sits_a : Sits bytes a
-    pub sits_b : Sits bytes b
-    pub left : same (spelled bytes t a) (spelled bytes t b) ≡ whole
-
-  pub going_start : (a b : Cursor) → Entered bytes t i a → Entered bytes t j b → Going a b
-  going_start a b x y = record { sits_a = x.sits; sits_b = y.sits; left = rw (x.whole, y.whole) }
-
-  module _ (a b : Cursor) (going : Going a b) (x y : Back) (prior_a : Prior bytes t a x) (prior_b : Prior bytes t b y) where
-    pub going_end : not x.found ≡ true → not y.found ≡ whole
-    unfolding same
-    going_end h = by_found y.found refl
-      where
-        by_found : (f : Bool) → y.found ≡ f → not f ≡ whole
-        by_found false e = rw (prior_a.ended (not-true x.found h), prior_b.ended e) at going.left
-        by_found true e = sym (shorter (spelled bytes t y.rest) y.byte) ∙ (rw (prior_a.ended (not-true x.found h), prior_b.read e) at going.left)
-
-    module _ (h : not x.found ≡ false) where
-      more_a : spelled bytes t a ≡ spelled bytes t x.rest ++ (x.byte ∷ [])
-      more_a = prior_a.read (not-false x.found h)
-
-      pub going_longer : not y.found ≡ true → false ≡ whole
-      going_longer k = sym (longer (spelled bytes t x.rest) x.byte) ∙ (rw (more_a, prior_b.ended (not-true y.found k)) at going.left)
-
-      module _ (k : not y.found ≡ false) where
-        both : same (spelled bytes t x.rest ++ (x.byte ∷ [])) (spelled bytes t y.rest ++ (y.byte ∷ [])) ≡ whole
-        both = rw (← more_a, ← prior_b.read (not-false y.found k)) going.left
-
-        pub going_unlike : (x.byte ≡ y.byte → ⊥) → false ≡ whole
-        going_unlike n = sym (last_unlike (spelled bytes t x.rest) (spelled bytes t y.rest) x.byte y.byte n) ∙ both
-
-        pub going_more : x.byte ≡ y.byte → Going x.rest y.rest
-        going_more e =
-            record { sits_a = prior_a.sits; sits_b = prior_b.sits; left = sym (last_alike (spelled bytes t x.rest) (spelled bytes t y.rest) x.byte y.byte e) ∙ both }
-
-        pub going_less : length (spelled bytes t x.rest) < length (spelled bytes t a)
-        going_less = let e = ap length more_a in let l = length-append (spelled bytes t x.rest) (x.byte ∷ []) in omega arith
 
 module _ (bytes : List ℕ) (t : List Row) (i : ℕ) where
   pub row_package : (j kind : ℕ) → kind ≡ kind_number (row_at t j).kind → kind ≡ 0 → false ≡ same_row bytes t i j
@@ -98,12 +54,12 @@ module _ (bytes : List ℕ) (t : List Row) (i : ℕ) where
       pub inside : j ≤ i
       pub is : Are → before_by bytes t i j ≡ declared_before bytes t i
 
-    pub left_start : i ≤ 65535 → Left i
+    left_start : i ≤ 65535 → Left i
     unfolding declared_before choose
     left_start few = record { few = few; inside = omega arith; is = λ _. rw (le-ltb 65535 i few) }
 
     module _ (j : ℕ) (left : Left j) where
-      pub left_end : j ≤ 0 → Are → false ≡ declared_before bytes t i
+      left_end : j ≤ 0 → Are → false ≡ declared_before bytes t i
       unfolding before_by
       left_end h are = let z : j ≡ 0 = omega arith in rw z at (left.is are)
 
@@ -112,27 +68,65 @@ module _ (bytes : List ℕ) (t : List Row) (i : ℕ) where
         unfolding before_by
         opened are = let z : j ≡ suc (j - 1) = omega arith in rw (r_is are) (sym (ap (before_by bytes t i) z) ∙ left.is are)
 
-        pub left_found : r ≡ true → Are → true ≡ declared_before bytes t i
+        left_found : r ≡ true → Are → true ≡ declared_before bytes t i
         unfolding choose
         left_found e are = rw e at (opened are)
 
-        pub left_more : r ≡ false → Left (j - 1)
+        left_more : r ≡ false → Left (j - 1)
         unfolding choose
         left_more e = let k = left.inside in record { few = left.few; inside = omega arith; is = λ are. rw e at (opened are) }
 
       -- the rows' full names have other checksums
-      pub left_apart : 0 < j → (i < length sums) × Apart sums (j - 1) (get_or sums i 0 % 4294967296) → Left (j - 1)
+      left_apart : 0 < j → (i < length sums) × Apart sums (j - 1) (get_or sums i 0 % 4294967296) → Left (j - 1)
       left_apart h apart =
           let few = left.few in
           let inside = left.inside in
           left_more h false (λ are. not_same (j - 1) (full_apart bytes t sums are i (j - 1) few (omega arith) apart.0 apart.1)) refl
 
-      pub left_skip : (k : ℕ) → k ≤ j → ((bytes : List ℕ) (t : List Row) → sums ≡ row_sums bytes t (length sums) → Others bytes t (row_sum bytes t i) k j) → Left k
+      left_skip : (k : ℕ) → k ≤ j → (Are → Others bytes t (row_sum bytes t i) k j) → Left k
       left_skip k l others =
           let few = left.few in
           let inside = left.inside in
           record {
             few = few;
             inside = omega arith;
-            is = λ are. skipped k j l (λ m a h. not_same m (full_other bytes t (row_sum bytes t i) k j (others bytes t are) m a h i few (omega arith) refl)) ∙ left.is are;
+            is = λ are. skipped k j l (λ m a h. not_same m (full_other bytes t (row_sum bytes t i) k j (others are) m a h i few (omega arith) refl)) ∙ left.is are;
           }
+
+    -- and the rows that may have the checksum of row i
+    pub record Looking (l : Likely) : Type 0 where
+      pub kept : l.sums.now ≡ sums
+      pub sum : Are → IsSum l.sum (row_sum bytes t i)
+      pub left : Left l.left
+
+    pub looking_start : i ≤ 65535 → (l : Likely) → Seeks sums l.sum i l → (Are → IsSum l.sum (row_sum bytes t i)) → Looking l
+    looking_start few l s sum = record { kept = s.kept.0; sum = sum; left = left_skip i (left_start few) l.left s.fewer (λ are. s.others bytes t (row_sum bytes t i) are (sum are)) }
+
+    module _ (old new : Likely) (row : ℕ) (looking : Looking old) (on : SeeksOn old (Some row) new) where
+      at : row ≡ old.left - 1
+      at = let e = on.0 in omega arith
+
+      moved : Left (old.left - 1) → Looking new
+      moved left =
+          let f : new.left ≤ old.left - 1 = rw (← at) on.1.fewer in
+          record {
+            kept = on.1.kept.0 ∙ looking.kept;
+            sum = λ are. rw on.1.kept.1 (looking.sum are);
+            left = left_skip (old.left - 1) left new.left f (λ are. rw (← at) (on.1.others bytes t (row_sum bytes t i) (rw looking.kept are) (looking.sum are)));
+          }
+
+      pub looking_within : (i < 65536) × (row < 65536)
+      looking_within = let a = looking.left.few in let b = looking.left.inside in let e = on.0 in (omega arith, omega arith)
+
+      pub looking_apart : (i < length sums) × Apart sums row (get_or sums i 0 % 4294967296) → Looking new
+      looking_apart apart = let e = on.0 in moved (left_apart old.left looking.left (omega arith) (rw (← at) apart))
+
+      module _ (r : Bool) (r_is : r ≡ same_row bytes t i row) where
+        pub looking_found : r ≡ true → Are → true ≡ declared_before bytes t i
+        looking_found h = let e = on.0 in left_found old.left looking.left (omega arith) r (λ _. rw (← at) r_is) h
+
+        pub looking_more : r ≡ false → Looking new
+        looking_more h = let e = on.0 in moved (left_more old.left looking.left (omega arith) r (λ _. rw (← at) r_is) h)
+
+    pub looking_end : (l : Likely) → Looking l → l.left ≡ 0 → Are → false ≡ declared_before bytes t i
+    looking_end l looking z = left_end l.left looking.left (omega arith)

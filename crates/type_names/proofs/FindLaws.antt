@@ -1,18 +1,25 @@
 -- The search of `find_row`. Assumes nothing.
+use Rattle.std.specs.Prelude.{Option, None, Some, IfSome}
+use Rattle.std.specs.Option.{unwrap_or, is_some, option_map}
 use mathlib.Core.Path.{◌≡◌, refl, sym, ap, ◌∙◌}
 use mathlib.Core.Bool.{Bool, true, false}
 use mathlib.Core.List.{List}
 use Prim.Native.Nat.{ℕ, zero, suc, ◌+◌, ◌-◌, ◌≤◌, ◌<◌}
 use native.Mathlib.Omega.{arith}
+use lib.Dec.{ltb}
+use lib.ListN.{length}
+use borrow.Author.Tests.{lt-ltb, le-ltb}
 use Rattle.base.specs.Choose.{choose, choose_case}
 use Rattle.declarations.specs.Rows.{row_at, kind_number}
 use Rattle.declarations.specs.declared.Declaration.{Declaration as Row}
 use Rattle.checksums.specs.Sums.{sum_of}
-use Rattle.type_names.specs.LookUp.{named, wanted, fits, find_from, find_row}
-use Rattle.type_names.specs.RowSums.{Others}
+use Rattle.type_names.specs.LookUp.{named, wanted, fits, find_from, find_row, found_row, row_sums}
+use Rattle.type_names.specs.RowSums.{Others, Seeks, SeeksOn}
+use Rattle.type_names.specs.declared.Likely.{Likely}
+use Rattle.type_names.specs.declared.Sort.{Sort}
 use Rattle.type_names.proofs.RowSumLaws.{name_other}
 
-module _ (bytes : List ℕ) (t : List Row) (name : List ℕ) (sort : ℕ) where
+module _ (bytes : List ℕ) (t : List Row) (name : List ℕ) (sort : Sort) where
   pub fits_named : (i kind : ℕ) (w r : Bool) → kind ≡ kind_number (row_at t i).kind → w ≡ wanted sort kind → w ≡ true → r ≡ named bytes t name i → r ≡ fits bytes t name sort i
   unfolding fits choose
   fits_named i kind w r k e is h = rw (← k, ← e, is) h
@@ -42,26 +49,35 @@ module _ (bytes : List ℕ) (t : List Row) (name : List ℕ) (sort : ℕ) where
         ∙ ap from (let e : i + 1 + d ≡ i + suc d = omega arith in e)
 
     -- the first of the rows from row i on
-    pub record Going (first i : ℕ) : Type 0 where
+    pub record Going (first : Option ℕ) (i : ℕ) : Type 0 where
       pub inside : i ≤ count
-      pub is : first ≡ from i
+      pub is : unwrap_or first count ≡ from i
+      pub below : IfSome first (λ k. k < count)
 
-    pub going_start : Going count count
+    going_start : Going None count
     unfolding find_from
-    going_start = record { inside = omega arith; is = let z : count - count ≡ 0 = omega arith in rw z }
+    going_start = record { inside = omega arith; is = let z : count - count ≡ 0 = omega arith in rw z; below = tt }
 
-    module _ (first i : ℕ) (going : Going first i) where
-      pub going_end : i ≤ 0 → first ≡ find_row bytes t name sort count
-      unfolding find_row
-      going_end h = let z : i ≡ 0 = omega arith in let e : count - 0 ≡ count = omega arith in going.is ∙ rw (z, e)
+    module _ (first : Option ℕ) (i : ℕ) (going : Going first i) where
+      going_end : i ≡ 0 → first ≡ found_row bytes t name sort count
+      unfolding found_row find_row choose
+      going_end z = by first whole going.below
+        where
+          whole : unwrap_or first count ≡ find_from bytes t name sort count 0
+          whole = let e : count - 0 ≡ count = omega arith in going.is ∙ rw (z, e)
+
+          by : (r : Option ℕ) → unwrap_or r count ≡ find_from bytes t name sort count 0 → IfSome r (λ k. k < count) → r ≡ found_row bytes t name sort count
+          by None e b = rw (← e, le-ltb count count (omega arith))
+          by (Some k) e b = rw (← e, lt-ltb k count b)
 
       -- rows with other checksums
-      pub going_skip : (sum i' : ℕ) → sum ≡ sum_of name → i' ≤ i → Others bytes t sum i' i → Going first i'
+      going_skip : (sum i' : ℕ) → sum ≡ sum_of name → i' ≤ i → Others bytes t sum i' i → Going first i'
       going_skip sum i' sum_is l others =
           let k = going.inside in
           let e : i' + (i - i') ≡ i = omega arith in
           record {
             inside = omega arith;
+            below = going.below;
             is = going.is ∙ sym (skipped (i - i') i' (omega arith) (λ j a h. fits_none j (name_other bytes t sum i' i others j a (omega arith) name sum_is)) ∙ ap from e);
           }
 
@@ -72,10 +88,63 @@ module _ (bytes : List ℕ) (t : List Row) (name : List ℕ) (sort : ℕ) where
             let e : i - 1 + 1 ≡ i = omega arith in
             opened (i - 1) (omega arith) r r_is ∙ ap (λ (m : ℕ). choose r (i - 1) (from m)) e
 
-        pub going_found : r ≡ true → Going (i - 1) (i - 1)
+        going_found : r ≡ true → Going (Some (i - 1)) (i - 1)
         unfolding choose
-        going_found e = let k = going.inside in record { inside = omega arith; is = sym (one ∙ rw e) }
+        going_found e = let k = going.inside in record { inside = omega arith; below = (let l : i - 1 < count = omega arith in l); is = sym (one ∙ rw e) }
 
-        pub going_more : r ≡ false → Going first (i - 1)
+        going_more : r ≡ false → Going first (i - 1)
         unfolding choose
-        going_more e = let k = going.inside in record { inside = omega arith; is = going.is ∙ sym (one ∙ rw e) }
+        going_more e = let k = going.inside in record { inside = omega arith; below = going.below; is = going.is ∙ sym (one ∙ rw e) }
+
+    -- and the rows that may have the checksum of the name
+    module _ (sums : List ℕ) (sum : ℕ) where
+      abbrev Are : Type 0
+      Are = sums ≡ row_sums bytes t (length sums)
+
+      pub record Finding (first : Option ℕ) (l : Likely) : Type 0 where
+        pub kept : (l.sums.now ≡ sums) × (l.sum ≡ Some sum)
+        pub sum_is : sum ≡ sum_of name
+        pub going : Are → Going first l.left
+
+      pub finding_start : sum ≡ sum_of name → (l : Likely) → Seeks sums (Some sum) count l → Finding None l
+      finding_start sum_is l s = record { kept = s.kept; sum_is = sum_is; going = λ are. going_skip None count going_start sum l.left sum_is s.fewer (s.others bytes t sum are refl) }
+
+      module _ (first : Option ℕ) (old new : Likely) (row : ℕ) (finding : Finding first old) (on : SeeksOn old (Some row) new) (r : Bool) (r_is : Are → r ≡ fits bytes t name sort row) where
+        kept : (new.sums.now ≡ sums) × (new.sum ≡ Some sum)
+        kept = (on.1.kept.0 ∙ finding.kept.0, on.1.kept.1 ∙ finding.kept.1)
+
+        at : row ≡ old.left - 1
+        at = let e = on.0 in omega arith
+
+        moved : (found : Option ℕ) → Are → Going found (old.left - 1) → Going found new.left
+        moved found are g =
+            let f : new.left ≤ old.left - 1 = rw (← at) on.1.fewer in
+            going_skip found (old.left - 1) g sum new.left finding.sum_is f
+            (rw (← at) (on.1.others bytes t sum (rw finding.kept.0 are) (rw finding.kept.1 refl)))
+
+        pub finding_found : r ≡ true → Finding (Some row) new
+        finding_found e = let p = on.0 in record { kept = kept; sum_is = finding.sum_is; going = λ are. moved (Some row) are (rw at (going_found first old.left (finding.going are) (omega arith) r (rw (← at) (r_is are)) e)) }
+
+        pub finding_more : r ≡ false → Finding first new
+        finding_more e = let p = on.0 in record { kept = kept; sum_is = finding.sum_is; going = λ are. moved first are (going_more first old.left (finding.going are) (omega arith) r (rw (← at) (r_is are)) e) }
+
+      pub finding_end : (first : Option ℕ) (l : Likely) → Finding first l → l.left ≡ 0 → Are → first ≡ found_row bytes t name sort count
+      finding_end first l finding z are = going_end first l.left (finding.going are) z
+
+pub found_some : (bytes : List ℕ) (t : List Row) (name : List ℕ) (sort : Sort) (count : ℕ) → is_some (found_row bytes t name sort count) ≡ ltb (find_row bytes t name sort count) count
+unfolding found_row choose
+found_some bytes t name sort count = by (ltb (find_row bytes t name sort count) count)
+  where
+    by : (b : Bool) → is_some (choose b (Some (find_row bytes t name sort count)) None) ≡ b
+    by true = refl
+    by false = refl
+
+-- where the row that is found is asked for what follows from it
+pub found_gives : {A : Type 0} (bytes : List ℕ) (t : List Row) (name : List ℕ) (sort : Sort) (count : ℕ) (f : ℕ → A) (d : A) (r : Option ℕ) → r ≡ found_row bytes t name sort count
+    → unwrap_or (option_map f r) d ≡ choose (ltb (find_row bytes t name sort count) count) (f (find_row bytes t name sort count)) d
+unfolding found_row choose
+found_gives bytes t name sort count f d r e = rw e (by (ltb (find_row bytes t name sort count) count))
+  where
+    by : (b : Bool) → unwrap_or (option_map f (choose b (Some (find_row bytes t name sort count)) None)) d ≡ choose b (f (find_row bytes t name sort count)) d
+    by true = refl
+    by false = refl

@@ -1,7 +1,6 @@
 pub mod ChainLaws
-pub mod CursorLaws
+pub mod FrontLaws
 pub mod NamedLaws
-pub mod StripLaws
 pub mod RowSumLaws
 pub mod FindLaws
 pub mod BeforeLaws

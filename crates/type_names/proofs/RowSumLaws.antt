@@ -1,29 +1,30 @@
 -- Checksums of the full names of rows, and names that they tell apart. Assumes nothing.
+use Rattle.std.specs.Prelude.{None, Some}
+use denote.Ref.{Bor}
 use mathlib.Core.Path.{◌≡◌, refl, sym, ap, ◌∙◌}
 use mathlib.Core.Bool.{false}
 use mathlib.Core.List.{List, [], ◌∷◌, ◌++◌, append_assoc}
 use Prim.Native.Nat.{ℕ, zero, suc, ◌+◌, ◌-◌, ◌/◌, ◌%◌, ◌^◌, ◌≤◌, ◌<◌}
 use native.Mathlib.Decide.{dec_le}
+use native.Mathlib.Numerals.{add-one}
 use native.Mathlib.Omega.{arith}
 use lib.Dec.{ltb, eqb}
 use lib.ListN.{length, get_or, drop, get_or-append}
 use borrow.Author.Tests.{le-ltb, lt-ltb, ne_eqb}
 use Rattle.base.specs.Bytes.{same}
 use Rattle.base.specs.Choose.{choose, choose_case}
-use Rattle.wire.specs.Records.{part}
 use Rattle.message_graph.specs.Tab.{tab, length_tab, tab_at, Filled}
 use Rattle.checksums.specs.Sums.{sum_from, sum_of}
 use Rattle.checksums.specs.SumLaws.{sum_small, sum_on, unlike}
 use Rattle.name_rules.specs.FullNames.{◌·◌}
 use Rattle.declarations.specs.Rows.{row_at}
 use Rattle.declarations.specs.Listed.{above, full, name_of}
-use Rattle.declarations.proofs.FullLaws.{full_none, above_before}
+use Rattle.declarations.proofs.FullLaws.{full_none, above_before, full_step}
 use Rattle.declarations.specs.declared.Declaration.{Declaration as Row}
 use Rattle.type_names.specs.Chains.{cell_by, chained, cells, Chained}
 use Rattle.type_names.specs.LookUp.{named, row_sum, row_sums}
-use Rattle.type_names.specs.RowSums.{Summed, Apart, Others}
+use Rattle.type_names.specs.RowSums.{Summed, Apart, Others, Seeks}
 use Rattle.type_names.proofs.ChainLaws.{sum_cell, behind_last, behind_before}
-use Rattle.type_names.proofs.CursorLaws.{full_cells}
 use Rattle.type_names.proofs.NamedLaws.{named_past, named_is}
 
 module _ (bytes : List ℕ) (t : List Row) where
@@ -82,7 +83,7 @@ module _ (bytes : List ℕ) (t : List Row) where
     pub sum_whole : (dotted r : ℕ) (own : List ℕ) → dotted ≡ sum_from (around % 2 ^ 32) (46 ∷ []) → own ≡ name_of bytes row
         → r ≡ sum_from (dotted % 2 ^ 32) own → r ≡ row_sum bytes t i
     sum_whole dotted r own dotted_is own_is r_is =
-        let name : full bytes t (i + 1) ≡ full bytes t up · own = full_cells bytes t i ∙ rw (own_is, up_is, row_is) in
+        let name : full bytes t (i + 1) ≡ full bytes t up · own = ap (full bytes t) (add-one i) ∙ full_step bytes t i ∙ rw (own_is, up_is, row_is) in
         r_is ∙ rw (dotted_is, sum_around, sum_on 0 (full bytes t up) (46 ∷ []) (omega arith), sum_on 0 (full bytes t up ++ (46 ∷ [])) own (omega arith), append_assoc (full bytes t up) (46 ∷ []) own)
         (ap sum_of (sym name) ∙ sym (sum_is i few))
 
@@ -109,11 +110,8 @@ module _ (bytes : List ℕ) (t : List Row) where
     pub others_before : (n k b own r sum : ℕ) → n ≡ chained (length sums) → k < n → own ≡ get_or sums k 0 % 4294967296 % n → b ≡ sum % n → own ≡ b → r ≡ get_or sums k 0 / 4294967296 % 65536 → Others bytes t sum r k
     others_before n k b own r sum n_is k_less own_is b_is alike r_is = record { other = λ j. behind_before (row_sum bytes t) row_small sums cells_are n k b own r sum j n_is k_less own_is b_is alike r_is }
 
-    sum_row : (k : ℕ) → k < length sums → get_or sums k 0 % 4294967296 ≡ row_sum bytes t k
+    pub sum_row : (k : ℕ) → k < length sums → get_or sums k 0 % 4294967296 ≡ row_sum bytes t k
     sum_row = sum_cell (row_sum bytes t) row_small sums cells_are
-
-    pub others_row : (i sum from to : ℕ) → i < length sums → sum ≡ get_or sums i 0 % 4294967296 → Others bytes t sum from to → Others bytes t (row_sum bytes t i) from to
-    others_row i sum from to h is others = record { other = λ j l k e. others.other j l k (e ∙ sym (is ∙ sum_row i h)) }
 
     sum_at : (k : ℕ) → k < length sums → k ≤ 65535 → get_or sums k 0 % 4294967296 ≡ sum_of (full bytes t (k + 1))
     sum_at k h few = sum_row k h ∙ sum_is k few
@@ -128,3 +126,11 @@ module _ (bytes : List ℕ) (t : List Row) where
     pub full_apart : (i j : ℕ) → i ≤ 65535 → j ≤ 65535 → i < length sums → Apart sums j (get_or sums i 0 % 4294967296) → same (full bytes t (j + 1)) (full bytes t (i + 1)) ≡ false
     full_apart i j few_i few_j inside apart =
         unlike (full bytes t (j + 1)) (full bytes t (i + 1)) (λ e. apart.other (sum_at j apart.inside few_j ∙ ap sum_of e ∙ sym (sum_at i inside few_i)))
+
+-- the rows before one that has no checksum
+pub seeks_all : (sums : Bor (List ℕ)) (row : ℕ) → Seeks sums.now None row (record { sums = sums; sum = None; left = row })
+seeks_all sums row = record { kept = (refl, refl); fewer = omega arith; others = λ bytes t sum are is. record { other = λ j l h e. omega arith } }
+
+pub seeks_some : (sums : Bor (List ℕ)) (sum row left : ℕ) → left ≤ row → ((bytes : List ℕ) (t : List Row) → sums.now ≡ row_sums bytes t (length sums.now) → Others bytes t sum left row)
+    → Seeks sums.now (Some sum) row (record { sums = sums; sum = Some sum; left = left })
+seeks_some sums sum row left l others = record { kept = (refl, refl); fewer = l; others = λ bytes t x are is. rw is (others bytes t are) }

@@ -1,4 +1,4 @@
-pub mod Cursors
+pub mod Fronts
 pub mod Chains
 pub mod LookUp
 pub mod RowSums

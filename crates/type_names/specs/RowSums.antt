@@ -1,8 +1,9 @@
 -- What a list of checksums says of the rows of a table.
-use Rattle.std.specs.Prelude.{ℕ, ◌%◌, ◌≤◌, ◌<◌, ◌≡◌, List, length, get_or}
+use Rattle.std.specs.Prelude.{ℕ, ◌+◌, ◌%◌, ◌≤◌, ◌<◌, ◌≡◌, List, length, get_or, Option, None, Some, IfSome}
 use Rattle.descriptor.specs.Descriptor.{Bytes}
 use Rattle.declarations.specs.declared.Declaration.{Declaration as Row}
-use Rattle.type_names.specs.LookUp.{row_sum}
+use Rattle.type_names.specs.LookUp.{row_sum, row_sums}
+use Rattle.type_names.specs.declared.Likely.{Likely}
 
 -- it has those of the first n rows
 pub record Summed (bytes : Bytes) (t : List Row) (sums : List ℕ) (n : ℕ) : Type 0 where
@@ -16,3 +17,18 @@ pub record Apart (sums : List ℕ) (i sum : ℕ) : Type 0 where
 -- the rows from the first of these numbers up to the second have other ones
 pub record Others (bytes : Bytes) (t : List Row) (sum from to : ℕ) : Type 0 where
   pub other : (j : ℕ) → from ≤ j → j < to → row_sum bytes t j ≡ sum → ⊥
+
+-- a checksum that is looked for: any, where none is given
+abbrev pub IsSum : Option ℕ → ℕ → Type 0
+IsSum given sum = IfSome given (λ x. sum ≡ x)
+
+-- rows with a checksum are looked for, and those up to the first `end` that are passed over have others
+pub record Seeks (sums : List ℕ) (given : Option ℕ) (end : ℕ) (l : Likely) : Type 0 where
+  pub kept : (l.sums.now ≡ sums) × (l.sum ≡ given)
+  pub fewer : l.left ≤ end
+  pub others : (bytes : Bytes) (t : List Row) (sum : ℕ) → sums ≡ row_sums bytes t (length sums) → IsSum given sum → Others bytes t sum l.left end
+
+-- one row on
+abbrev pub SeeksOn : Likely → Option ℕ → Likely → Type 0
+SeeksOn old None new = old.left ≡ 0
+SeeksOn old (Some row) new = (old.left ≡ row + 1) × Seeks old.sums.now old.sum row new

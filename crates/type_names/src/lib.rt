@@ -2,88 +2,101 @@
 // checksums leave one remainder; full names are compared from their ends, and none is built.
 #![tactic(auto)]
 
-ghost use Rattle.std.specs.Prelude.{◌≡◌, true, false, List, ℕ, ◌+◌, ◌-◌, ◌/◌, ◌%◌, ◌≤◌, ◌<◌, eqb, length, get_or};
+ghost use Rattle.std.specs.Prelude.{◌≡◌, true, List, ℕ, ◌+◌, ◌-◌, ◌/◌, ◌%◌, ◌≤◌, ◌<◌, Some, reverse, eqb, length, get_or};
+ghost use Rattle.std.specs.Iterator.{at_most, item_count, YieldsFirst};
 ghost use Rattle.base.specs.Choose.{choose};
 ghost use Rattle.base.specs.Bytes.{same};
 ghost use Rattle.checksums.specs.Sums.{sum_of};
 ghost use Rattle.declarations.specs.Listed.{above, full, name_of};
 ghost use Rattle.declarations.specs.Rows.{kind_number};
 ghost use Rattle.declarations.specs.declared.Declaration.{Declaration};
-ghost use Rattle.type_names.specs.Cursors.{Sits, Prior, Entered, Stripped};
+ghost use Rattle.type_names.specs.Fronts.{spelled, Stripped};
 ghost use Rattle.message_graph.specs.Tab.{tab};
 ghost use Rattle.type_names.specs.Chains.{packed, chained, Linked, Chained};
-ghost use Rattle.type_names.specs.LookUp.{named, wanted, fits, find_row, same_row, declared_before, row_sum, row_sums};
-ghost use Rattle.type_names.specs.RowSums.{Summed, Apart, Others};
+ghost use Rattle.type_names.specs.LookUp.{named, wanted, fits, found_row, same_row, declared_before, row_sum, row_sums};
+ghost use Rattle.type_names.specs.RowSums.{Summed, Apart, Others, Seeks, SeeksOn, IsSum};
 
 use declarations::{Declaration, Kind};
-use descriptor::Text;
+use std::marker::Model;
 
-// What is left of a full name, without its end: nothing, or the full name with the code `up`, a dot, and `left` bytes of the
-// set from `start` on.
-#[derive(Drop)]
-pub struct Cursor {
-    pub some: bool,
-    pub up: usize,
-    pub start: usize,
-    pub left: usize,
+/// The declarations that a name is looked up among: all, the enums or the messages.
+#[derive(Clone, Copy)]
+pub enum Sort {
+    Any,
+    Enum,
+    Message,
 }
 
-// The last byte of that, where there is one, and the rest.
-#[derive(Drop)]
-pub struct Back {
-    pub found: bool,
-    pub byte: u8,
-    pub rest: Cursor,
+// The front of a full name: the full name with the code `up`, a dot, and `own`.
+#[derive(Clone, Copy)]
+struct Front<'a> {
+    up: usize,
+    own: &'a [u8],
 }
 
-// What is left of a name: its first `end` bytes are to be the full name with the code. Where it isn't good, the name is
-// another.
+// The bytes of a full name that are left, from its end on.
 #[derive(Drop)]
-pub struct Rest {
-    pub good: bool,
-    pub code: usize,
-    pub end: usize,
+struct FromEnd<'a> {
+    set: &'a [u8],
+    rows: &'a [Declaration],
+    left: Option<Front<'a>>,
+}
+
+impl<'a> Model for FromEnd<'a> {
+    ghost use Rattle.std.specs.Prelude.{List, ℕ, reverse};
+    ghost use Rattle.type_names.specs.Fronts.{spelled};
+
+    ghost Value = { List ℕ };
+
+    ghost view = { λ s. reverse (spelled s.set.now s.rows.now s.left) };
+}
+
+impl<'a> FromEnd<'a> {
+    // Those of the full name with a code.
+    fn new(set: &'a [u8], rows: &'a [Declaration], code: usize) -> Self
+        ensures { result ≡ reverse (full set.now rows.now code) }
+    {
+        FromEnd {
+            set,
+            rows,
+            left: enter(set, rows, code),
+        }
+    }
+}
+
+impl<'a> Iterator for FromEnd<'a> {
+    type Item = u8;
+
+    ghost next_gives = { YieldsFirst (λ rest. rest) };
+
+    ghost remaining = { item_count (λ rest. rest) };
+
+    #[tactic(auto, using(crate::proofs::FrontLaws::last_byte, crate::proofs::FrontLaws::last_dot))]
+    fn next(&mut self) -> Option<u8> {
+        let Front { up, own } = self.left?;
+        match own {
+            [own @ .., byte] => {
+                self.left = Some(Front { up, own });
+                Some(*byte)
+            }
+            [] => {
+                self.left = enter(self.set, self.rows, up);
+                Some(b'.')
+            }
+        }
+    }
 }
 
 // The full name with a code: of nothing for 0, of row i for i + 1.
-fn enter(set: &[u8], rows: &[Declaration], code: usize) -> Cursor
-    ensures { Entered set.now rows.now code result }
+fn enter<'a>(set: &'a [u8], rows: &[Declaration], code: usize) -> Option<Front<'a>>
+    ensures { spelled set.now rows.now result ≡ full set.now rows.now code }
 {
-    if code == 0 {
-        return Cursor {
-            some: false,
-            up: 0,
-            start: 0,
-            left: 0,
-        };
-    }
-    let i = code - 1;
+    let i = code.checked_sub(1)?;
     let row = declarations::row_at(rows, i);
-    let up = above(i, row);
-    let start = row.name;
-    if set.len() < start {
-        return Cursor {
-            some: true,
-            up,
-            start: 0,
-            left: 0,
-        };
-    }
-    let room = set.len() - start;
-    if room < row.len {
-        return Cursor {
-            some: true,
-            up,
-            start,
-            left: room,
-        };
-    }
-    Cursor {
-        some: true,
-        up,
-        start,
-        left: row.len,
-    }
+    Some(Front {
+        up: above(i, row),
+        own: name_of(set, row),
+    })
 }
 
 // What row `i` stands in; nothing, where that isn't before it.
@@ -98,61 +111,19 @@ fn above(i: usize, row: Declaration) -> usize
 fn name_of(set: &[u8], row: Declaration) -> &[u8]
     ensures { result.now ≡ name_of set.now row }
 {
-    let name = Text {
-        given: true,
-        start: row.name,
-        len: row.len,
-    };
-    name_rules::text_bytes(set, name)
-}
-
-fn read_back(set: &[u8], rows: &[Declaration], c: Cursor) -> Back
-    requires { Sits set.now c }
-    ensures { Prior set.now rows.now c result }
-{
-    if !c.some {
-        return Back {
-            found: false,
-            byte: 0,
-            rest: c,
-        };
-    }
-    if c.left == 0 {
-        let rest = enter(set, rows, c.up);
-        return Back {
-            found: true,
-            byte: 46,
-            rest,
-        };
-    }
-    let left = c.left - 1;
-    let at = c.start + left;
-    let byte = base::byte_at(set, at);
-    let rest = Cursor {
-        some: true,
-        up: c.up,
-        start: c.start,
-        left,
-    };
-    Back {
-        found: true,
-        byte,
-        rest,
-    }
+    let rest = set.get(row.name..).unwrap_or(&[]);
+    &rest[..row.len.min(rest.len())]
 }
 
 // The checksum of the full name with the code `up`: that of nothing for 0, and of a row from its place in `sums`.
+#[tactic(auto, unfolding(base::specs::Choose::choose))]
 fn sum_above(sums: &[u64], up: usize) -> u64
     ensures { result ≡ choose (eqb up 0) 0 (get_or sums.now (up - 1) 0) }
 {
-    if up == 0 {
-        return 0;
+    match up.checked_sub(1) {
+        Some(i) => sums.get(i).copied().unwrap_or(0),
+        None => 0,
     }
-    let i = up - 1;
-    if i < sums.len() {
-        return sums[i];
-    }
-    0
 }
 
 // The checksum of the full name of row `i`: that of what it stands in, then of a dot and its own name. `sums` has those of the rows
@@ -174,10 +145,8 @@ fn row_sum(set: &[u8], rows: &[Declaration], sums: &[u64], i: usize) -> u64
 fn sum_rows(set: &[u8], rows: &[Declaration], sums: &mut [u64])
     ensures { sums.new ≡ tab (length sums.old) (row_sum set.now rows.now) }
 {
-    let mut i = 0;
-    while i < sums.len() {
+    for i in 0..sums.len() {
         sums[i] = row_sum(set, rows, sums, i);
-        i += 1;
     }
 }
 
@@ -219,13 +188,11 @@ fn pack(sum: u64, before: usize, last: usize) -> u64
 }
 
 // So many rows of a list with `n` cells are in chains.
+#[tactic(auto, unfolding(crate::specs::Chains::chained, base::specs::Choose::choose))]
 fn chained(n: usize) -> usize
     ensures { result ≡ chained n }
 {
-    if 65535 < n {
-        return 65535;
-    }
-    n
+    n.min(65535)
 }
 
 // The bucket of a checksum, of `n` buckets.
@@ -260,10 +227,8 @@ fn chain(sums: &mut [u64])
     ensures { Chained sums.old sums.new }
 {
     let n = chained(sums.len());
-    let mut k: usize = 0;
-    while k < n {
+    for k in 0..n {
         link(sums, n, k);
-        k = k + 1;
     }
 }
 
@@ -275,29 +240,22 @@ pub fn fill_sums(set: &[u8], rows: &[Declaration], sums: &mut [u64])
     chain(sums);
 }
 
-// The last of the first `count` rows that may have this checksum, counted from 1; 0 where none has. The rows behind it have others,
-// where `sums` has those of the rows.
-pub fn last_like(sums: &[u64], count: usize, sum: u64) -> usize
+// How many of the first `count` rows are left, where those behind have other checksums.
+fn last_like(sums: &[u64], count: usize, sum: u64) -> usize
     ensures upper_bound { result ≤ count }
     ensures by_index { (set : List ℕ) (rows : List Declaration) → sums.now ≡ row_sums set rows (length sums.now) → Others set rows sum result count }
 {
     let n = chained(sums.len());
-    if count != n {
-        return count;
-    }
-    if n == 0 {
+    if count != n || n == 0 {
         return count;
     }
     let b = bucket(sum, n);
     let last = last_in(sums[b]);
-    if count < last {
-        return count;
-    }
-    last
+    if count < last { count } else { last }
 }
 
 // The same of the rows before row `k`, which may have it.
-pub fn like_before(sums: &[u64], k: usize, sum: u64) -> usize
+fn like_before(sums: &[u64], k: usize, sum: u64) -> usize
     ensures upper_bound { result ≤ k }
     ensures by_index { (set : List ℕ) (rows : List Declaration) → sums.now ≡ row_sums set rows (length sums.now) → Others set rows sum result k }
 {
@@ -312,59 +270,88 @@ pub fn like_before(sums: &[u64], k: usize, sum: u64) -> usize
         return k;
     }
     let before = before_in(cell);
-    if k < before {
-        return k;
+    if k < before { k } else { before }
+}
+
+/// The rows that may have a checksum, from the last to the first: all, where that is `None`. Where `sums` has the checksums of the
+/// rows, those that are passed over have others.
+#[derive(Drop)]
+pub struct Likely<'a> {
+    pub sums: &'a [u64],
+    pub sum: Option<u64>,
+    pub left: usize,
+}
+
+impl<'a> Likely<'a> {
+    /// Those of the first `count` rows.
+    pub fn among(sums: &'a [u64], count: usize, sum: u64) -> Self
+        ensures { Seeks sums.now (Some sum) count result }
+    {
+        Likely {
+            sums,
+            sum: Some(sum),
+            left: last_like(sums, count, sum),
+        }
     }
-    before
+
+    /// Those before a row that may have the checksum of that.
+    pub fn before(sums: &'a [u64], row: usize) -> Self
+        ensures { Seeks sums.now result.sum row result × ((set : List ℕ) (rows : List Declaration) → sums.now ≡ row_sums set rows (length sums.now) → IsSum result.sum (row_sum set rows row)) }
+    {
+        let Some(cell) = sums.get(row) else {
+            return Likely {
+                sums,
+                sum: None,
+                left: row,
+            };
+        };
+        let sum = sum_in(*cell);
+        Likely {
+            sums,
+            sum: Some(sum),
+            left: like_before(sums, row, sum),
+        }
+    }
+}
+
+impl<'a> Iterator for Likely<'a> {
+    type Item = usize;
+
+    ghost next_gives = { SeeksOn };
+
+    ghost remaining = { λ s. at_most s.left };
+
+    fn next(&mut self) -> Option<usize> {
+        let row = self.left.checked_sub(1)?;
+        self.left = match self.sum {
+            Some(sum) => like_before(self.sums, row, sum),
+            None => row,
+        };
+        Some(row)
+    }
 }
 
 // Has row `i` another checksum than `sum`? Most rows are told apart so.
 fn sums_apart(sums: &[u64], i: usize, sum: u64) -> bool
     ensures { result ≡ true → Apart sums.now i sum }
 {
-    if sums.len() <= i {
-        return false;
-    }
-    let own = sum_in(sums[i]);
-    if own == sum {
-        return false;
-    }
-    true
+    i < sums.len() && sum_in(sums[i]) != sum
 }
 
-// The first `end` bytes of a name, without a dot and the own name of the row with the code at their end: what is left is to be the
-// full name of what the row stands in.
-fn strip(set: &[u8], rows: &[Declaration], name: &[u8], code: usize, end: usize) -> Rest
-    requires { (0 < code) × (end ≤ length name.now) }
-    ensures { Stripped set.now rows.now name.now code end result }
+// A name without a dot and the own name of row `i` at its end, where it ends so, and the code of what the row stands in: what is
+// left is to be the full name of that.
+fn strip<'a>(
+    set: &[u8],
+    rows: &[Declaration],
+    name: &'a [u8],
+    i: usize,
+) -> Option<(usize, &'a [u8])>
+    ensures { Stripped set.now rows.now name.now i result }
 {
-    let i = code - 1;
     let row = declarations::row_at(rows, i);
-    let up = above(i, row);
     let own = name_of(set, row);
-    let n = own.len();
-    if end <= n {
-        return Rest {
-            good: false,
-            code: up,
-            end,
-        };
-    }
-    let from = end - n;
-    let dot = from - 1;
-    if name[dot] != 46 {
-        return Rest {
-            good: false,
-            code: up,
-            end,
-        };
-    }
-    let good = base::same_bytes(&name[from..end], own);
-    Rest {
-        good,
-        code: up,
-        end: dot,
-    }
+    let front = name.strip_suffix(own)?.strip_suffix(b".")?;
+    Some((above(i, row), front))
 }
 
 // Is this the full name of the row? The answer is right where `sums` has the checksums of the rows and `sum` is that of the name.
@@ -385,31 +372,27 @@ pub fn is_named(
         return false;
     }
     let mut code = row + 1;
-    let mut end = name.len();
-    while code != 0 {
-        let rest = strip(set, rows, name, code, end);
-        if !rest.good {
+    let mut left = name;
+    while let Some(i) = code.checked_sub(1) {
+        let Some((up, front)) = strip(set, rows, left, i) else {
             return false;
-        }
-        code = rest.code;
-        end = rest.end;
+        };
+        code = up;
+        left = front;
     }
-    end == 0
+    left.is_empty()
 }
 
-// Is a row of this kind wanted: any declaration (0), an enum (1), or a message (2)?
-#[tactic(auto, unfolding(crate::specs::LookUp::wanted, base::specs::Choose::choose))]
-fn is_wanted(sort: usize, kind: Kind) -> bool
+// Is a row of this kind looked for?
+#[tactic(auto, unfolding(crate::specs::LookUp::wanted, declarations::specs::Rows::kind_number, base::specs::Choose::choose))]
+fn is_wanted(sort: Sort, kind: Kind) -> bool
     ensures { result ≡ wanted sort (kind_number kind) }
 {
-    let number = kind.number();
-    if sort == 0 {
-        return number != 0;
+    match kind {
+        Kind::Package => false,
+        Kind::Enum => !matches!(sort, Sort::Message),
+        Kind::Message(_) => !matches!(sort, Sort::Enum),
     }
-    if sort == 1 {
-        return number == 1;
-    }
-    number >= 2
 }
 
 fn row_fits(
@@ -418,7 +401,7 @@ fn row_fits(
     sums: &[u64],
     name: &[u8],
     sum: u64,
-    sort: usize,
+    sort: Sort,
     row: usize,
 ) -> bool
     ensures { sums.now ≡ row_sums set.now rows.now (length sums.now) → sum ≡ sum_of name.now → result ≡ fits set.now rows.now name.now sort row }
@@ -426,34 +409,28 @@ fn row_fits(
     if sums_apart(sums, row, sum) {
         return false;
     }
-    if is_wanted(sort, declarations::row_at(rows, row).kind) {
-        return is_named(set, rows, sums, name, sum, row);
-    }
-    false
+    is_wanted(sort, declarations::row_at(rows, row).kind)
+        && is_named(set, rows, sums, name, sum, row)
 }
 
-// The first of so many rows that has this full name and is a declaration (sort 0), an enum (1) or a message (2); the count
-// where there is none. The answer is right where `sums` has the checksums of the rows.
+/// The first of so many rows that has this full name and is a declaration of the sort. The answer is right where `sums` has the
+/// checksums of the rows.
 pub fn find_row(
     set: &[u8],
     rows: &[Declaration],
     count: usize,
     sums: &[u64],
     name: &[u8],
-    sort: usize,
-) -> usize
-    ensures { sums.now ≡ row_sums set.now rows.now (length sums.now) → result ≡ find_row set.now rows.now name.now sort count }
+    sort: Sort,
+) -> Option<usize>
+    ensures { sums.now ≡ row_sums set.now rows.now (length sums.now) → result ≡ found_row set.now rows.now name.now sort count }
 {
     let sum = checksums::checksum(name);
-    let mut first = count;
-    let mut j = last_like(sums, count, sum);
-    while 0 < j {
-        let k = j - 1;
-        let next = like_before(sums, k, sum);
-        if row_fits(set, rows, sums, name, sum, sort, k) {
-            first = k;
+    let mut first = None;
+    for row in Likely::among(sums, count, sum) {
+        if row_fits(set, rows, sums, name, sum, sort, row) {
+            first = Some(row);
         }
-        j = next;
     }
     first
 }
@@ -463,25 +440,13 @@ fn same_name(set: &[u8], rows: &[Declaration], i: usize, j: usize) -> bool
     requires { (i < 65536) × (j < 65536) }
     ensures { result ≡ same (full set.now rows.now (i + 1)) (full set.now rows.now (j + 1)) }
 {
-    let first = i + 1;
-    let second = j + 1;
-    let mut a = enter(set, rows, first);
-    let mut b = enter(set, rows, second);
-    loop {
-        let x = read_back(set, rows, a);
-        let y = read_back(set, rows, b);
-        if !x.found {
-            return !y.found;
-        }
-        if !y.found {
+    let mut second = FromEnd::new(set, rows, j + 1);
+    for byte in FromEnd::new(set, rows, i + 1) {
+        if second.next() != Some(byte) {
             return false;
         }
-        if x.byte != y.byte {
-            return false;
-        }
-        a = x.rest;
-        b = y.rest;
     }
+    second.next().is_none()
 }
 
 // Does the declaration in row `j` have the full name of row `i`?
@@ -500,23 +465,7 @@ fn row_same(set: &[u8], rows: &[Declaration], i: usize, j: usize) -> bool
 fn rows_apart(sums: &[u64], i: usize, j: usize) -> bool
     ensures { result ≡ true → (i < length sums.now) × Apart sums.now j (get_or sums.now i 0 % 4294967296) }
 {
-    if sums.len() <= i {
-        return false;
-    }
-    let sum = sum_in(sums[i]);
-    sums_apart(sums, j, sum)
-}
-
-// The last row before row `j` that may have the full name of row `i`, counted from 1; 0 where none has.
-fn same_before(sums: &[u64], i: usize, j: usize) -> usize
-    ensures upper_bound { result ≤ j }
-    ensures by_index { (set : List ℕ) (rows : List Declaration) → sums.now ≡ row_sums set rows (length sums.now) → Others set rows (row_sum set rows i) result j }
-{
-    if sums.len() <= i {
-        return j;
-    }
-    let sum = sum_in(sums[i]);
-    like_before(sums, j, sum)
+    i < sums.len() && sums_apart(sums, j, sum_in(sums[i]))
 }
 
 // Is the full name of the row declared in a row before it? The answer is right where `sums` has the checksums of the rows.
@@ -526,16 +475,10 @@ pub fn declared_before(set: &[u8], rows: &[Declaration], sums: &[u64], row: usiz
     if 65535 < row {
         return false;
     }
-    let mut j = same_before(sums, row, row);
-    while 0 < j {
-        let k = j - 1;
-        let next = same_before(sums, row, k);
-        if !rows_apart(sums, row, k) {
-            if row_same(set, rows, row, k) {
-                return true;
-            }
+    for other in Likely::before(sums, row) {
+        if !rows_apart(sums, row, other) && row_same(set, rows, row, other) {
+            return true;
         }
-        j = next;
     }
     false
 }

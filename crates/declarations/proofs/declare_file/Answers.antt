@@ -4,11 +4,11 @@ use native.Mathlib.Omega.{arith}
 use mathlib.Core.Path.{sym, ◌∙◌}
 use Rattle.declarations.proofs.declare_file.Goals as goal
 
-pub returns-then-not-package : goal.returns-then-not-package
-returns-then-not-package c = no_package _ _ _ _ _ _ c.file_view.ensures c.if-not-package.true _ _ c.declare_members.ensures
+pub returns-in_default : goal.returns-in_default
+returns-in_default c = no_package _ _ _ _ _ _ c.last_string.ensures c.in_default.is _ _ c.declare_members.ensures
 
 pub returns-then-not-has_room : goal.returns-then-not-has_room
-returns-then-not-has_room c = package_full _ _ _ _ _ _ c.file_view.ensures c.if-not-package.false _ c.has_room.ensures c.if-not-has_room.true c.requires
+returns-then-not-has_room c = package_full _ _ _ _ _ _ c.last_string.ensures _ c.in-Some.is _ c.has_room.ensures c.if-not-has_room.true c.requires
 
 pub offset_bounds-rows-count : goal.offset_bounds-rows-count
 offset_bounds-rows-count c = omega (arith, room_is _ _ (sym c.has_room.ensures ∙ c.if-not-has_room.false))
@@ -20,4 +20,4 @@ pub overflow_add-own : goal.overflow_add-own
 overflow_add-own c = omega (arith, room_is _ _ (sym c.has_room.ensures ∙ c.if-not-has_room.false))
 
 pub returns : goal.returns
-returns c = package_put _ _ _ _ _ _ c.file_view.ensures c.if-not-package.false _ c.has_room.ensures c.if-not-has_room.false _ _ c.declare_members-2.ensures
+returns c = package_put _ _ _ _ _ _ c.last_string.ensures _ c.in-Some.is _ c.has_room.ensures c.if-not-has_room.false _ c.saturating_sub.ensures _ _ c.declare_members-2.ensures

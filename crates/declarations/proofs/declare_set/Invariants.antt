@@ -1,6 +1,5 @@
 use lib.ListN.{length}
 use Rattle.std.specs.Iterator.Adapters.{enumerate_source, enumerate_count}
-use Prim.Native.Nat.{◌+◌, ◌≤◌}
 use Rattle.declarations.specs.Rows.{declared}
 use Rattle.declarations.proofs.FileLaws.{Going}
 use Rattle.declarations.proofs.declare_set.Given as goal

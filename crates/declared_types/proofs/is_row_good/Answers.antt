@@ -1,4 +1,3 @@
-use mathlib.Core.Path.{refl}
 use Rattle.declared_types.proofs.FieldLaws.{good_package, good_before, good_enum, good_message}
 use Rattle.declared_types.proofs.is_row_good.Goals as goal
 

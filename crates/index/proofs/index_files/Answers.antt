@@ -3,7 +3,7 @@ use Rattle.wire.specs.Message.{record_seen, fields_in}
 use Rattle.index.proofs.RoomLaws.{field_bytes}
 use Rattle.index.proofs.SeenLaws.{files_of}
 use Rattle.index.proofs.FileLaws.{going_start, going_large, going_end, going_skip, file_fits, going_file}
-use Rattle.index.proofs.index_files.Goals.{in_default-via-in-Err-1, in_default-via-in-Ok+else-record-eq1}
+use Rattle.index.proofs.index_files.Goals.{in_default-via-in-Err-1, in_default-via-in-Ok+else-record-eq-SET_FILE}
 use Rattle.index.proofs.index_files.Goals as goal
 
 pub returns-then-set-gt32768 : goal.returns-then-set-gt32768
@@ -18,7 +18,7 @@ index_in-next-requires-clause-room c =
 
 pub loop-record-preserved-in-loop-record : goal.loop-record-preserved-in-loop-record
 loop-record-preserved-in-loop-record c =
-    going_file _ _ _ _ _ _ _ _ _ (record_seen c.in-Ok.record) (search rules) c.loop-record.invariant c.if-record-eq1.true _ c.value_bytes-bytes.ensures
+    going_file _ _ _ _ _ _ _ _ _ (record_seen c.in-Ok.record) (search rules) c.loop-record.invariant c.if-record-eq-SET_FILE.true _ c.value_bytes-bytes.ensures
     _ _ c.index_in-next.ensures.0 c.index_in-next.ensures.1
 
 pub loop-record-preserved : goal.loop-record-preserved
@@ -26,7 +26,7 @@ unfolding fields_in field_bytes files_of
 loop-record-preserved c =
     elim c.in_default.branch [
       | in_default-via-in-Err-1 w ↦ search rules
-      | in_default-via-in-Ok+else-record-eq1 w ↦ going_skip _ _ _ _ _ _ _ _ _ (record_seen w.in-Ok.record) (search rules) c.loop-record.invariant w.if-record-eq1.false
+      | in_default-via-in-Ok+else-record-eq-SET_FILE w ↦ going_skip _ _ _ _ _ _ _ _ _ (record_seen w.in-Ok.record) (search rules) c.loop-record.invariant w.if-record-eq-SET_FILE.false
     ]
 
 pub returns : goal.returns

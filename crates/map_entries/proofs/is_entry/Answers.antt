@@ -1,4 +1,6 @@
+use mathlib.Core.Path.{ap, ◌∙◌}
 use native.Mathlib.Omega.{arith}
+use Rattle.descriptor.specs.Descriptor.{MessageHeader}
 use Rattle.declarations.specs.Rows.{kind_number}
 use Rattle.map_entries.proofs.EntryRowLaws.{entry_none, entry_is}
 use Rattle.map_entries.proofs.UseLaws.{no_message_kind}
@@ -9,4 +11,6 @@ returns-in-Package c = entry_none _ _ _ _ c.row_at-row.ensures (no_message_kind 
 
 pub returns-in-Message : goal.returns-in-Message
 unfolding kind_number
-returns-in-Message c = entry_is _ _ _ _ c.row_at-row.ensures (rw c.in-Message.is (omega arith)) _ c.message_view.ensures
+returns-in-Message c =
+    ap (λ (m : MessageHeader). m.map_entry) c.header.view_is
+    ∙ entry_is _ _ _ _ c.row_at-row.ensures (rw c.in-Message.is (omega arith)) _ c.part_of.ensures _ c.new-header.ensures

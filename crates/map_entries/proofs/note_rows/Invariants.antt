@@ -1,8 +1,6 @@
-use Rattle.map_entries.proofs.PassLaws.{Noted}
+use Rattle.map_entries.specs.Numbers.{number_of, numbers}
+use Rattle.map_entries.proofs.PassLaws.{Noting}
 use Rattle.map_entries.proofs.note_rows.Given as goal
 
-abbrev pub invariant-loop-j : goal.invariant-loop-j
-invariant-loop-j l = Noted l.set l.rows l.name l.v l.count l.initial.who l.who l.j
-
-abbrev pub decreases-loop-j : goal.decreases-loop-j
-decreases-loop-j l = l.j
+abbrev pub invariant-loop-row : goal.invariant-loop-row
+invariant-loop-row l = Noting l.set l.rows l.name (number_of l.said) l.count (numbers l.initial.who) l.sums l.sum (numbers l.who) l.row-iterator

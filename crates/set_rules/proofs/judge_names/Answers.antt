@@ -1,5 +1,5 @@
-use mathlib.Core.List.{List}
-use Prim.Native.Nat.{ℕ}
+use Rattle.map_entries.specs.declared.Namers.{Namers}
+use Rattle.map_entries.specs.declared.Namers.TheVariants.{Nobody}
 use lib.ListN.{length-replicate}
 use native.Mathlib.Omega.{arith}
 use Rattle.declarations.specs.Rows.{no_row}
@@ -8,7 +8,7 @@ use Rattle.set_rules.proofs.RowCounts.{room_within, room_short}
 use Rattle.set_rules.proofs.judge_names.Goals as goal
 
 pub returns-then-set-le-SHORT : goal.returns-then-set-le-SHORT
-returns-then-set-le-SHORT c = λ _. c.judge_within.ensures (room_short _ _ _ c.if-set-le-SHORT.true (rw (length-replicate {A = Row} 151 no_row) (omega arith)) (rw (length-replicate {A = ℕ} 151 0) (omega arith)))
+returns-then-set-le-SHORT c = λ _. c.judge_within.ensures (room_short _ _ _ c.if-set-le-SHORT.true (rw (length-replicate {A = Row} 151 no_row) (omega arith)) (rw (length-replicate {A = Namers} 151 Nobody) (omega arith)))
 
 pub returns : goal.returns
-returns c = λ passed. c.judge_within-2.ensures (room_within _ _ _ passed (rw (length-replicate {A = Row} 545 no_row) (omega arith)) (rw (length-replicate {A = ℕ} 545 0) (omega arith)))
+returns c = λ passed. c.judge_within-2.ensures (room_within _ _ _ passed (rw (length-replicate {A = Row} 545 no_row) (omega arith)) (rw (length-replicate {A = Namers} 545 Nobody) (omega arith)))

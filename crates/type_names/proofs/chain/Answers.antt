@@ -8,12 +8,6 @@ loop-k-init c = linking_none _ _
 pub link-requires : goal.link-requires
 link-requires c = let w = chained_within _ _ c.chained-n.ensures in (c.loop-k-test.true, w.1, omega (arith, w.0, c.loop-k.invariant.size))
 
-pub overflow_add-k : goal.overflow_add-k
-overflow_add-k c = omega (arith, c.loop-k-test.true, (chained_within _ _ c.chained-n.ensures).1)
-
-pub loop-k-smaller : goal.loop-k-smaller
-loop-k-smaller c = omega (arith, c.loop-k-test.true)
-
 pub loop-k-preserved : goal.loop-k-preserved
 loop-k-preserved c = linking_more _ _ _ _ _ c.loop-k.invariant c.loop-k-test.true c.link.ensures
 

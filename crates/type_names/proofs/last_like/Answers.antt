@@ -1,5 +1,5 @@
-use native.Mathlib.Omega.{arith}
 use Rattle.type_names.proofs.ChainLaws.{chained_within}
+use native.Mathlib.Omega.{arith}
 use Rattle.type_names.proofs.RowSumLaws.{others_last}
 use Rattle.type_names.proofs.last_like.Goals as goal
 
@@ -12,5 +12,5 @@ offset_bounds-sums-b c = omega (arith, c.bucket-b.ensures.upper_bound, (chained_
 pub bounds-sums-b : goal.bounds-sums-b
 bounds-sums-b c = omega (arith, c.bucket-b.ensures.upper_bound, (chained_within _ _ c.chained-n.ensures).0)
 
-pub returns : goal.returns
-returns c = record { upper_bound = c.if-count-last.false; by_index = λ set t are. others_last set t _ are _ _ _ _ _ c.chained-n.ensures c.bucket-b.ensures.value c.bucket-b.ensures.upper_bound c.last_in-last.ensures.value c.if-count-n.false }
+pub returns-else-count-last-clause-by_index : goal.returns-else-count-last-clause-by_index
+returns-else-count-last-clause-by_index c = λ set t are. others_last set t _ are _ _ _ _ _ c.chained-n.ensures c.bucket-b.ensures.value c.bucket-b.ensures.upper_bound c.last_in-last.ensures.value c.if-count-n.false

@@ -17,5 +17,5 @@ bucket-own-requires c = let w = chained_within _ _ c.chained-n.ensures in (omega
 pub bucket-b-requires : goal.bucket-b-requires
 bucket-b-requires c = let w = chained_within _ _ c.chained-n.ensures in (omega (arith, c.if-n-k.false), w.1)
 
-pub returns : goal.returns
-returns c = record { upper_bound = c.if-k-before.false; by_index = λ set t are. others_before set t _ are _ _ _ _ _ _ c.chained-n.ensures c.if-n-k.false (c.bucket-own.ensures.value ∙ ap (λ (v : ℕ). v % c.chained-n.result) c.sum_in.ensures.value) c.bucket-b.ensures.value c.if-own-b.false c.before_in-before.ensures.value }
+pub returns-else-k-before-clause-by_index : goal.returns-else-k-before-clause-by_index
+returns-else-k-before-clause-by_index c = λ set t are. others_before set t _ are _ _ _ _ _ _ c.chained-n.ensures c.if-n-k.false (c.bucket-own.ensures.value ∙ ap (λ (v : ℕ). v % c.chained-n.result) c.sum_in.ensures.value) c.bucket-b.ensures.value c.if-own-b.false c.before_in-before.ensures.value

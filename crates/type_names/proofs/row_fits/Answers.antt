@@ -1,8 +1,8 @@
-use Rattle.type_names.proofs.RowSumLaws.{name_apart}
-use Rattle.type_names.proofs.FindLaws.{fits_named, fits_not, fits_none}
-use mathlib.Core.Path.{ap}
+use mathlib.Core.Path.{ap, ◌∙◌}
 use Rattle.declarations.specs.Rows.{kind_number}
 use Rattle.declarations.specs.declared.Declaration.{Declaration as Row}
+use Rattle.type_names.proofs.RowSumLaws.{name_apart}
+use Rattle.type_names.proofs.FindLaws.{fits_named, fits_not, fits_none}
 use Rattle.type_names.proofs.row_fits.Goals as goal
 
 pub returns-then-sums_apart : goal.returns-then-sums_apart
@@ -11,5 +11,5 @@ returns-then-sums_apart c = λ are is. fits_none _ _ _ _ _ (name_apart _ _ _ are
 pub returns-then-is_wanted : goal.returns-then-is_wanted
 returns-then-is_wanted c = λ are is. fits_named _ _ _ _ _ _ _ _ (ap (λ (r : Row). kind_number r.kind) c.row_at.ensures) c.is_wanted.ensures c.if-is_wanted.true (c.is_named.ensures are is)
 
-pub returns : goal.returns
-returns c = λ _ _. fits_not _ _ _ _ _ _ _ (ap (λ (r : Row). kind_number r.kind) c.row_at.ensures) c.is_wanted.ensures c.if-is_wanted.false
+pub returns-else-is_wanted : goal.returns-else-is_wanted
+returns-else-is_wanted c = λ _ _. c.if-is_wanted.false ∙ fits_not _ _ _ _ _ _ _ (ap (λ (r : Row). kind_number r.kind) c.row_at.ensures) c.is_wanted.ensures c.if-is_wanted.false

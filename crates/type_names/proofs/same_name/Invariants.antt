@@ -1,10 +1,7 @@
-use Rattle.type_names.proofs.BeforeLaws.{Going}
-use Rattle.type_names.specs.Cursors.{spelled}
-use lib.ListN.{length}
+use Rattle.std.proofs.Common.{◌≡◌, ◌+◌}
+use Rattle.base.specs.Bytes.{same}
+use Rattle.declarations.specs.Listed.{full}
 use Rattle.type_names.proofs.same_name.Given as goal
 
-abbrev pub invariant-loop-x : goal.invariant-loop-x
-invariant-loop-x l = Going l.set l.rows l.first l.second l.a l.b
-
-abbrev pub decreases-loop-x : goal.decreases-loop-x
-decreases-loop-x l = length (spelled l.set l.rows l.a)
+abbrev pub invariant-loop-byte : goal.invariant-loop-byte
+invariant-loop-byte l = same l.byte-iterator l.second ≡ same (full l.set l.rows (l.i + 1)) (full l.set l.rows (l.j + 1))

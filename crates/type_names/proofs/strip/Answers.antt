@@ -1,14 +1,21 @@
-use Rattle.type_names.proofs.NamedLaws.{row_own}
-use Rattle.type_names.proofs.StripLaws.{stripped_short, stripped_dotless, stripped_by}
-use mathlib.Core.Path.{refl}
-use native.Mathlib.Omega.{arith}
+use Rattle.std.specs.Prelude.{None, Some}
+use Rattle.std.proofs.lemmas.Bool.Decides.{Decides-eqb}
+use Rattle.std.proofs.lemmas.Slice.Eq.{strip_suffix_is}
+use Rattle.type_names.proofs.FrontLaws.{other_own, no_dot, stripped}
 use Rattle.type_names.proofs.strip.Goals as goal
 
-pub returns-then-end-n : goal.returns-then-end-n
-returns-then-end-n c = stripped_short _ _ _ _ _ _ _ (row_own _ _ _ (λ e. omega (arith, c.requires.0)) _ c.row_at-row.ensures _ c.above-up.ensures _ c.name_of-own.ensures) c.requires.1 c.if-end-n.true
+pub returns-in_err-strip_suffix : goal.returns-in_err-strip_suffix
+returns-in_err-strip_suffix c =
+    rw c.from_residual.ensures
+    (other_own _ _ _ _ _ c.row_at-row.ensures _ c.name_of-own.ensures (strip_suffix_is Decides-eqb _ _ None c.in_err-strip_suffix.ensures.cases))
 
-pub returns-then-name-dot-ne46 : goal.returns-then-name-dot-ne46
-returns-then-name-dot-ne46 c = stripped_dotless _ _ _ _ _ _ _ (row_own _ _ _ (λ e. omega (arith, c.requires.0)) _ c.row_at-row.ensures _ c.above-up.ensures _ c.name_of-own.ensures) c.requires.1 c.if-end-n.false _ _ refl refl c.if-name-dot-ne46.true
+pub returns-in_err-front : goal.returns-in_err-front
+returns-in_err-front c =
+    rw c.from_residual-in_err-front.ensures
+    (no_dot _ _ _ _ _ c.row_at-row.ensures _ c.name_of-own.ensures _ (strip_suffix_is Decides-eqb _ _ (Some c.in_ok-strip_suffix.field-0) c.in_ok-strip_suffix.ensures.cases)
+    (strip_suffix_is Decides-eqb _ _ None c.in_err-front.ensures.cases))
 
 pub returns : goal.returns
-returns c = stripped_by _ _ _ _ _ _ _ (row_own _ _ _ (λ e. omega (arith, c.requires.0)) _ c.row_at-row.ensures _ c.above-up.ensures _ c.name_of-own.ensures) c.requires.1 c.if-end-n.false _ _ refl refl c.if-name-dot-ne46.false _ c.same_bytes-good.ensures
+returns c =
+    stripped _ _ _ _ _ c.row_at-row.ensures _ c.name_of-own.ensures _ (strip_suffix_is Decides-eqb _ _ (Some c.in_ok-strip_suffix.field-0) c.in_ok-strip_suffix.ensures.cases) _ c.above.ensures _
+    (strip_suffix_is Decides-eqb _ _ (Some c.in_ok-front.front) c.in_ok-front.ensures.cases)

@@ -1,11 +1,6 @@
-use Prim.Native.Nat.{◌-◌}
-use lib.ListN.{length}
 use Rattle.message_graph.specs.Tab.{Filled}
 use Rattle.type_names.specs.LookUp.{row_sum}
 use Rattle.type_names.proofs.sum_rows.Given as goal
 
 abbrev pub invariant-loop-i : goal.invariant-loop-i
 invariant-loop-i l = Filled (row_sum l.set l.rows) l.initial.sums l.sums l.i
-
-abbrev pub decreases-loop-i : goal.decreases-loop-i
-decreases-loop-i l = length l.initial.sums - l.i

@@ -1,0 +1,42 @@
+-- Parts of a set, and the bytes of a record. Assumes nothing.
+use mathlib.Core.Path.{◌≡◌, refl, sym, ap, ◌∙◌}
+use mathlib.Core.Bool.{true, false}
+use mathlib.Core.List.{List, [], ◌∷◌}
+use Prim.Native.Nat.{ℕ, zero, suc, ◌+◌, ◌-◌, ◌≤◌}
+use native.Mathlib.Nat.{le_refl, min-le_left}
+use native.Mathlib.Omega.{arith}
+use lib.ListN.{length, take, drop, length-take}
+use lib.Seq.{drop-drop, take-take, take-nil, take_all}
+use lib.Dec.{eqb}
+use borrow.Author.Tests.{eqb-true}
+use Rattle.base.specs.Choose.{choose, choose_case}
+use Rattle.wire.specs.Records.{part}
+use Rattle.wire.specs.Encoding.{Value}
+use Rattle.wire.specs.Contents.{payload_of, value_of}
+use Rattle.wire.specs.declared.Record.{Record}
+use Rattle.descriptor.specs.Decode.{bytes_in}
+
+-- a part of a part
+pub drop_take : (x m : ℕ) (l : List ℕ) → drop x (take m l) ≡ take (m - x) (drop x l)
+drop_take zero m l = ap (λ (k : ℕ). take k l) (let e : m ≡ m - 0 = omega arith in e)
+drop_take (suc x) zero l = sym (ap (λ (k : ℕ). take k (drop (suc x) l)) (let e : 0 - suc x ≡ 0 = omega arith in e))
+drop_take (suc x) (suc m) [] = sym (take-nil (suc m - suc x))
+drop_take (suc x) (suc m) (a ∷ l) = drop_take x m l ∙ ap (λ (k : ℕ). take k (drop x l)) (let e : m - x ≡ suc m - suc x = omega arith in e)
+
+pub part_part : (s : List ℕ) (a m x k : ℕ) → x + k ≤ length (part s a m) → part (part s a m) x k ≡ part s (a + x) k
+part_part s a m x k h =
+    let l : length (part s a m) ≤ m = rw (length-take m (drop a s)) (min-le_left m (length (drop a s))) in
+    ap (take k) (drop_take x m (drop a s)) ∙ take-take k (m - x) (drop x (drop a s)) (omega arith) ∙ ap (take k) (drop-drop x a s)
+
+pub whole_part : (s : List ℕ) → part s 0 (length s - 0) ≡ s
+whole_part s = let e : length s - 0 ≡ length s = omega arith in ap (λ (n : ℕ). take n s) e ∙ take_all (length s) s (le_refl _)
+
+-- a record of another wire type has no bytes
+pub bytes_of : (s : List ℕ) (f : Record) → choose (eqb f.wiretype 2) (payload_of s f) [] ≡ bytes_in (value_of s f)
+unfolding value_of choose
+bytes_of s f =
+    choose_case (λ (x : List ℕ). x ≡ bytes_in (value_of s f)) (eqb f.wiretype 2)
+    (λ e. rw (eqb-true f.wiretype 2 e))
+    (λ e. choose_case (λ (v : Value). [] ≡ bytes_in v) (eqb f.wiretype 0) (λ _. refl)
+    (λ _. choose_case (λ (v : Value). [] ≡ bytes_in v) (eqb f.wiretype 1) (λ _. refl)
+    (λ _. choose_case (λ (v : Value). [] ≡ bytes_in v) (eqb f.wiretype 2) (λ q. absurd (let z : true ≡ false = sym q ∙ e in let w : ◌≡◌ {A = ℕ} 0 1 = cc in omega arith)) (λ _. refl))))
