@@ -3,6 +3,7 @@
 
 use options::Options;
 use std::marker::Model;
+use text_tables::{FieldRow, MessageRow};
 
 /// What the text of each declaration is written from. A clause sees it as a record of lists.
 #[derive(Drop)]
@@ -11,10 +12,10 @@ pub struct Context<'a> {
     pub options: Options<'a>,
     /// The bytes of the set.
     pub set: &'a [u8],
-    /// What is known of each of its messages, in declaration order: a table of `text_tables`.
-    pub messages: &'a [u16],
-    /// The same of each of its fields.
-    pub fields: &'a [u16],
+    /// Its messages, in declaration order.
+    pub messages: &'a [MessageRow],
+    /// Its fields, in declaration order.
+    pub fields: &'a [FieldRow],
 }
 
 impl<'a> Model for Context<'a> {

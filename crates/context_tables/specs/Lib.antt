@@ -1,2 +1,2 @@
-pub mod Cells
+pub mod Rows
 pub mod Sources

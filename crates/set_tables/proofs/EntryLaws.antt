@@ -16,7 +16,7 @@ use Rattle.index.proofs.SetLaws.{rows_of_length}
 use Rattle.message_graph.specs.Limit.{messages}
 use Rattle.message_graph.specs.Tab.{tab}
 use Rattle.message_graph.proofs.Visits.{off}
-use Rattle.context_tables.specs.Cells.{entry_at}
+use Rattle.context_tables.specs.Rows.{entry_at}
 use Rattle.table_laws.specs.EntryPlaces.{no_bytes}
 use Rattle.set_tables.specs.Filled.{no_rows, message_places, message_count, no_flags, EntriesBelow, entries_by}
 use Rattle.set_tables.proofs.FillLaws.{front_length}

@@ -2,7 +2,7 @@
 use mathlib.Core.Path.{◌≡◌, refl, sym, ap, ◌∙◌}
 use mathlib.Core.Bool.{Bool, false}
 use mathlib.Core.List.{List, ◌++◌}
-use Prim.Native.Nat.{ℕ, ◌*◌, ◌-◌, ◌≤◌, ◌<◌, min}
+use Prim.Native.Nat.{ℕ, ◌-◌, ◌≤◌, ◌<◌, min}
 use native.Mathlib.Nat.{sub-zero}
 use native.Mathlib.Omega.{arith}
 use lib.Dec.{ltb}
@@ -10,8 +10,11 @@ use lib.ListN.{length, take, drop, replicate, length-replicate}
 use lib.Seq.{length-take-le}
 use Rattle.base.specs.Choose.{choose_case, then_lt, else_lt}
 use Rattle.writer.specs.Wrote.{Wrote}
-use Rattle.options.specs.Settings.{settings, first_of_kind}
-use Rattle.options.specs.declared.Found.{Found}
+use Rattle.std.specs.List.{list_any}
+use Rattle.options.specs.Settings.{Setting}
+use Rattle.options.specs.Rows.{is_of}
+use Rattle.text_tables.specs.declared.MessageRow.{MessageRow}
+use Rattle.text_tables.specs.declared.FieldRow.{FieldRow}
 use Rattle.index.specs.Tree.{file_forests, IndexedFiles, fill, Holds, all_members}
 use Rattle.index.specs.declared.Row.{Row}
 use Rattle.message_graph.specs.declared.Field.{Field}
@@ -23,9 +26,9 @@ use Rattle.declarations.specs.declared.Count.{Count}
 use Rattle.declarations.specs.declared.Declaration.{Declaration}
 use Rattle.boxed_settings.specs.Flags.{set_flags}
 use Rattle.targets.specs.Targets.{field_in}
-use Rattle.context_tables.specs.Cells.{message_table, field_table}
+use Rattle.context_tables.specs.Rows.{message_table, field_table}
 use Rattle.limits.specs.Short.{short}
-use Rattle.set_tables.specs.Filled.{most_fields, declaration_rows, blank_rows, zeros, no_rows, message_places, message_count, field_places, field_count, target_by, field_by, field_of, setting_bytes, columns_at, Ready, settings_to, entries_by, columned, message_numbers, field_numbers_in}
+use Rattle.set_tables.specs.Filled.{most_fields, declaration_rows, blank_rows, zeros, no_rows, message_places, message_count, field_places, field_count, target_by, field_by, field_of, setting_bytes, columns_at, Ready, settings_to, entries_by, columned, message_rows, field_rows_in}
 use Rattle.set_tables.proofs.ZeroLaws.{unset_bytes}
 
 -- a part from the start on
@@ -63,10 +66,10 @@ module _ (set : List ℕ) where
   unfolding zeros
   fresh_bytes most is = rw is
 
-  pub fresh_fields : (o : List ℕ) (cells : ℕ) → declaration_rows set ≡ cells → (settings : List ℕ) → settings ≡ setting_bytes set o → (places : List Row) (size : ℕ) (r : List Field)
-      → r ≡ tab size (field_by set places (blank_rows cells) settings) → r ≡ tab size (field_of set o places)
+  pub fresh_fields : (rs : List Setting) (most : ℕ) → declaration_rows set ≡ most → (settings : List ℕ) → settings ≡ setting_bytes set rs → (places : List Row) (size : ℕ) (r : List Field)
+      → r ≡ tab size (field_by set places (blank_rows most) settings) → r ≡ tab size (field_of set rs places)
   unfolding zeros
-  fresh_fields o cells is settings put places size r filled = rw (is, ← put) filled
+  fresh_fields rs most is settings put places size r filled = rw (is, ← put) filled
 
   pub arrays_ready : (rows : List Row) (count : ℕ) → rows ≡ message_places set → count ≡ message_count set → (most : ℕ) → most_fields set ≡ most
       → Ready set rows count (no_rows most) (replicate most no_field) (replicate most false)
@@ -80,12 +83,12 @@ module _ (set : List ℕ) where
 
 -- ---- the boxed settings, and the types
 
-pub settings_put : (set o bytes : List ℕ) (end : ℕ) (old : List ℕ) → old ≡ zeros (most_fields set) → Wrote old 0 (set_flags (settings o) set) bytes end → bytes ≡ setting_bytes set o
+pub settings_put : (set : List ℕ) (rs : List Setting) (bytes : List ℕ) (end : ℕ) (old : List ℕ) → old ≡ zeros (most_fields set) → Wrote old 0 (set_flags rs set) bytes end → bytes ≡ setting_bytes set rs
 unfolding setting_bytes
-settings_put set o bytes end old is wrote = wrote.text ∙ rw is
+settings_put set rs bytes end old is wrote = wrote.text ∙ rw is
 
-pub settings_unset : (set o old : List ℕ) → old ≡ zeros (most_fields set) → (f : Found) → f ≡ first_of_kind 4 0 (settings o) → f.found ≡ false → old ≡ setting_bytes set o
-settings_unset set o old is f found unset = is ∙ unset_bytes set o (rw found at unset)
+pub settings_unset : (set : List ℕ) (rs : List Setting) (old : List ℕ) → old ≡ zeros (most_fields set) → (found : Bool) → found ≡ list_any (is_of 4) rs → found ≡ false → old ≡ setting_bytes set rs
+settings_unset set rs old is found found_is unset = is ∙ unset_bytes set rs (sym found_is ∙ unset)
 
 pub fields_declared : (set : List ℕ) (places : List Row) (old t : List Declaration) (settings : List ℕ) (c : Count) (size : ℕ) → Became (declared set old) t c
     → (r : List Field) → r ≡ tab size (field_in set places t c.rows settings) → r ≡ tab size (field_by set places old settings)
@@ -97,20 +100,20 @@ pub parts_long : (n k m : ℕ) (fields : List Field) (boxed : List Bool) → k �
     → length (take (k - 0) (drop 0 boxed)) ≡ length (take (k - 0) (drop 0 fields))
 parts_long n k m fields boxed k_is whole long = front_length k boxed (omega arith) ∙ sym (front_length k fields (omega arith))
 
-module _ (set o : List ℕ) (rows places : List Row) (k : ℕ) (fields : List Field) (fields_are : fields ≡ tab k (field_of set o places)) where
+module _ (set : List ℕ) (rs : List Setting) (rows places : List Row) (k : ℕ) (fields : List Field) (fields_are : fields ≡ tab k (field_of set rs places)) where
   columns_are : fields_of fields ≡ columns_at k set places
   unfolding columns_at fields_of target_by
   columns_are = rw (fields_are, map_tab, map_tab, map_tab, map_tab)
 
-  flags_are : settings_of fields ≡ settings_to k set o
+  flags_are : settings_of fields ≡ settings_to k set rs
   unfolding settings_to
   flags_are = rw (fields_are, map_tab)
 
-  pub messages_filled : (n size : ℕ) (r : List ℕ) → r ≡ message_table size rows places n (fields_of fields) (settings_of fields) → r ≡ message_table size rows places n (columns_at k set places) (settings_to k set o)
+  pub messages_filled : (n size : ℕ) (r : List MessageRow) → r ≡ message_table size rows places n (fields_of fields) (settings_of fields) → r ≡ message_table size rows places n (columns_at k set places) (settings_to k set rs)
   messages_filled n size r is = is ∙ rw (columns_are, flags_are)
 
-  pub fields_filled : (entries : List Bool) → entries ≡ entries_by set rows → (size m : ℕ) → m ≡ k → (r : List ℕ)
-      → r ≡ field_table size m set rows places (fields_of fields) (settings_of fields) entries → r ≡ field_table size k set rows places (columns_at k set places) (settings_to k set o) (entries_by set rows)
+  pub fields_filled : (entries : List Bool) → entries ≡ entries_by set rows → (size m : ℕ) → m ≡ k → (r : List FieldRow)
+      → r ≡ field_table size m set rows places (fields_of fields) (settings_of fields) entries → r ≡ field_table size k set rows places (columns_at k set places) (settings_to k set rs) (entries_by set rows)
   fields_filled entries entries_are size m boxes r is = is ∙ rw (boxes, columns_are, flags_are, entries_are)
 
 -- ---- both tables
@@ -125,7 +128,7 @@ module _ (set : List ℕ) (rows : List Row) (count : ℕ) (rows_are : IndexedFil
   unfolding message_count
   count_is = rows_are.counted
 
-module _ (set o : List ℕ) (rows places : List Row) (count n : ℕ) (old : List Row) (fields : List Field) (boxed : List Bool) (ready : Ready set rows count old fields boxed)
+module _ (set : List ℕ) (rs : List Setting) (rows places : List Row) (count n : ℕ) (old : List Row) (fields : List Field) (boxed : List Bool) (ready : Ready set rows count old fields boxed)
     (places_hold : Holds (all_members set 2 rows count 0) old 0 places n) where
   members_as : all_members set 2 rows count 0 ≡ all_members set 2 (message_places set) (message_count set) 0
   members_as = ap (λ (l : List Row). all_members set 2 l count 0) ready.placed ∙ ap (λ (x : ℕ). all_members set 2 (message_places set) x 0) ready.counted
@@ -145,22 +148,22 @@ module _ (set o : List ℕ) (rows places : List Row) (count n : ℕ) (old : List
     longest_as : longest ≡ columned set
     longest_as = front_length k fields (omega arith) ∙ k_is ∙ ap (min n) ready.sized ∙ ap (λ (x : ℕ). min x (most_fields set)) n_as
 
-    pub message_numbers_are : (size : ℕ) (r : List ℕ) → r ≡ message_table size rows places n (columns_at longest set places) (settings_to longest set o) → r ≡ message_numbers size set o
-    unfolding message_numbers
-    message_numbers_are size r is = is ∙ rw (longest_as, ready.placed, places_as, n_as)
+    pub message_rows_are : (size : ℕ) (r : List MessageRow) → r ≡ message_table size rows places n (columns_at longest set places) (settings_to longest set rs) → r ≡ message_rows size set rs
+    unfolding message_rows
+    message_rows_are size r is = is ∙ rw (longest_as, ready.placed, places_as, n_as)
 
     -- the rows in front, and what the table held behind them
-    module _ (t : List ℕ) (cells used : ℕ) (cells_are : cells ≡ k * 8) (used_is : used ≡ min cells (length t)) where
-      used_as : used ≡ min (columned set * 8) (length t)
-      used_as = used_is ∙ rw (cells_are, k_is, ready.sized, n_as)
+    module _ (t : List FieldRow) (used : ℕ) (used_is : used ≡ min k (length t)) where
+      used_as : used ≡ min (columned set) (length t)
+      used_as = used_is ∙ rw (k_is, ready.sized, n_as)
 
-      front_as : length (take (used - 0) (drop 0 t)) ≡ min (columned set * 8) (length t)
+      front_as : length (take (used - 0) (drop 0 t)) ≡ min (columned set) (length t)
       front_as = front_length used t (omega arith) ∙ used_as
 
-      behind_as : drop (used - 0) t ≡ drop (min (columned set * 8) (length t)) t
+      behind_as : drop (used - 0) t ≡ drop (min (columned set) (length t)) t
       behind_as = rw sub-zero (ap (λ (x : ℕ). drop x t) used_as)
 
-      pub field_numbers_are : (r : List ℕ) → r ≡ field_table (length (take (used - 0) (drop 0 t))) longest set rows places (columns_at longest set places) (settings_to longest set o) (entries_by set rows)
-          → r ++ drop (used - 0) t ≡ field_numbers_in t set o
-      unfolding field_numbers_in
-      field_numbers_are r is = rw (is, behind_as, front_as, longest_as, ready.placed, places_as)
+      pub field_rows_are : (r : List FieldRow) → r ≡ field_table (length (take (used - 0) (drop 0 t))) longest set rows places (columns_at longest set places) (settings_to longest set rs) (entries_by set rows)
+          → r ++ drop (used - 0) t ≡ field_rows_in t set rs
+      unfolding field_rows_in
+      field_rows_are r is = rw (is, behind_as, front_as, longest_as, ready.placed, places_as)

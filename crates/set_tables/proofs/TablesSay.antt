@@ -1,12 +1,12 @@
 -- The two tables of a set within the limits, without refusals 6 and 7, say what the definitions by full names say. Assumes nothing.
-use Rattle.std.specs.Prelude.{Ok}
+use Rattle.std.specs.Prelude.{None, Ok}
 use mathlib.Core.Path.{◌≡◌, refl, sym, ap, ◌∙◌, subst}
 use mathlib.Core.Bool.{true, false, ◌||◌}
 use mathlib.Core.List.{List, [], ◌++◌}
-use Prim.Native.Nat.{ℕ, ◌+◌, ◌*◌, ◌-◌, ◌≤◌, ◌<◌, min}
+use Prim.Native.Nat.{ℕ, ◌+◌, ◌/◌, ◌≤◌, ◌<◌, min}
 use native.Mathlib.Omega.{arith}
 use lib.Dec.{ltb}
-use lib.ListN.{length, length-replicate, get_or, get_or-append}
+use lib.ListN.{length, length-replicate, replicate, drop, get_or, get_or-append}
 use borrow.Author.Tests.{ltb-false}
 use Rattle.base.specs.Choose.{choose_case}
 use Rattle.base.specs.Lists.{map_length}
@@ -14,7 +14,7 @@ use Rattle.writer.specs.Wrote.{Wrote, after}
 use Rattle.descriptor.specs.Descriptor.{FileDescriptor}
 use Rattle.descriptor.specs.Decode.{decode_field, decode_set}
 use Rattle.descriptor.specs.Limits.{messages_in, fields_in, limit_passed}
-use Rattle.options.specs.Settings.{Setting, settings}
+use Rattle.options.specs.Settings.{Setting}
 use Rattle.name_rules.specs.Accessors.{is_repeated, is_message, is_group}
 use Rattle.name_rules.specs.FullNames.{Entry, set_entries}
 use Rattle.name_rules.specs.Answer.{names}
@@ -34,9 +34,11 @@ use Rattle.field_columns.proofs.EntryLaws.{set_messages}
 use Rattle.limits.proofs.Sizes.{declarations_short}
 use Rattle.set_rules.specs.Room.{row_count}
 use Rattle.set_rules.proofs.RowCounts.{few_rows, short_rows}
-use Rattle.text_tables.specs.Rows.{field_row}
+use Rattle.text_tables.specs.Rows.{no_field, field_row}
+use Rattle.text_tables.specs.declared.MessageRow.{MessageRow}
+use Rattle.text_tables.specs.declared.FieldRow.{FieldRow}
 use Rattle.table_says.specs.Says.{PlaceSays, Says}
-use Rattle.context_tables.specs.Cells.{message_table, field_table}
+use Rattle.context_tables.specs.Rows.{message_table, field_table}
 use Rattle.table_laws.specs.SetTables.{rows_counted}
 use Rattle.table_laws.specs.FitLaws.{Within, within_limits}
 use Rattle.table_laws.specs.AfterLaws.{set_afters}
@@ -44,16 +46,13 @@ use Rattle.table_laws.specs.NodeLaws.{MapField, entry_typed, nodes_say}
 use Rattle.table_laws.specs.TableTheorems.{message_table_says, message_table_after, field_table_says, field_table_place, field_table_no_place, field_table_lies}
 use Rattle.targets.proofs.TargetTheorem.{target_is}
 use Rattle.limits.specs.Short.{short}
-use Rattle.set_tables.specs.Filled.{most_fields, declaration_rows, blank_rows, zeros, no_rows, message_places, message_count, field_places, field_count, target_by, target_in, setting_bytes, columns_at, columns_to, settings_to, columned, entries_by, message_numbers, field_numbers_in, field_numbers}
-use Rattle.set_tables.proofs.ZeroLaws.{zeros_length, drop_zeros}
+use Rattle.set_tables.specs.Filled.{most_fields, declaration_rows, blank_rows, zeros, no_rows, message_places, message_count, field_places, field_count, target_by, target_in, setting_bytes, columns_at, columns_to, settings_to, columned, entries_by, message_rows, field_rows_in, field_rows}
+use Rattle.set_tables.proofs.ZeroLaws.{zeros_length}
 use Rattle.set_tables.proofs.FillLaws.{few_there, fields_few}
 
 -- a row of a table is that of its front
-row_before : (a b : List ℕ) (k : ℕ) → k * 8 + 7 < length a → field_row (a ++ b) k ≡ field_row a k
-unfolding field_row
-row_before a b k h =
-    let at : (j : ℕ) → j < 8 → get_or (a ++ b) (k * 8 + j) 0 ≡ get_or a (k * 8 + j) 0 = λ j l. get_or-append a b 0 (k * 8 + j) (omega arith) in
-    rw (get_or-append a b 0 (k * 8) (omega arith), at 1 (omega arith), at 2 (omega arith), at 3 (omega arith), at 4 (omega arith), at 5 (omega arith), at 6 (omega arith), at 7 (omega arith))
+row_before : (a b : List FieldRow) (k : ℕ) → k < length a → field_row (a ++ b) k ≡ field_row a k
+row_before a b k h = get_or-append a b no_field k h
 
 -- ---- what is filled has room
 
@@ -71,15 +70,12 @@ rows_fit set passed =
     (λ h. let few = few_rows set passed in omega arith)
     (λ h. let few = short_rows set in let size = ltb-false short (length set) h in omega arith)
 
-module _ (set o : List ℕ) (passed : limit_passed set ≡ 0) (good : names (decode_set set) ≡ Ok tt) where
+module _ (set : List ℕ) (rs : List Setting) (passed : limit_passed set ≡ 0) (good : names (decode_set set) ≡ Ok tt) where
   abbrev ds : List FileDescriptor
   ds = decode_set set
 
   abbrev es : List Entry
   es = set_entries ds
-
-  abbrev rs : List Setting
-  rs = settings o
 
   abbrev rows : List index_row.Row
   rows = message_places set
@@ -103,9 +99,9 @@ module _ (set o : List ℕ) (passed : limit_passed set ≡ 0) (good : names (dec
       let size = length-replicate 256 no_row in
       messages_there set (no_rows 256) _ _ limits.small (omega arith) (omega arith) (record { table = refl; counted = refl })
 
-  field_rows : Holds (all_members set 2 rows (message_count set) 0) (no_rows (most_fields set)) 0 fields n
+  fields_held : Holds (all_members set 2 rows (message_count set) 0) (no_rows (most_fields set)) 0 fields n
   unfolding field_places field_count
-  field_rows = record { table = refl; counted = omega arith }
+  fields_held = record { table = refl; counted = omega arith }
 
   fields_counted : n ≡ length (fields_in ds)
   unfolding field_count fields_in
@@ -143,9 +139,9 @@ module _ (set o : List ℕ) (passed : limit_passed set ≡ 0) (good : names (dec
   unfolding target_by
   targets r k p is =
       tab_at n (target_in set fields) 0 k (below p)
-      ∙ target_is set (declared set table).table (declared set table).rows few_declarations lists rows (message_count set) message_table_is (no_rows (most_fields set)) fields n field_rows field_room limits.messages good r k p is
+      ∙ target_is set (declared set table).table (declared set table).rows few_declarations lists rows (message_count set) message_table_is (no_rows (most_fields set)) fields n fields_held field_room limits.messages good r k p is
 
-  wrote : Wrote (zeros (most_fields set)) 0 (set_flags rs set) (setting_bytes set o) (after 0 (length (set_flags rs set)))
+  wrote : Wrote (zeros (most_fields set)) 0 (set_flags rs set) (setting_bytes set rs) (after 0 (length (set_flags rs set)))
   unfolding setting_bytes
   wrote = record { room = (let size = zeros_length (most_fields set) in let few = fields_few set in omega arith); text = refl; next = refl }
 
@@ -160,51 +156,51 @@ module _ (set o : List ℕ) (passed : limit_passed set ≡ 0) (good : names (dec
   entries_counted : length es ≡ length (messages_in ds)
   entries_counted = sym (map_length (λ (e : Entry). e.message) es) ∙ ap length (set_messages ds)
 
-  module _ (message_size field_size : ℕ) (message_room : length (messages_in ds) * 4 ≤ message_size) (numbers_room : n * 8 ≤ field_size) where
-    abbrev messages_to : ℕ → List ℕ
-    messages_to k = message_table message_size rows fields n (columns_to k set) (settings_to k set o)
+  module _ (message_size field_size : ℕ) (message_room : length (messages_in ds) ≤ message_size) (rows_room : n ≤ field_size) where
+    abbrev messages_to : ℕ → List MessageRow
+    messages_to k = message_table message_size rows fields n (columns_to k set) (settings_to k set rs)
 
     -- the rows of the first k fields
-    abbrev rows_to : ℕ → List ℕ
-    rows_to k = field_table (min (k * 8) field_size) k set rows fields (columns_to k set) (settings_to k set o) (entries_by set rows)
+    abbrev rows_to : ℕ → List FieldRow
+    rows_to k = field_table (min k field_size) k set rows fields (columns_to k set) (settings_to k set rs) (entries_by set rows)
 
-    abbrev fields_to : ℕ → List ℕ
-    fields_to k = rows_to k ++ zeros (field_size - min (k * 8) field_size)
+    abbrev fields_to : ℕ → List FieldRow
+    fields_to k = rows_to k ++ drop (min k field_size) (replicate field_size no_field)
 
-    message_fits : {e : Entry} {i : ℕ} → At e es i → i * 4 + 3 < message_size
+    message_fits : {e : Entry} {i : ℕ} → At e es i → i < message_size
     message_fits p = let within = at_within p in let counted = entries_counted in omega arith
 
-    field_fits : {r : Row} {k : ℕ} → At r (rows_of es) k → k * 8 + 7 < min (n * 8) field_size
+    field_fits : {r : Row} {k : ℕ} → At r (rows_of es) k → k < min n field_size
     field_fits p = let less = below p in omega arith
 
     row_is : {r : Row} {k : ℕ} → At r (rows_of es) k → field_row (fields_to n) k ≡ field_row (rows_to n) k
     unfolding field_table
-    row_is {r} {k} p = let fits = field_fits p in row_before (rows_to n) (zeros (field_size - min (n * 8) field_size)) k (rw length_tab fits)
+    row_is {r} {k} p = let fits = field_fits p in row_before (rows_to n) (drop (min n field_size) (replicate field_size no_field)) k (rw length_tab fits)
 
     place : (r : Row) (k : ℕ) → At r (rows_of es) k → is_message r.field ≡ true → (e : Entry) (j : ℕ) → At e es j → e.full ≡ type_name_of r
         → PlaceSays set (is_repeated r.field) e.message (field_row (fields_to n) k)
     unfolding columns_at settings_to
     place r k p is e j q typed =
         rw (row_is p)
-        (field_table_place set rows (message_count set) message_table_is (no_rows (most_fields set)) fields n field_rows field_room passed good (tab n (target_in set fields)) targets rs (zeros (most_fields set)) (setting_bytes set o) _ wrote space p is q typed (min (n * 8) field_size) n (field_fits p))
+        (field_table_place set rows (message_count set) message_table_is (no_rows (most_fields set)) fields n fields_held field_room passed good (tab n (target_in set fields)) targets rs (zeros (most_fields set)) (setting_bytes set rs) _ wrote space p is q typed (min n field_size) n (field_fits p))
 
-    no_place : (r : Row) (k : ℕ) → At r (rows_of es) k → is_message r.field ≡ false → ((field_row (fields_to n) k).entry ≡ 0) × ((field_row (fields_to n) k).entryend ≡ 0)
+    no_place : (r : Row) (k : ℕ) → At r (rows_of es) k → is_message r.field ≡ false → (field_row (fields_to n) k).entry ≡ None
     unfolding columns_at settings_to
     no_place r k p is =
         rw (row_is p)
-        (field_table_no_place set rows (message_count set) message_table_is (no_rows (most_fields set)) fields n field_rows field_room passed good (tab n (target_in set fields)) targets rs (zeros (most_fields set)) (setting_bytes set o) _ wrote space p is (min (n * 8) field_size) n (field_fits p))
+        (field_table_no_place set rows (message_count set) message_table_is (no_rows (most_fields set)) fields n fields_held field_room passed good (tab n (target_in set fields)) targets rs (zeros (most_fields set)) (setting_bytes set rs) _ wrote space p is (min n field_size) n (field_fits p))
 
     all_say : Says rs set (messages_to n) (fields_to n)
     unfolding columns_at settings_to
     all_say =
         record {
-          message = λ e i p. message_table_says set rows (message_count set) message_table_is (no_rows (most_fields set)) fields n field_rows field_room passed good (tab n (target_in set fields)) targets rs (zeros (most_fields set)) (setting_bytes set o) _ wrote space p message_size (message_fits p);
-          field = λ r k p. rw (row_is p) (field_table_says set rows (message_count set) message_table_is (no_rows (most_fields set)) fields n field_rows field_room passed good (tab n (target_in set fields)) targets rs (zeros (most_fields set)) (setting_bytes set o) _ wrote space p (min (n * 8) field_size) n (field_fits p) (below p) (entries_by set rows));
-          lies = λ r k p. rw (row_is p) (field_table_lies set rows (message_count set) message_table_is (no_rows (most_fields set)) fields n field_rows field_room passed good (tab n (target_in set fields)) targets rs (zeros (most_fields set)) (setting_bytes set o) _ wrote space p (min (n * 8) field_size) n (field_fits p) (entries_by set rows));
+          message = λ e i p. message_table_says set rows (message_count set) message_table_is (no_rows (most_fields set)) fields n fields_held field_room passed good (tab n (target_in set fields)) targets rs (zeros (most_fields set)) (setting_bytes set rs) _ wrote space p message_size (message_fits p);
+          field = λ r k p. rw (row_is p) (field_table_says set rows (message_count set) message_table_is (no_rows (most_fields set)) fields n fields_held field_room passed good (tab n (target_in set fields)) targets rs (zeros (most_fields set)) (setting_bytes set rs) _ wrote space p (min n field_size) n (field_fits p) (below p) (entries_by set rows));
+          lies = λ r k p. rw (row_is p) (field_table_lies set rows (message_count set) message_table_is (no_rows (most_fields set)) fields n fields_held field_room passed good (tab n (target_in set fields)) targets rs (zeros (most_fields set)) (setting_bytes set rs) _ wrote space p (min n field_size) n (field_fits p) (entries_by set rows));
           place = place;
           no_place = no_place;
           nodes = nodes_say set (messages_to n) (fields_to n) sound good (λ j. (row_at rows j).after) (set_afters set rows (message_count set) message_table_is)
-              (λ e i p. message_table_after set rows (message_count set) message_table_is (no_rows (most_fields set)) fields n field_rows field_room passed good (tab n (target_in set fields)) targets rs (zeros (most_fields set)) (setting_bytes set o) _ wrote space p message_size (message_fits p))
+              (λ e i p. message_table_after set rows (message_count set) message_table_is (no_rows (most_fields set)) fields n fields_held field_room passed good (tab n (target_in set fields)) targets rs (zeros (most_fields set)) (setting_bytes set rs) _ wrote space p message_size (message_fits p))
               place no_place;
         }
 
@@ -212,9 +208,9 @@ module _ (set o : List ℕ) (passed : limit_passed set ≡ 0) (good : names (dec
     whole = let few = few_fields in omega arith
 
     -- with room for the messages and fields there are
-    pub tables_say : Says rs set (message_numbers message_size set o) (field_numbers field_size set o)
-    unfolding message_numbers field_numbers field_numbers_in
-    tables_say = rw (zeros_length field_size, drop_zeros) (subst (λ (k : ℕ). Says rs set (messages_to k) (fields_to k)) (sym whole) all_say)
+    pub tables_say : Says rs set (message_rows message_size set rs) (field_rows field_size set rs)
+    unfolding message_rows field_rows field_rows_in
+    tables_say = rw (length-replicate field_size no_field) (subst (λ (k : ℕ). Says rs set (messages_to k) (fields_to k)) (sym whole) all_say)
 
 -- no field names a map entry but the repeated message fields of the message around it
 pub only_map_fields : (set : List ℕ) → limit_passed set ≡ 0 → names (decode_set set) ≡ Ok tt → (r : Row) (k : ℕ) → At r (rows_of (set_entries (decode_set set))) k
@@ -223,13 +219,13 @@ only_map_fields set passed good =
     entry_typed (decode_set set) (sound set [] passed good) good (λ j. (row_at (message_places set) j).after)
     (set_afters set (message_places set) (message_count set) (message_table_is set [] passed good))
 
--- the numbers that the rows of the messages take
-pub all_messages : (set : List ℕ) → limit_passed set ≡ 0 → length (messages_in (decode_set set)) * 4 ≤ min (length set * 2) 1024
+-- how many rows the messages take
+pub all_messages : (set : List ℕ) → limit_passed set ≡ 0 → length (messages_in (decode_set set)) ≤ min (length set / 2) 256
 all_messages set passed = let few = (within_limits set passed).messages in let short = declarations_short set in omega arith
 
--- and those of the fields
-pub all_fields : (set : List ℕ) → limit_passed set ≡ 0 → names (decode_set set) ≡ Ok tt → field_count set * 8 ≤ 16384
+-- and the fields
+pub all_fields : (set : List ℕ) → limit_passed set ≡ 0 → names (decode_set set) ≡ Ok tt → field_count set ≤ 2048
 all_fields set passed good = let counted = fields_counted set [] passed good in let few = (within_limits set passed).fields in omega arith
 
-pub short_fields : (set : List ℕ) → limit_passed set ≡ 0 → names (decode_set set) ≡ Ok tt → length set ≤ short → field_count set * 8 ≤ 1200
+pub short_fields : (set : List ℕ) → limit_passed set ≡ 0 → names (decode_set set) ≡ Ok tt → length set ≤ short → field_count set ≤ 150
 short_fields set passed good h = let few = few_fields set [] passed good in let most = few_there set h in omega arith

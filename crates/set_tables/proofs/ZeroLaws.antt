@@ -1,41 +1,37 @@
--- Tables of zeros; and without a row of kind 4 no field has a boxed setting. Assumes nothing.
+-- Tables that hold nothing; and without a row of kind 4 no field has a boxed setting. Assumes nothing.
 use mathlib.Core.Path.{◌≡◌, refl, sym, ap}
-use mathlib.Core.Bool.{Bool, true, false, ◌&&◌}
+use mathlib.Core.Bool.{Bool, true, false, ◌&&◌, ◌||◌}
 use mathlib.Core.List.{List, [], ◌∷◌, ◌++◌}
-use Prim.Native.Nat.{ℕ, zero, suc, ◌+◌, ◌-◌}
-use native.Mathlib.Nat.{sub-zero, zero-sub, suc-sub-suc}
-use lib.Dec.{eqb}
-use lib.ListN.{length, length-replicate, set, drop, replicate}
+use Prim.Native.Nat.{ℕ, zero, suc, ◌+◌}
+use lib.ListN.{length, length-replicate, set, replicate}
 use Rattle.base.specs.Choose.{choose}
 use Rattle.writer.specs.Wrote.{over}
 use Rattle.descriptor.specs.Descriptor.{Bytes}
-use Rattle.options.specs.Settings.{Setting, settings, first_of_kind}
+use Rattle.std.specs.List.{list_any}
+use Rattle.base.specs.Bytes.{same}
+use Rattle.options.specs.Settings.{Setting}
+use Rattle.options.specs.Rows.{is_of}
 use Rattle.options.specs.declared.Found.{Found}
+use Rattle.text_tables.specs.Rows.{no_field}
+use Rattle.text_tables.specs.declared.FieldRow.{FieldRow}
 use Rattle.path.specs.Forms.{sub_path_iter}
 use Rattle.path.specs.PathMap.{first_with, find_best}
 use Rattle.walks.specs.Walked.{walked}
 use Rattle.boxed_settings.specs.Flags.{flag, field_flag, field_flags, stay, messages_flags, file_flags, set_flags}
-use Rattle.set_tables.specs.Filled.{most_fields, zeros, setting_bytes, field_numbers_in, field_numbers}
+use Rattle.set_tables.specs.Filled.{most_fields, zeros, setting_bytes, field_rows_in, field_rows}
 
 pub zeros_length : (n : ℕ) → length (zeros n) ≡ n
 unfolding zeros
 zeros_length n = length-replicate {A = ℕ} n 0
 
-pub drop_zeros : (k n : ℕ) → drop k (zeros n) ≡ zeros (n - k)
-unfolding zeros
-drop_zeros zero n = rw sub-zero
-drop_zeros (suc k) zero = rw zero-sub
-drop_zeros (suc k) (suc n) = rw suc-sub-suc (drop_zeros k n)
+-- an array of rows that hold nothing is such a table
+pub fresh_zeros : (n : ℕ) → replicate n no_field ≡ replicate (length (replicate n no_field)) no_field
+fresh_zeros n = ap (λ (m : ℕ). replicate m no_field) (sym (length-replicate n no_field))
 
--- an array made of zeros is such a table
-pub fresh_zeros : (n : ℕ) → replicate n 0 ≡ zeros (length {A = ℕ} (replicate n 0))
-unfolding zeros
-fresh_zeros n = ap (λ (m : ℕ). replicate m 0) (sym (length-replicate {A = ℕ} n 0))
-
--- a table that held zeros has them behind its rows
-pub held_zeros : (n : ℕ) (t set o : List ℕ) → t ≡ zeros n → field_numbers_in t set o ≡ field_numbers n set o
-unfolding field_numbers
-held_zeros n t set o is = ap (λ (l : List ℕ). field_numbers_in l set o) is
+-- a table whose rows held nothing has them behind those of the fields
+pub held_zeros : (n : ℕ) (t : List FieldRow) (set : List ℕ) (rs : List Setting) → t ≡ replicate n no_field → field_rows_in t set rs ≡ field_rows n set rs
+unfolding field_rows
+held_zeros n t set rs is = ap (λ (l : List FieldRow). field_rows_in l set rs) is
 
 -- ---- a text of zeros
 
@@ -66,22 +62,22 @@ blank_walked g next each x (p ∷ ps) = each x p then blank_walked g next each (
 
 -- ---- without a row of the kind
 
-passed_over : (x y : Bool) (a b c d : Found) → a.found ≡ true → (choose x a b).found ≡ false → (b.found ≡ false → d.found ≡ false) → (choose (x && y) c d).found ≡ false
+passed_over : (x y u : Bool) (a b : Found) → (x || u) ≡ false → (u ≡ false → b.found ≡ false) → (choose (x && y) a b).found ≡ false
 unfolding choose
-passed_over true y a b c d is h go_on = cc
-passed_over false y a b c d is h go_on = go_on h
+passed_over true y u a b h go_on = cc
+passed_over false y u a b h go_on = go_on h
 
-none_with : (kind : ℕ) (form : Bytes) (i j : ℕ) (rs : List Setting) → (first_of_kind kind i rs).found ≡ false → (first_with kind form j rs).found ≡ false
-unfolding first_of_kind first_with
-none_with kind form i j [] h = refl
-none_with kind form i j (r ∷ rs) h = passed_over (eqb r.kind kind) _ _ _ _ _ refl h (none_with kind form (i + 1) (j + 1) rs)
+none_with : (kind : ℕ) (form : Bytes) (i : ℕ) (rs : List Setting) → list_any (is_of kind) rs ≡ false → (first_with kind form i rs).found ≡ false
+unfolding first_with
+none_with kind form i [] h = refl
+none_with kind form i (r ∷ rs) h = passed_over (is_of kind r) (same r.path form) (list_any (is_of kind) rs) _ _ h (none_with kind form (i + 1) rs)
 
-none_best : (kind : ℕ) (forms : List Bytes) (rs : List Setting) → (first_of_kind kind 0 rs).found ≡ false → (find_best kind forms 0 rs).found ≡ false
+none_best : (kind : ℕ) (forms : List Bytes) (rs : List Setting) → list_any (is_of kind) rs ≡ false → (find_best kind forms 0 rs).found ≡ false
 unfolding find_best choose
 none_best kind [] rs h = refl
-none_best kind (f ∷ fs) rs h = rw (none_with kind f 0 0 rs h) (none_best kind fs rs h)
+none_best kind (f ∷ fs) rs h = rw (none_with kind f 0 rs h) (none_best kind fs rs h)
 
-module _ (rs : List Setting) (unset : (first_of_kind 4 0 rs).found ≡ false) where
+module _ (rs : List Setting) (unset : list_any (is_of 4) rs ≡ false) where
   field_blank : (full : Bytes) (x : ℕ) (p : Bytes) → Blank (field_flag rs full x p)
   unfolding field_flag flag choose
   field_blank full x p = rw (none_best 4 (sub_path_iter _) rs unset) (more none)
@@ -99,6 +95,6 @@ module _ (rs : List Setting) (unset : (first_of_kind 4 0 rs).found ≡ false) wh
   unfolding set_flags file_flags
   set_blank set = blank_walked (file_flags rs) stay (λ x p. messages_blank 16 _ _) 0 _
 
-pub unset_bytes : (set o : Bytes) → (first_of_kind 4 0 (settings o)).found ≡ false → zeros (most_fields set) ≡ setting_bytes set o
+pub unset_bytes : (set : Bytes) (rs : List Setting) → list_any (is_of 4) rs ≡ false → zeros (most_fields set) ≡ setting_bytes set rs
 unfolding setting_bytes
-unset_bytes set o unset = sym (blank_over (most_fields set) 0 (set_blank (settings o) unset set))
+unset_bytes set rs unset = sym (blank_over (most_fields set) 0 (set_blank rs unset set))

@@ -1,9 +1,12 @@
 -- The two tables that the text's writers read, from the bytes of a set and of the options. Assumes nothing.
-use Rattle.std.specs.Prelude.{ℕ, ◌*◌, ◌≤◌, min, Bool, false, ◌≡◌, List, ◌++◌, ltb, length, drop, replicate}
+use Rattle.std.specs.Prelude.{ℕ, ◌≤◌, min, Bool, false, ◌≡◌, List, ◌++◌, ltb, length, drop, replicate}
 use Rattle.base.specs.Choose.{choose}
 use Rattle.writer.specs.Wrote.{over}
 use Rattle.limits.specs.Short.{short}
-use Rattle.options.specs.Settings.{settings}
+use Rattle.options.specs.Settings.{Setting}
+use Rattle.text_tables.specs.Rows.{no_field}
+use Rattle.text_tables.specs.declared.MessageRow.{MessageRow}
+use Rattle.text_tables.specs.declared.FieldRow.{FieldRow}
 use Rattle.index.specs.Tree.{file_forests, total, rows_of, fill, no_row, all_members}
 use Rattle.index.specs.declared.Row.{Row}
 use Rattle.message_graph.specs.Limit.{messages}
@@ -15,7 +18,7 @@ use Rattle.declarations.specs.declared.Declaration.{Declaration}
 use Rattle.boxed_settings.specs.Flags.{set_flags}
 use Rattle.message_graph.specs.declared.Field.{Field}
 use Rattle.targets.specs.Targets.{target_at, field_in}
-use Rattle.context_tables.specs.Cells.{is_set_at, entry_at, columns, message_table, field_table}
+use Rattle.context_tables.specs.Rows.{is_set_at, entry_at, columns, message_table, field_table}
 
 -- limit 4, and what a short set has at most
 unfoldable pub most_fields : List ℕ → ℕ
@@ -56,16 +59,16 @@ target_by set fields t k = target_at set fields (declared set t).table (declared
 abbrev pub target_in : List ℕ → List Row → ℕ → ℕ
 target_in set fields = target_by set fields (blank_rows (declaration_rows set))
 
--- the bytes that have the boxed settings, for the options o
-unfoldable pub setting_bytes : List ℕ → List ℕ → List ℕ
-setting_bytes set o = over (zeros (most_fields set)) 0 (set_flags (settings o) set)
+-- the bytes that have the boxed settings
+unfoldable pub setting_bytes : List ℕ → List Setting → List ℕ
+setting_bytes set rs = over (zeros (most_fields set)) 0 (set_flags rs set)
 
 -- field k, given the places of the fields, a table for the declarations, and the bytes that have the boxed settings
 abbrev pub field_by : List ℕ → List Row → List Declaration → List ℕ → ℕ → Field
 field_by set places t settings = field_in set places (declared set t).table (declared set t).rows settings
 
-abbrev pub field_of : List ℕ → List ℕ → List Row → ℕ → Field
-field_of set o places = field_by set places (blank_rows (declaration_rows set)) (setting_bytes set o)
+abbrev pub field_of : List ℕ → List Setting → List Row → ℕ → Field
+field_of set rs places = field_by set places (blank_rows (declaration_rows set)) (setting_bytes set rs)
 
 -- the columns over the first k fields, given their places
 unfoldable pub columns_at : ℕ → List ℕ → List Row → Fields
@@ -95,28 +98,28 @@ EntriesBelow count set rows = (i : ℕ) → count ≤ i → entry_at set rows i 
 abbrev pub entries_by : List ℕ → List Row → List Bool
 entries_by set rows = tab messages (entry_at set rows)
 
-unfoldable pub settings_to : ℕ → List ℕ → List ℕ → List Bool
-settings_to n set o = tab n (is_set_at (setting_bytes set o))
+unfoldable pub settings_to : ℕ → List ℕ → List Setting → List Bool
+settings_to n set rs = tab n (is_set_at (setting_bytes set rs))
 
 abbrev pub columned : List ℕ → ℕ
 columned set = min (field_count set) (most_fields set)
 
--- the numbers that the rows of the fields take, in a table of so many
+-- how many rows there are for the fields, in a table of so many
 abbrev pub used : ℕ → List ℕ → ℕ
-used size set = min (columned set * 8) size
+used size set = min (columned set) size
 
--- ---- the tables, of so many numbers
+-- ---- the tables, of so many rows; rs: the rows of the options
 
-unfoldable pub message_numbers : ℕ → List ℕ → List ℕ → List ℕ
-message_numbers size set o = message_table size (message_places set) (field_places set) (field_count set) (columns_to (columned set) set) (settings_to (columned set) set o)
+unfoldable pub message_rows : ℕ → List ℕ → List Setting → List MessageRow
+message_rows size set rs = message_table size (message_places set) (field_places set) (field_count set) (columns_to (columned set) set) (settings_to (columned set) set rs)
 
 -- the rows of the fields, and behind them what the table t held there
-unfoldable pub field_numbers_in : List ℕ → List ℕ → List ℕ → List ℕ
-field_numbers_in t set o =
-    field_table (used (length t) set) (columned set) set (message_places set) (field_places set) (columns_to (columned set) set) (settings_to (columned set) set o)
+unfoldable pub field_rows_in : List FieldRow → List ℕ → List Setting → List FieldRow
+field_rows_in t set rs =
+    field_table (used (length t) set) (columned set) set (message_places set) (field_places set) (columns_to (columned set) set) (settings_to (columned set) set rs)
     (entries_by set (message_places set))
     ++ drop (used (length t) set) t
 
--- and 0 behind them
-unfoldable pub field_numbers : ℕ → List ℕ → List ℕ → List ℕ
-field_numbers size set o = field_numbers_in (zeros size) set o
+-- and nothing behind them
+unfoldable pub field_rows : ℕ → List ℕ → List Setting → List FieldRow
+field_rows size set rs = field_rows_in (replicate size no_field) set rs

@@ -1,5 +1,5 @@
 -- Where a field's row says that its map entry lies. Assumes nothing.
-use Rattle.std.specs.Prelude.{◌≡◌, refl, Bool, ◌||◌, List, [], ℕ, ◌+◌, ◌*◌, ◌-◌, ◌≤◌, ◌<◌, length, Ok}
+use Rattle.std.specs.Prelude.{◌≡◌, refl, Bool, ◌||◌, List, [], ℕ, ◌≤◌, ◌<◌, length, None, Ok}
 use Rattle.std.proofs.Common.{sym, ◌∙◌, arith}
 use Rattle.std.proofs.Math.Path.{ap}
 use Rattle.std.proofs.Math.Bool.{true, false}
@@ -7,7 +7,7 @@ use Rattle.std.proofs.Math.ListN.{get_or}
 use Rattle.base.specs.Choose.{choose}
 use Rattle.base.specs.Lists.{map_length}
 use Rattle.base.specs.Tests.{both_ways, or_left}
-use Rattle.wire.specs.Records.{part, records, scan}
+use Rattle.wire.specs.Records.{records, scan}
 use Rattle.descriptor.specs.Descriptor.{MessageDescriptor}
 use Rattle.descriptor.specs.Decode.{entries_of, entries, parts, joined, last_from, decode_message, decode_set}
 use Rattle.descriptor.specs.Limits.{messages_in, max_messages}
@@ -28,7 +28,7 @@ use Rattle.context_laws.specs.Numbers.{number_at}
 use Rattle.text_tables.specs.Rows.{field_row}
 use Rattle.text_tables.specs.declared.FieldRow.{FieldRow}
 use Rattle.table_says.specs.Says.{PlaceSays}
-use Rattle.context_tables.specs.Cells.{entry_at, names_entry, entry_row, field_cell}
+use Rattle.context_tables.specs.Rows.{entry_at, names_entry, place_of, entry_place, field_row_of}
 use Rattle.table_laws.specs.RowLaws.{field_row_is}
 use Rattle.table_laws.specs.SetTables.{sound}
 use Rattle.table_laws.specs.NamedRows.{columns, kind_at, label_at, target_at}
@@ -36,12 +36,6 @@ use Rattle.table_laws.specs.NamedRows.{columns, kind_at, label_at, target_at}
 pub no_bytes : (decode_message []).map_entry ≡ false
 unfolding decode_message entries entries_of records scan parts joined last_from choose
 no_bytes = refl
-
--- the place of a map entry isn't empty
-behind : (set : List ℕ) (start end : ℕ) (m : MessageDescriptor) → decode_message (part set start (end - start)) ≡ m → m.map_entry ≡ true → end ≡ 0 → ⊥
-behind set start end m is map_entry none =
-    let empty : end - start ≡ 0 = omega arith in
-    both_ways map_entry (ap (λ (x : MessageDescriptor). x.map_entry) (sym is) ∙ ap (λ (n : ℕ). (decode_message (part set start n)).map_entry) empty ∙ no_bytes)
 
 pub chosen : (t b : Bool) → choose t b false ≡ true → b ≡ true
 unfolding choose
@@ -85,12 +79,11 @@ module _ (set : List ℕ) (rows : List index_row.Row) (count : ℕ) (table : Mes
       no_names is = rw (kind_is, is)
 
       -- a field of another type names none
-      pub no_place : is_message r.field ≡ false → (boxed settings copy eq : List Bool) (size : ℕ) → k * 8 + 7 < size → k < 65536
-          → let row = field_row (tab size (field_cell set rows fields_table target kind label boxed settings copy eq entry_flags)) k in (row.entry ≡ 0) × (row.entryend ≡ 0)
-      unfolding entry_row choose
-      no_place is boxed settings copy eq size there small =
-          let row_is = field_row_is set rows fields_table target kind label boxed settings copy eq entry_flags size k there small in
-          (ap (λ (x : FieldRow). x.entry) row_is ∙ rw (no_names is), ap (λ (x : FieldRow). x.entryend) row_is ∙ rw (no_names is))
+      pub no_place : is_message r.field ≡ false → (boxed settings copy eq : List Bool) (size : ℕ) → k < size
+          → (field_row (tab size (field_row_of set rows fields_table target kind label boxed settings copy eq entry_flags)) k).entry ≡ None
+      unfolding field_row_of entry_place choose
+      no_place is boxed settings copy eq size there =
+          ap (λ (x : FieldRow). x.entry) (field_row_is set rows fields_table target kind label boxed settings copy eq entry_flags size k there) ∙ rw (no_names is)
 
       module _ (is : is_message r.field ≡ true) {e : Entry} {j : ℕ} (q : At e es j) (typed : e.full ≡ type_name_of r) where
         number : message_at target k ≡ j
@@ -112,24 +105,15 @@ module _ (set : List ℕ) (rows : List index_row.Row) (count : ℕ) (table : Mes
         unfolding names_entry choose
         named = rw (kind_is, is, label_is, flagged)
 
-        module _ (boxed settings copy eq : List Bool) (size : ℕ) (there : k * 8 + 7 < size) (small : k < 65536) where
+        module _ (boxed settings copy eq : List Bool) (size : ℕ) (there : k < size) where
           abbrev row : FieldRow
-          row = field_row (tab size (field_cell set rows fields_table target kind label boxed settings copy eq entry_flags)) k
+          row = field_row (tab size (field_row_of set rows fields_table target kind label boxed settings copy eq entry_flags)) k
 
           pub place_says : PlaceSays set (is_repeated r.field) e.message row
-          unfolding entry_row choose
+          unfolding field_row_of entry_place choose
           place_says =
-              let row_is = field_row_is set rows fields_table target kind label boxed settings copy eq entry_flags size k there small in
-              let start_is = ap (λ (x : FieldRow). x.entry) row_is in
-              let end_is = ap (λ (x : FieldRow). x.entryend) row_is in
-              let here : choose (is_repeated r.field) e.message.map_entry false ≡ true → entry_row rows target kind label entry_flags k ≡ row_at rows j = λ h. rw (named, h, number) in
-              let lies : choose (is_repeated r.field) e.message.map_entry false ≡ true → decode_message (part set row.entry (row.entryend - row.entry)) ≡ e.message =
-              (λ h. ap (λ (x : ℕ). decode_message (part set x (row.entryend - x))) start_is
-              ∙ ap (λ (x : ℕ). decode_message (part set (entry_row rows target kind label entry_flags k).start (x - (entry_row rows target kind label entry_flags k).start))) end_is
-              ∙ ap (λ (x : index_row.Row). decode_message (row_bytes set x)) (here h)
-              ∙ row_message q) in
+              let entry_is = ap (λ (x : FieldRow). x.entry) (field_row_is set rows fields_table target kind label boxed settings copy eq entry_flags size k there) in
               record {
-                there = lies;
-                ends = λ h. behind set row.entry row.entryend e.message (lies h) (chosen (is_repeated r.field) e.message.map_entry h);
-                nowhere = λ h. (start_is ∙ rw (named, h), end_is ∙ rw (named, h));
+                there = λ h. (place_of (row_at rows j), (entry_is ∙ rw (named, h, number), row_message q));
+                nowhere = λ h. entry_is ∙ rw (named, h);
               }

@@ -1,5 +1,5 @@
 -- The rows of the tables say of each message and field what context's definitions say by full names. Assumes nothing.
-use Rattle.std.specs.Prelude.{◌≡◌, refl, Bool, true, ◌||◌, List, ℕ, ◌+◌, ◌*◌, ◌≤◌, ◌<◌, eqb, ltb, length, get_or, Ok}
+use Rattle.std.specs.Prelude.{◌≡◌, refl, Bool, true, ◌||◌, List, ℕ, ◌≤◌, ◌<◌, eqb, ltb, length, get_or, Ok}
 use Rattle.std.proofs.Common.{sym, ap, ◌∙◌, subst, ⊎_elim, arith, ltb-true, ltb-false}
 use Rattle.std.proofs.Math.Bool.{false}
 use Rattle.std.proofs.Math.ListN.{length-map, get_or-eq_default}
@@ -36,7 +36,7 @@ use Rattle.text_tables.specs.Rows.{message_row, field_row}
 use Rattle.text_tables.specs.declared.MessageRow.{MessageRow}
 use Rattle.text_tables.specs.declared.FieldRow.{FieldRow}
 use Rattle.table_says.specs.Says.{MessageSays, FieldSays}
-use Rattle.context_tables.specs.Cells.{message_cell, field_can, field_cell}
+use Rattle.context_tables.specs.Rows.{message_row_of, field_can, field_row_of}
 use Rattle.table_laws.specs.RowLaws.{message_row_is, field_row_is}
 use Rattle.table_laws.specs.TargetLaws.{Agree, boxed_same, message_same, field_answer_same}
 use Rattle.table_laws.specs.SetTables.{sound, owner_is, kind_is, label_is, first_is}
@@ -121,13 +121,14 @@ module _ (set : List ℕ) (rows : List index_row.Row) (count : ℕ) (table : Mes
           ∙ message_same T.owner T.kind T.label target T.target agree d settings i
 
       -- the message with number i, of the messages that the tables have room for
-      pub message_says : {e : Entry} {i : ℕ} → At e es i → (size starts : ℕ) → i * 4 + 3 < size → i < starts
-          → MessageSays rs ds e i (message_row (tab size (message_cell rows (tab starts (start_at fields_table n)) (can Copy) (can Eq))) i)
+      pub message_says : {e : Entry} {i : ℕ} → At e es i → (size starts : ℕ) → i < size → i < starts
+          → MessageSays rs ds e i (message_row (tab size (message_row_of rows (tab starts (start_at fields_table n)) (can Copy) (can Eq))) i)
+      unfolding message_row_of
       message_says {e} {i} p size starts there begun =
           let within = at_within p in
           let few_entries = s.few in
           let small : i < messages = omega arith in
-          let is = message_row_is rows (tab starts (start_at fields_table n)) (can Copy) (can Eq) size i there (omega arith) in
+          let is = message_row_is rows (tab starts (start_at fields_table n)) (can Copy) (can Eq) size i there in
           record {
             copy = ap (λ (x : MessageRow). x.copy) is ∙ tab_at messages (can_message_derive Copy columns settings) false i small ∙ message_can_is Copy i ∙ message_copy_by_number rs ds s p;
             eq = ap (λ (x : MessageRow). x.eq) is ∙ tab_at messages (can_message_derive Eq columns settings) false i small ∙ message_can_is Eq i ∙ message_eq_by_number rs ds s p;
@@ -147,10 +148,11 @@ module _ (set : List ℕ) (rows : List index_row.Row) (count : ℕ) (table : Mes
           ∙ boxed_same T.owner T.kind T.label target T.target agree k
 
       -- the field with number k
-      pub field_says : {r : Row} {k : ℕ} → At r (rows_of es) k → (size m : ℕ) → k * 8 + 7 < size → k < m → k < 65536 → (entries : List Bool)
-          → FieldSays rs ds r (field_row (tab size (field_cell set rows fields_table target columns.kind columns.label (tab m (boxed_by_loop columns)) settings (can Copy) (can Eq) entries)) k)
-      field_says {r} {k} p size m there boxed small entries =
-          let is = field_row_is set rows fields_table target columns.kind columns.label (tab m (boxed_by_loop columns)) settings (can Copy) (can Eq) entries size k there small in
+      pub field_says : {r : Row} {k : ℕ} → At r (rows_of es) k → (size m : ℕ) → k < size → k < m → (entries : List Bool)
+          → FieldSays rs ds r (field_row (tab size (field_row_of set rows fields_table target columns.kind columns.label (tab m (boxed_by_loop columns)) settings (can Copy) (can Eq) entries)) k)
+      unfolding field_row_of
+      field_says {r} {k} p size m there boxed entries =
+          let is = field_row_is set rows fields_table target columns.kind columns.label (tab m (boxed_by_loop columns)) settings (can Copy) (can Eq) entries size k there in
           record {
             copy = ap (λ (x : FieldRow). x.copy) is ∙ field_can_is Copy m k boxed ∙ field_copy_by_number rs ds s p;
             eq = ap (λ (x : FieldRow). x.eq) is ∙ field_can_is Eq m k boxed ∙ field_eq_by_number rs ds s p;

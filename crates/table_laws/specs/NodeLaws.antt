@@ -1,7 +1,7 @@
 -- The messages of a set with what is nested in them: the number behind it, and the map entries that their fields name. Assumes nothing.
-use Rattle.std.specs.Prelude.{◌≡◌, refl, ◌&&◌, ◌⊎◌, ℕ, ◌+◌, ◌<◌, length, Ok}
+use Rattle.std.specs.Prelude.{◌≡◌, refl, ◌&&◌, ◌⊎◌, ℕ, ◌+◌, ◌<◌, length, None, Ok}
 use Rattle.std.proofs.Math.Path.{sym, ap}
-use Rattle.std.proofs.Common.{◌∙◌, subst, ltb-false, eq-eqb, ne_eqb}
+use Rattle.std.proofs.Common.{◌∙◌, subst, ltb-false}
 use Rattle.std.proofs.Math.Bool.{Bool, true, false}
 use mathlib.Core.List.{List, [], ◌∷◌, ◌++◌, map, Memᴰ}
 use Rattle.std.proofs.Math.Logic.{inl, inr, ⊎_elim}
@@ -27,8 +27,10 @@ use Rattle.context_laws.specs.Rows.{first_row}
 use Rattle.context_laws.proofs.Rows.{find_owner, row_of, row_typed}
 use Rattle.name_rules.proofs.NamesLaws.{no_refusals}
 use Rattle.text_tables.specs.Rows.{message_row, field_row}
+use Rattle.text_tables.specs.declared.MessageRow.{MessageRow}
+use Rattle.text_tables.specs.declared.FieldRow.{FieldRow}
 use Rattle.code_generator.specs.MapFields.{entry_of, map_entry_of}
-use Rattle.members.specs.Members.{map_entry_at}
+use Rattle.members.specs.Members.{entry_at, map_entry_at}
 use Rattle.table_says.specs.Says.{PlaceSays, Numbered, NumberedFiles, NodeSays}
 use Rattle.table_laws.specs.EntryPlaces.{chosen}
 use Rattle.table_laws.specs.AfterLaws.{Afters, FileAfters}
@@ -144,16 +146,17 @@ module _ (ds : List FileDescriptor) (s : Sound (set_entries ds)) (good : names d
         inside = around.inside ∙ ap (λ (e : Entry). e.full · around.name) one ∙ ap (λ (x : Bytes). x · around.name) home.name;
       }
 
-  module _ (set t : List ℕ)
+  module _ (set : List ℕ) (t : List FieldRow)
       (place : (r : Row) (k : ℕ) → At r (rows_of es) k → is_message r.field ≡ true → (e : Entry) (j : ℕ) → At e es j → e.full ≡ type_name_of r → PlaceSays set (is_repeated r.field) e.message (field_row t k))
-      (no_place : (r : Row) (k : ℕ) → At r (rows_of es) k → is_message r.field ≡ false → ((field_row t k).entry ≡ 0) × ((field_row t k).entryend ≡ 0)) where
+      (no_place : (r : Row) (k : ℕ) → At r (rows_of es) k → is_message r.field ≡ false → (field_row t k).entry ≡ None) where
     entry_there : {e : Entry} {i : ℕ} (at : At e es i) {f : FieldDescriptor} {j : ℕ} → At f e.message.fields j → (d : Entry) (p : ℕ) → At d es p → d.message.map_entry ≡ true → d.full ≡ text f.type_name
         → is_repeated f ≡ true → is_message f ≡ true → map_entry_at set t (first_row es i + j) ≡ entry_of d.message.fields
-    unfolding map_entry_at choose decode_message
+    unfolding entry_at choose decode_message
     entry_there {e} {i} at {f} {j} own d p there is full repeated message =
         let says = place (tables.field_row i e f) (first_row es i + j) (row_of at own) message d p there full in
         let picked : choose (is_repeated f) d.message.map_entry false ≡ true = rw (repeated, is) in
-        rw (ne_eqb (field_row t (first_row es i + j)).entryend 0 (says.ends picked)) (ap (λ (m : MessageDescriptor). entry_of m.fields) (says.there picked))
+        let lies = says.there picked in
+        ap (entry_at set) lies.1.0 ∙ ap (λ (m : MessageDescriptor). entry_of m.fields) lies.1.1
 
     module _ {e : Entry} {i : ℕ} (at : At e es i) (nested : Forest MessageDescriptor) (behind : after i ≡ i + 1 + size nested) {f : FieldDescriptor} {j : ℕ} (own : At f e.message.fields j) where
       abbrev k : ℕ
@@ -162,7 +165,7 @@ module _ (ds : List FileDescriptor) (s : Sound (set_entries ds)) (good : names d
       abbrev r : Row
       r = tables.field_row i e f
 
-      none_there : Missing es fields e.message.fields after f.type_name e.full (i + 1) nested → (field_row t k).entryend ≡ 0
+      none_there : Missing es fields e.message.fields after f.type_name e.full (i + 1) nested → (field_row t k).entry ≡ None
       none_there missing =
           let p : At r (rows_of es) k = row_of at own in
           ⊎_elim
@@ -179,14 +182,14 @@ module _ (ds : List FileDescriptor) (s : Sound (set_entries ds)) (good : names d
           let below = around.below in
           let less : typed.number < i + 1 + size nested = subst (λ (n : ℕ). typed.number < n) (ap after same_message ∙ behind) below in
           absurd (missing.no typed.number d (subst (λ (n : ℕ). Reach after typed.number (n + 1)) same_message around.reach) less typed.at is typed.name))
-          (λ unpicked. (says.nowhere unpicked).1)
+          (λ unpicked. says.nowhere unpicked)
           (bool_cases (choose (is_repeated f) d.message.map_entry false)))
-          (λ other. (no_place r k p other).1)
+          (λ other. no_place r k p other)
           (bool_cases (is_message f))
 
       pub map_entry_is : Stand es (i + 1) (entries e.full nested) → Afters after (i + 1) nested → entries_named fields e.message.fields e.full nested ≡ true
           → map_entry_at set t k ≡ map_entry_of e.full nested f.type_name
-      unfolding map_entry_at choose
+      unfolding entry_at choose
       map_entry_is stand inside named =
           ⊎_elim
           (λ found.
@@ -196,16 +199,16 @@ module _ (ds : List FileDescriptor) (s : Sound (set_entries ds)) (good : names d
           let message = and_right (is_repeated f) (is_message f && names_it d.full f) maps in
           entry_there at own d found.number found.at found.is found.full (and_left (is_repeated f) (is_message f && names_it d.full f) maps) (and_left (is_message f) (names_it d.full f) message)
           ∙ sym found.gives)
-          (λ missing. rw (eq-eqb (field_row t k).entryend 0 (none_there missing)) (sym missing.gives))
+          (λ missing. ap (entry_at set) (none_there missing) ∙ sym missing.gives)
           (look es fields e.message.fields after f.type_name nested e.full (i + 1) stand inside named)
 
 -- ---- the messages of a set with their numbers
 
-module _ (set messages t : List ℕ) (s : Sound (set_entries (decode_set set))) (good : names (decode_set set) ≡ Ok tt) (after : ℕ → ℕ)
+module _ (set : List ℕ) (messages : List MessageRow) (t : List FieldRow) (s : Sound (set_entries (decode_set set))) (good : names (decode_set set) ≡ Ok tt) (after : ℕ → ℕ)
     (afters : FileAfters after 0 (map (λ (f : FileDescriptor). f.messages) (decode_set set)))
     (behind : (e : Entry) (i : ℕ) → At e (set_entries (decode_set set)) i → (message_row messages i).after ≡ after i)
     (place : (r : Row) (k : ℕ) → At r (rows_of (set_entries (decode_set set))) k → is_message r.field ≡ true → (e : Entry) (j : ℕ) → At e (set_entries (decode_set set)) j → e.full ≡ type_name_of r → PlaceSays set (is_repeated r.field) e.message (field_row t k))
-    (no_place : (r : Row) (k : ℕ) → At r (rows_of (set_entries (decode_set set))) k → is_message r.field ≡ false → ((field_row t k).entry ≡ 0) × ((field_row t k).entryend ≡ 0)) where
+    (no_place : (r : Row) (k : ℕ) → At r (rows_of (set_entries (decode_set set))) k → is_message r.field ≡ false → (field_row t k).entry ≡ None) where
   abbrev all : List Entry
   all = set_entries (decode_set set)
 

@@ -1,4 +1,4 @@
--- A oneof's number fits its place in the table: a set without refusal 6 has fewer oneofs than bytes. Assumes nothing.
+-- A oneof's index fits its row: a set without refusal 6 has fewer oneofs than bytes. Assumes nothing.
 use Rattle.std.specs.Prelude.{◌≡◌, refl, Bool, true, false, ℕ, ◌≤◌, ◌<◌, Ok}
 use Rattle.std.proofs.Math.Path.{sym}
 use Rattle.std.proofs.Common.{subst, ⊎_elim, arith, length-append, lt-ltb}
@@ -16,8 +16,8 @@ use Rattle.name_rules.specs.Answer.{names}
 use Rattle.name_rules.proofs.WellFormedLaws.{every_message}
 use Rattle.index.proofs.SetLaws.{oneofs_of, members_fit}
 use Rattle.field_columns.proofs.EntryLaws.{set_messages}
-use Rattle.table_says.specs.Says.{oneof_number}
-use Rattle.context_tables.specs.Cells.{oneof_cell}
+use Rattle.descriptor.specs.Seen.{option_seen}
+use Rattle.context_tables.specs.Rows.{oneof_index}
 
 every_mem : {A : Type 0} (P : A → Type 0) (xs : List A) → Every P xs → (x : A) → Memᴰ x xs → P x
 every_mem P [] h x m = absurd (Memᴰ.not-nil m)
@@ -36,21 +36,21 @@ few_oneofs n (e ∷ es) good h f m i is =
     (λ w. few_oneofs n es good.1 (omega arith) f w i is)
     (Memᴰ.append_cases e.message.fields m)
 
-number_fits : (optional : Bool) (o : Option ℕ) → ((i : ℕ) → o ≡ some i → i < 65535) → oneof_cell (choose optional none o) ≡ oneof_number (choose optional none o)
-unfolding oneof_cell choose
-number_fits true o h = refl
-number_fits false none h = refl
-number_fits false (some i) h = rw (lt-ltb i 65535 (h i refl))
+index_fits : (optional : Bool) (o : Option ℕ) → ((i : ℕ) → o ≡ some i → i < 65536) → option_seen (oneof_index (choose optional none o)) ≡ choose optional none o
+unfolding oneof_index choose
+index_fits true o h = refl
+index_fits false none h = refl
+index_fits false (some i) h = rw (lt-ltb i 65536 (h i refl))
 
 module _ (set : List ℕ) (small : length set ≤ 32768) (good : names (decode_set set) ≡ Ok tt) where
   pub oneof_fits : (f : FieldDescriptor) → Memᴰ f (fields_of_entries (set_entries (decode_set set)))
-      → oneof_cell (choose f.proto3_optional none f.oneof_index) ≡ oneof_number (choose f.proto3_optional none f.oneof_index)
+      → option_seen (oneof_index (choose f.proto3_optional none f.oneof_index)) ≡ choose f.proto3_optional none f.oneof_index
   unfolding decode_message
   oneof_fits f m =
       let es = set_entries (decode_set set) in
       let are = sym (set_messages (decode_set set)) in
       let fit = members_fit 8 decode_oneof oneofs_of (λ p. refl) set small (λ e. omega arith) in
-      number_fits f.proto3_optional f.oneof_index
+      index_fits f.proto3_optional f.oneof_index
       (λ i is.
       let below = few_oneofs 32767 es (subst (Every GoodMessage) are (every_message (decode_set set) good)) (subst (λ (ms : List MessageDescriptor). length (all_of oneofs_of ms) ≤ 32767) are fit) f m i is in
       omega arith)

@@ -1,5 +1,5 @@
 -- The column of boxed settings, as `boxed_settings` leaves it in a buffer that has room for it. Assumes nothing.
-use Rattle.std.specs.Prelude.{◌≡◌, Bool, false, not, List, map, ℕ, ◌+◌, ◌≤◌, ◌<◌, eqb, length, get_or, drop}
+use Rattle.std.specs.Prelude.{◌≡◌, refl, Bool, true, false, not, List, map, ℕ, ◌+◌, ◌≤◌, ◌<◌, eqb, length, get_or, drop}
 use Rattle.std.proofs.Common.{sym, ap, ◌∙◌, arith, ext_get_or}
 use Rattle.std.proofs.lemmas.List.{length-map}
 use Rattle.std.proofs.Math.ListN.{get_or-map, get_or-append}
@@ -14,10 +14,15 @@ use Rattle.name_rules.specs.FullNames.{set_entries}
 use Rattle.message_graph.specs.Tab.{tab, length_tab, tab_at}
 use Rattle.boxed_settings.specs.Flags.{set_flags}
 use Rattle.context_laws.specs.Tables.{rows_of, is_set, settings_of}
-use Rattle.context_tables.specs.Cells.{bit, is_set_at}
-use Rattle.table_laws.specs.RowLaws.{bit_flag}
+use Rattle.context_tables.specs.Rows.{is_set_at}
 use Rattle.table_laws.specs.SetTables.{rows_counted}
-use Rattle.table_laws.specs.SettingLaws.{Fit, set_flags_are}
+use Rattle.table_laws.specs.SettingLaws.{Fit, bit, set_flags_are}
+
+-- a flag is read as it was put
+bit_flag : (b : Bool) → not (eqb (bit b) 0) ≡ b
+unfolding bit choose
+bit_flag true = refl
+bit_flag false = refl
 
 -- a text that there is room for, read back
 laid : (t p : List ℕ) (i : ℕ) → length p ≤ length t → i < length p → get_or (over t 0 p) i 0 ≡ get_or p i 0

@@ -1,10 +1,11 @@
 -- The boxed settings that are written for a set's fields are those at full names, where every path fits its buffer. Assumes nothing.
-use Rattle.std.specs.Prelude.{◌≡◌, length, take}
+use Rattle.std.specs.Prelude.{◌≡◌, Bool, length, take}
 use Rattle.std.proofs.Math.Path.{refl, sym, ap}
 use Rattle.std.proofs.Common.{◌∙◌, arith, take_all}
 use mathlib.Core.List.{List, [], ◌∷◌, ◌++◌, map, map-map, append_assoc}
 use Prim.Native.Nat.{ℕ, zero, suc, ◌≤◌}
 use Rattle.std.proofs.Math.ListN.{length-append}
+use Rattle.base.specs.Choose.{choose}
 use Rattle.base.specs.Lists.{all_of}
 use Rattle.descriptor.specs.Descriptor.{Bytes, FieldDescriptor}
 use Rattle.descriptor.specs.Decode.{entries, parts, decode_field, decode_oneof, decode_message, decode_messages, decode_file, decode_set}
@@ -20,7 +21,6 @@ use Rattle.boxed_settings.specs.Flags.{name_in, flag, field_flag, stay, field_fl
 use Rattle.index.proofs.OwnerLaws.{all_of_append}
 use Rattle.context_laws.specs.Tables.{Row, rows_from, is_set, settings_of}
 use Rattle.context_laws.proofs.Rows.{column_entry}
-use Rattle.context_tables.specs.Cells.{bit}
 
 -- ---- what fits
 
@@ -46,6 +46,9 @@ fit_right [] ys h = h
 fit_right (x ∷ xs) ys h = fit_right xs ys h.1
 
 -- ---- the flags at full names
+
+unfoldable pub bit : Bool → ℕ
+bit b = choose b 1 0
 
 module _ (rs : List Setting) where
   abbrev field_bit : Bytes → FieldDescriptor → ℕ

@@ -1,10 +1,10 @@
 -- The two tables of a set within the limits, without refusals 6 and 7: each row says what the definitions by full names say. Assumes nothing.
-use Rattle.std.specs.Prelude.{◌≡◌, Bool, true, false, ◌||◌, ℕ, ◌+◌, ◌*◌, ◌-◌, ◌≤◌, ◌<◌, length, get_or, Ok}
+use Rattle.std.specs.Prelude.{◌≡◌, Bool, true, false, ◌||◌, ℕ, ◌≤◌, ◌<◌, length, get_or, None, Ok}
 use Rattle.std.proofs.Common.{sym, ◌∙◌, arith}
 use Rattle.std.proofs.Math.Path.{ap, subst}
 use mathlib.Core.List.{List}
 use Rattle.writer.specs.Wrote.{Wrote}
-use Rattle.wire.specs.Records.{part}
+use Rattle.descriptor.specs.Seen.{option_seen}
 use Rattle.descriptor.specs.Descriptor.{FieldDescriptor, FileDescriptor}
 use Rattle.descriptor.specs.Decode.{decode_field, decode_set}
 use Rattle.descriptor.specs.Limits.{limit_passed}
@@ -24,14 +24,14 @@ use Rattle.boxed_settings.specs.Flags.{set_flags}
 use Rattle.context_laws.specs.At.{At, at_within, mem_of_at}
 use Rattle.context_laws.specs.Tables.{Row, rows_of, number_of, type_name_of, settings_of}
 use Rattle.context_laws.proofs.Rows.{find_owner}
-use Rattle.text_tables.specs.Rows.{message_row, field_row}
+use Rattle.text_tables.specs.Rows.{message_row, field_row, place_bytes}
 use Rattle.text_tables.specs.declared.MessageRow.{MessageRow}
 use Rattle.text_tables.specs.declared.FieldRow.{FieldRow}
 use Rattle.code_generator.specs.Oneofs.{oneof_of}
 use Rattle.table_says.specs.Says.{MessageSays, FieldSays, FieldLies, PlaceSays}
-use Rattle.context_tables.specs.Cells.{is_set_at, entry_at, oneof_cell, oneof_at, columns, message_table, field_table}
+use Rattle.context_tables.specs.Rows.{is_set_at, entry_at, message_row_of, oneof_index, oneof_at, field_row_of, columns, message_table, field_table}
 use Rattle.table_laws.specs.RowLaws.{message_row_is, field_row_is}
-use Rattle.table_laws.specs.SetTables.{rows_counted, sound, field_there}
+use Rattle.table_laws.specs.SetTables.{sound, field_there}
 use Rattle.table_laws.specs.FitLaws.{Within, within_limits}
 use Rattle.table_laws.specs.SettingColumn.{settings_are}
 use Rattle.table_laws.specs.NamedRows.{message_says, field_says}
@@ -65,7 +65,7 @@ module _ (set : List ℕ) (rows : List index_row.Row) (count : ℕ) (table : Mes
   settings_is = settings_are rs set limits.fit buffer bytes end wrote n (fields_counted set rows count table t fields_table n holds room) space
 
   -- message i
-  pub message_table_says : {e : Entry} {i : ℕ} → At e es i → (size : ℕ) → i * 4 + 3 < size → MessageSays rs ds e i (message_row (message_table size rows fields_table n over_fields settings) i)
+  pub message_table_says : {e : Entry} {i : ℕ} → At e es i → (size : ℕ) → i < size → MessageSays rs ds e i (message_row (message_table size rows fields_table n over_fields settings) i)
   unfolding message_table
   message_table_says {e} {i} p size there =
       let within = at_within p in
@@ -74,51 +74,40 @@ module _ (set : List ℕ) (rows : List index_row.Row) (count : ℕ) (table : Mes
       (message_says set rows count table t fields_table n holds room limits.messages good target targets rs p size messages there (omega arith))
 
   -- the number behind those nested in it is that of its row (AfterLaws)
-  pub message_table_after : {e : Entry} {i : ℕ} → At e es i → (size : ℕ) → i * 4 + 3 < size → (message_row (message_table size rows fields_table n over_fields settings) i).after ≡ (row_at rows i).after
-  unfolding message_table
-  message_table_after {e} {i} p size there =
-      let within = at_within p in
-      let few = (sound set rows count table t fields_table n holds room limits.messages good).few in
-      ap (λ (x : MessageRow). x.after) (message_row_is rows _ _ _ size i there (omega arith))
-
-  -- a table has fewer than 65,536 rows
-  few_fields : {r : Row} {k : ℕ} → At r (rows_of es) k → k < 65536
-  few_fields p =
-      let within = at_within p in
-      let counted = rows_counted ds in
-      let most = limits.fields in
-      omega arith
+  pub message_table_after : {e : Entry} {i : ℕ} → At e es i → (size : ℕ) → i < size → (message_row (message_table size rows fields_table n over_fields settings) i).after ≡ (row_at rows i).after
+  unfolding message_table message_row_of
+  message_table_after {e} {i} p size there = ap (λ (x : MessageRow). x.after) (message_row_is rows _ _ _ size i there)
 
   -- field k; m: how far the table of boxes goes
-  pub field_table_says : {r : Row} {k : ℕ} → At r (rows_of es) k → (size m : ℕ) → k * 8 + 7 < size → k < m → (entries : List Bool) → FieldSays rs ds r (field_row (field_table size m set rows fields_table over_fields settings entries) k)
+  pub field_table_says : {r : Row} {k : ℕ} → At r (rows_of es) k → (size m : ℕ) → k < size → k < m → (entries : List Bool) → FieldSays rs ds r (field_row (field_table size m set rows fields_table over_fields settings entries) k)
   unfolding field_table
   field_table_says {r} {k} p size m there boxed entries =
       subst (λ (x : List Bool). FieldSays rs ds r (field_row (field_table size m set rows fields_table over_fields x entries) k)) (sym settings_is)
-      (field_says set rows count table t fields_table n holds room limits.messages good target targets rs p size m there boxed (few_fields p) entries)
+      (field_says set rows count table t fields_table n holds room limits.messages good target targets rs p size m there boxed entries)
 
   -- the place of its map entry, with the messages' flags as `fill_entries` fills them
-  pub field_table_place : {r : Row} {k : ℕ} → At r (rows_of es) k → is_message r.field ≡ true → {e : Entry} {j : ℕ} → At e es j → e.full ≡ type_name_of r → (size m : ℕ) → k * 8 + 7 < size
+  pub field_table_place : {r : Row} {k : ℕ} → At r (rows_of es) k → is_message r.field ≡ true → {e : Entry} {j : ℕ} → At e es j → e.full ≡ type_name_of r → (size m : ℕ) → k < size
       → PlaceSays set (is_repeated r.field) e.message (field_row (field_table size m set rows fields_table over_fields settings (tab messages (entry_at set rows))) k)
   unfolding field_table
   field_table_place p is q typed size m there =
-      place_says set rows count table t fields_table n holds room limits.messages good target targets p is q typed _ _ _ _ size there (few_fields p)
+      place_says set rows count table t fields_table n holds room limits.messages good target targets p is q typed _ _ _ _ size there
 
-  pub field_table_no_place : {r : Row} {k : ℕ} → At r (rows_of es) k → is_message r.field ≡ false → (size m : ℕ) → k * 8 + 7 < size
-      → let row = field_row (field_table size m set rows fields_table over_fields settings (tab messages (entry_at set rows))) k in (row.entry ≡ 0) × (row.entryend ≡ 0)
+  pub field_table_no_place : {r : Row} {k : ℕ} → At r (rows_of es) k → is_message r.field ≡ false → (size m : ℕ) → k < size
+      → (field_row (field_table size m set rows fields_table over_fields settings (tab messages (entry_at set rows))) k).entry ≡ None
   unfolding field_table
   field_table_no_place p is size m there =
-      no_place set rows count table t fields_table n holds room limits.messages good target targets p is _ _ _ _ size there (few_fields p)
+      no_place set rows count table t fields_table n holds room limits.messages good target targets p is _ _ _ _ size there
 
   -- where its own part lies, and its oneof
-  pub field_table_lies : {r : Row} {k : ℕ} → At r (rows_of es) k → (size m : ℕ) → k * 8 + 7 < size → (entries : List Bool)
+  pub field_table_lies : {r : Row} {k : ℕ} → At r (rows_of es) k → (size m : ℕ) → k < size → (entries : List Bool)
       → FieldLies set r.field (field_row (field_table size m set rows fields_table over_fields settings entries) k)
-  unfolding field_table oneof_at
+  unfolding field_table field_row_of oneof_at
   field_table_lies {r} {k} p size m there entries =
-      let is = field_row_is set rows fields_table _ _ _ _ _ _ _ entries size k there (few_fields p) in
+      let is = field_row_is set rows fields_table _ _ _ _ _ _ _ entries size k there in
       let own = field_there set rows count table t fields_table n holds room limits.messages good p in
       record {
-        there = ap (λ (x : FieldRow). decode_field (part set x.start (x.end - x.start))) is ∙ own;
-        oneof = ap (λ (x : FieldRow). x.oneof) is
-            ∙ ap (λ (f : FieldDescriptor). oneof_cell (oneof_of f)) own
+        there = ap (λ (x : FieldRow). decode_field (place_bytes set x.place)) is ∙ own;
+        oneof = ap (λ (x : FieldRow). option_seen x.oneof) is
+            ∙ ap (λ (f : FieldDescriptor). option_seen (oneof_index (oneof_of f))) own
             ∙ oneof_fits set table.small good r.field (find_owner 0 es r (mem_of_at p)).field;
       }

@@ -1,10 +1,9 @@
 -- What the two tables that the text's writers read say of a set. Assumes nothing.
-use Rattle.std.specs.Prelude.{ℕ, suc, ◌+◌, ◌-◌, ◌≡◌, refl, Bool, true, false, List, [], ◌∷◌}
-use Rattle.std.proofs.Math.Option.{Option, some, none}
+use Rattle.std.specs.Prelude.{ℕ, ◌+◌, ◌≡◌, refl, Bool, true, false, List, [], ◌∷◌, Some, None}
 use Rattle.base.specs.Choose.{choose}
-use Rattle.wire.specs.Records.{part}
 use Rattle.descriptor.specs.Descriptor.{Bytes, Forest, done, node, FieldDescriptor, MessageDescriptor, FileDescriptor}
 use Rattle.descriptor.specs.Decode.{decode_field, decode_message, decode_set}
+use Rattle.descriptor.specs.Seen.{option_seen}
 use Rattle.index.specs.Tree.{size}
 use Rattle.options.specs.Settings.{Setting}
 use Rattle.name_rules.specs.Accessors.{text, is_repeated, is_message}
@@ -13,8 +12,9 @@ use Rattle.context.specs.Context.{has, should_box, can_message_derive_copy, can_
 use Rattle.context_laws.specs.At.{At}
 use Rattle.context_laws.specs.Tables.{Row, rows_of, type_name_of}
 use Rattle.context_laws.specs.Rows.{first_row}
-use Rattle.text_tables.specs.Rows.{message_row, field_row}
+use Rattle.text_tables.specs.Rows.{message_row, field_row, place_bytes}
 use Rattle.text_tables.specs.declared.MessageRow.{MessageRow}
+use Rattle.text_tables.specs.declared.Place.{Place}
 use Rattle.text_tables.specs.declared.FieldRow.{FieldRow}
 use Rattle.code_generator.specs.MapFields.{map_entry_of}
 use Rattle.code_generator.specs.Oneofs.{oneof_of}
@@ -45,21 +45,15 @@ pub boxed_by_row : {rs : List Setting} {ds : List FileDescriptor} {r : Row} {row
 unfolding should_box
 boxed_by_row {rs} {ds} {r} {row} says at = repeated_first (is_repeated r.field) row.looped _ (has rs 4 (at · text r.field.name)) (says.looped at)
 
--- one more than the index of a oneof, or 0 for none
-abbrev pub oneof_number : Option ℕ → ℕ
-oneof_number none = 0
-oneof_number (some i) = suc i
-
 -- where the field's own part lies, and its oneof
 pub record FieldLies (set : List ℕ) (f : FieldDescriptor) (row : FieldRow) : Type 0 where
-  pub there : decode_field (part set row.start (row.end - row.start)) ≡ f
-  pub oneof : row.oneof ≡ oneof_number (oneof_of f)
+  pub there : decode_field (place_bytes set row.place) ≡ f
+  pub oneof : option_seen row.oneof ≡ oneof_of f
 
--- of a field whose type is the message m: where it is repeated and m is a map entry, m lies at the row's place, which ends behind 0; else the place is 0, 0
+-- of a field whose type is the message m: where it is repeated and m is a map entry, the row has the place where m lies; else it has none
 pub record PlaceSays (set : List ℕ) (repeated : Bool) (m : MessageDescriptor) (row : FieldRow) : Type 0 where
-  pub there : choose repeated m.map_entry false ≡ true → decode_message (part set row.entry (row.entryend - row.entry)) ≡ m
-  pub ends : choose repeated m.map_entry false ≡ true → row.entryend ≡ 0 → ⊥
-  pub nowhere : choose repeated m.map_entry false ≡ false → (row.entry ≡ 0) × (row.entryend ≡ 0)
+  pub there : choose repeated m.map_entry false ≡ true → (place : Place) × ((row.entry ≡ Some place) × (decode_message (place_bytes set place) ≡ m))
+  pub nowhere : choose repeated m.map_entry false ≡ false → row.entry ≡ None
 
 -- ---- messages with what is nested in them
 
@@ -75,18 +69,18 @@ NumberedFiles P i [] = Unit {0}
 NumberedFiles P i (f ∷ fs) = Numbered P (package_scope f.package_name) i f.messages × NumberedFiles P (i + size f.messages) fs
 
 -- message i stands among the set's; the number behind those nested in it; and the map entries that its fields name
-pub record NodeSays (set messages t : List ℕ) (full : Bytes) (m : MessageDescriptor) (nested : Forest MessageDescriptor) (i : ℕ) : Type 0 where
+pub record NodeSays (set : List ℕ) (messages : List MessageRow) (t : List FieldRow) (full : Bytes) (m : MessageDescriptor) (nested : Forest MessageDescriptor) (i : ℕ) : Type 0 where
   pub at : At (record { full = full; message = m }) (set_entries (decode_set set)) i
   pub after : (message_row messages i).after ≡ i + 1 + size nested
   pub map_entry : (f : FieldDescriptor) (j : ℕ) → At f m.fields j → map_entry_at set t (first_row (set_entries (decode_set set)) i + j) ≡ map_entry_of full nested f.type_name
 
 -- ---- both tables
 
-pub record Says (rs : List Setting) (set messages t : List ℕ) : Type 0 where
+pub record Says (rs : List Setting) (set : List ℕ) (messages : List MessageRow) (t : List FieldRow) : Type 0 where
   pub message : (e : Entry) (i : ℕ) → At e (set_entries (decode_set set)) i → MessageSays rs (decode_set set) e i (message_row messages i)
   pub field : (r : Row) (k : ℕ) → At r (rows_of (set_entries (decode_set set))) k → FieldSays rs (decode_set set) r (field_row t k)
   pub lies : (r : Row) (k : ℕ) → At r (rows_of (set_entries (decode_set set))) k → FieldLies set r.field (field_row t k)
   pub place : (r : Row) (k : ℕ) → At r (rows_of (set_entries (decode_set set))) k → is_message r.field ≡ true → (e : Entry) (j : ℕ) → At e (set_entries (decode_set set)) j
       → e.full ≡ type_name_of r → PlaceSays set (is_repeated r.field) e.message (field_row t k)
-  pub no_place : (r : Row) (k : ℕ) → At r (rows_of (set_entries (decode_set set))) k → is_message r.field ≡ false → ((field_row t k).entry ≡ 0) × ((field_row t k).entryend ≡ 0)
+  pub no_place : (r : Row) (k : ℕ) → At r (rows_of (set_entries (decode_set set))) k → is_message r.field ≡ false → (field_row t k).entry ≡ None
   pub nodes : NumberedFiles (NodeSays set messages t) 0 (decode_set set)

@@ -28,6 +28,7 @@ use Rattle.declarations.specs.declared.Declaration.{Declaration}
 use Rattle.declarations.specs.Listed.{full, Listed, listed_row, listed, listed_files, entry_number}
 use Rattle.declarations.specs.Listed as listed_rows
 use Rattle.declarations.proofs.ListedLaws.{files_numbered}
+use Rattle.type_names.specs.declared.Sort.TheVariants as sorts
 use Rattle.type_names.specs.LookUp.{named, wanted, fits, find_from, find_row}
 use Rattle.declared_types.proofs.RowLaws.{listed_from, listed_all, by_kind}
 use Rattle.context_laws.specs.At.{At}
@@ -44,7 +45,7 @@ module _ (bytes : List ℕ) (t : List Declaration) (name : List ℕ) where
   of_row i = listed_row bytes (full bytes t (suc i)) (row_at t i)
 
   row_number : (i : ℕ) → i < 65536 → (ls : List Listed)
-      → listed_rows.number_of name (of_row i ++ ls) ≡ choose (fits bytes t name 2 i) (kind_number (row_at t i).kind - 2) (listed_rows.number_of name ls)
+      → listed_rows.number_of name (of_row i ++ ls) ≡ choose (fits bytes t name sorts.Message i) (kind_number (row_at t i).kind - 2) (listed_rows.number_of name ls)
   unfolding listed_row listed_rows.number_of fits named wanted choose
   row_number i h ls =
       by_kind (kind_number (row_at t i).kind) (λ e. rw e) (λ e. rw e)
@@ -57,11 +58,11 @@ module _ (bytes : List ℕ) (t : List Declaration) (name : List ℕ) where
   picked false n i x ls h = ap (λ (m : ℕ). choose (ltb x m) (kind_number (row_at t x).kind - 2) 0) (let e : i + suc n ≡ i + 1 + n = omega arith in e) ∙ h
 
   found_number : (n i : ℕ) → i + n ≤ 65536
-      → choose (ltb (find_from bytes t name 2 n i) (i + n)) (kind_number (row_at t (find_from bytes t name 2 n i)).kind - 2) 0 ≡ listed_rows.number_of name (listed_from bytes t n i)
+      → choose (ltb (find_from bytes t name sorts.Message n i) (i + n)) (kind_number (row_at t (find_from bytes t name sorts.Message n i)).kind - 2) 0 ≡ listed_rows.number_of name (listed_from bytes t n i)
   unfolding find_from listed_from listed_rows.number_of choose
   found_number zero i h = rw (le-ltb i (i + 0) (omega arith))
   found_number (suc n) i h =
-      picked (fits bytes t name 2 i) n i (find_from bytes t name 2 n (i + 1)) (listed_from bytes t n (i + 1)) (found_number n (i + 1) (omega arith))
+      picked (fits bytes t name sorts.Message i) n i (find_from bytes t name sorts.Message n (i + 1)) (listed_from bytes t n (i + 1)) (found_number n (i + 1) (omega arith))
       ∙ sym (row_number i (omega arith) (listed_from bytes t n (i + 1)))
 
 -- ---- and by the messages of the set
@@ -99,9 +100,9 @@ module _ (set : List ℕ) (t : List Declaration) (count : ℕ) (few_rows : count
   named_is : (name : Bytes) → message_named set t count name ≡ byte_of (number_of (set_entries (decode_set set)) name)
   unfolding message_named find_row
   named_is name =
-      byte_picked (ltb (find_from set t name 2 count 0) count) (kind_number (row_at t (find_from set t name 2 count 0)).kind - 2)
+      byte_picked (ltb (find_from set t name sorts.Message count 0) count) (kind_number (row_at t (find_from set t name sorts.Message count 0)).kind - 2)
       ∙ ap byte_of
-      (ap (λ (n : ℕ). choose (ltb (find_from set t name 2 count 0) n) (kind_number (row_at t (find_from set t name 2 count 0)).kind - 2) 0) (let e : count ≡ 0 + count = omega arith in e)
+      (ap (λ (n : ℕ). choose (ltb (find_from set t name sorts.Message count 0) n) (kind_number (row_at t (find_from set t name sorts.Message count 0)).kind - 2) 0) (let e : count ≡ 0 + count = omega arith in e)
       ∙ found_number set t name count 0 (omega arith)
       ∙ ap (listed_rows.number_of name) (sym (listed_all set t count) ∙ lists)
       ∙ files_numbered name 0 0 (decode_set set)

@@ -8,14 +8,15 @@ use Rattle.index.specs.Tree.{row_at, row_bytes}
 use Rattle.index.specs.declared.Row.{Row}
 use Rattle.message_graph.specs.declared.Field.{Field}
 use Rattle.field_columns.specs.Columns.{byte_of, owner_at, column_at, Kind, Label}
-use Rattle.context_tables.specs.Cells.{is_set_at}
+use Rattle.context_tables.specs.Rows.{is_set_at}
 use Rattle.declarations.specs.Rows.{kind_number, row_at as declaration_at}
 use Rattle.declarations.specs.declared.Declaration.{Declaration}
+use Rattle.type_names.specs.declared.Sort.TheVariants as sorts
 use Rattle.type_names.specs.LookUp.{find_row}
 
 -- of the message with a full name, among the first count rows; 0 where there is none, and for a number over 255
 unfoldable pub message_named : Bytes → List Declaration → ℕ → Bytes → ℕ
-message_named set t count name = choose (ltb (find_row set t name 2 count) count) (byte_of (kind_number (declaration_at t (find_row set t name 2 count)).kind - 2)) 0
+message_named set t count name = choose (ltb (find_row set t name sorts.Message count) count) (byte_of (kind_number (declaration_at t (find_row set t name sorts.Message count)).kind - 2)) 0
 
 -- of a field's type; 0 where that is neither message nor group
 unfoldable pub type_number : Bytes → List Declaration → ℕ → FieldDescriptor → ℕ

@@ -12,6 +12,7 @@ use declarations::{Declaration, Kind};
 use descriptor::FieldDescriptor;
 use index::Row;
 use message_graph::{Field, Index};
+use type_names::Sort;
 
 // A message's number as a byte; 0 where a byte has no room for it.
 #[tactic(auto, unfolding(field_columns::specs::Columns::byte_of, base::specs::Choose::choose))]
@@ -36,11 +37,10 @@ fn message_named(set: &[u8], rows: &[Declaration], count: usize, sums: &[u64], n
     requires { sums.now ≡ row_sums set.now rows.now (length sums.now) }
     ensures { result ≡ message_named set.now rows.now count name.now }
 {
-    let row = type_names::find_row(set, rows, count, sums, name, 2);
-    if row < count {
-        return number_of(declarations::row_at(rows, row).kind);
+    match type_names::find_row(set, rows, count, sums, name, Sort::Message) {
+        Some(row) => number_of(declarations::row_at(rows, row).kind),
+        None => 0,
     }
-    0
 }
 
 // That of the type of a field, where it is a message or group.

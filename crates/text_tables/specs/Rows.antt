@@ -1,35 +1,41 @@
 -- What the text's writers read of a message and of a field, by their numbers in declaration order. Assumes nothing.
-use Rattle.std.specs.Prelude.{ℕ, ◌+◌, ◌*◌, Bool, false, not, List, eqb, ltb, get_or}
-use Rattle.base.specs.Choose.{choose}
+use Rattle.std.specs.Prelude.{ℕ, ◌-◌, Bool, true, false, List, Option, Some, None, eqb, get_or}
+use Rattle.wire.specs.Records.{part}
 use Rattle.text_tables.specs.declared.MessageRow.{MessageRow}
+use Rattle.text_tables.specs.declared.Place.{Place}
 use Rattle.text_tables.specs.declared.FieldRow.{FieldRow}
 
--- a number of a table; 0 past its end
-abbrev pub number_at : List ℕ → ℕ → ℕ
-number_at t i = get_or t i 0
+-- what the tables have past their ends
+abbrev pub no_message : MessageRow
+no_message = record { copy = false; eq = false; first = 0; after = 0 }
 
-abbrev pub flag_at : List ℕ → ℕ → Bool
-flag_at t i = not (eqb (number_at t i) 0)
+abbrev pub no_field : FieldRow
+no_field = record { looped = false; copy = false; eq = false; place = record { start = 0; end = 0 }; entry = None; oneof = None }
 
--- four numbers for each message: it can derive Copy, Eq; its first field; the message behind those nested in it
-unfoldable pub message_row : List ℕ → ℕ → MessageRow
-message_row t i =
-    choose (ltb i 65536) (record { copy = flag_at t (i * 4); eq = flag_at t (i * 4 + 1); first = number_at t (i * 4 + 2); after = number_at t (i * 4 + 3) })
-    (record { copy = false; eq = false; first = 0; after = 0 })
+-- message i
+abbrev pub message_row : List MessageRow → ℕ → MessageRow
+message_row rows i = get_or rows i no_message
 
--- eight for each field: it is boxed by a loop; it can derive Copy, Eq; where its part starts and ends in the set; where the part of the map entry
--- that it names does, both 0 where it names none; its oneof, one more than the index, or 0
-unfoldable pub field_row : List ℕ → ℕ → FieldRow
-field_row t k =
-    choose (ltb k 65536)
-    (record {
-      looped = flag_at t (k * 8);
-      copy = flag_at t (k * 8 + 1);
-      eq = flag_at t (k * 8 + 2);
-      start = number_at t (k * 8 + 3);
-      end = number_at t (k * 8 + 4);
-      entry = number_at t (k * 8 + 5);
-      entryend = number_at t (k * 8 + 6);
-      oneof = number_at t (k * 8 + 7);
-    })
-    (record { looped = false; copy = false; eq = false; start = 0; end = 0; entry = 0; entryend = 0; oneof = 0 })
+-- field k
+abbrev pub field_row : List FieldRow → ℕ → FieldRow
+field_row rows k = get_or rows k no_field
+
+-- the bytes at a place of the set
+abbrev pub place_bytes : List ℕ → Place → List ℕ
+place_bytes set p = part set p.start (p.end - p.start)
+
+-- is a field in no oneof?
+unfoldable pub in_none : Option ℕ → Bool
+in_none None = true
+in_none (Some i) = false
+
+abbrev pub is_plain : FieldRow → Bool
+is_plain row = in_none row.oneof
+
+-- is it in the oneof with the index?
+unfoldable pub in_one : ℕ → Option ℕ → Bool
+in_one index None = false
+in_one index (Some i) = eqb i index
+
+abbrev pub is_in : ℕ → FieldRow → Bool
+is_in index row = in_one index row.oneof

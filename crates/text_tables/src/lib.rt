@@ -1,111 +1,104 @@
 //! What the text's writers read of a message and of a field, by their numbers in declaration order.
 #![tactic(auto)]
 
-ghost use Rattle.std.specs.Prelude.{◌≡◌, ◌<◌};
-ghost use Rattle.text_tables.specs.Rows.{number_at, flag_at, message_row, field_row};
+ghost use Rattle.std.specs.Prelude.{◌≡◌};
+ghost use Rattle.text_tables.specs.Rows.{message_row, field_row, place_bytes, is_plain, is_in};
 
-// The most rows that a table is read to have.
-const MOST_ROWS: usize = 65536;
-
-/// Whether a message can derive Copy and Eq, its first field, and the message behind those nested in it.
-#[derive(Drop)]
+/// A message of the set.
+#[derive(Clone, Copy)]
 pub struct MessageRow {
+    /// May it derive Copy?
     pub copy: bool,
+    /// May it derive Eq?
     pub eq: bool,
-    pub first: usize,
-    pub after: usize,
+    /// The number of its first field.
+    pub first: u16,
+    /// The number of the message behind those nested in it.
+    pub after: u16,
 }
 
-/// Whether a field is boxed by a loop, whether it can derive Copy and Eq, where its part lies in the set, where that of the map entry
-/// that it names, and its oneof: one more than the index, or 0.
-#[derive(Drop)]
+/// Where the bytes of a declaration lie in the set.
+#[derive(Clone, Copy)]
+pub struct Place {
+    pub start: u16,
+    pub end: u16,
+}
+
+/// A field of the set.
+#[derive(Clone, Copy)]
 pub struct FieldRow {
+    /// Is it boxed by a loop?
     pub looped: bool,
+    /// May it derive Copy?
     pub copy: bool,
+    /// May it derive Eq?
     pub eq: bool,
-    pub start: usize,
-    pub end: usize,
-    pub entry: usize,
-    pub entryend: usize,
-    pub oneof: usize,
+    /// Where its bytes lie.
+    pub place: Place,
+    /// Where those of the map entry lie that it names.
+    pub entry: Option<Place>,
+    /// The index of the oneof that it is in.
+    pub oneof: Option<u16>,
 }
 
-// The number that a table has at i, and 0 past its end.
-fn number_at(t: &[u16], i: usize) -> usize
-    ensures number { result ≡ number_at t.now i }
-    ensures bound { result < 65536 }
+/// What a table of messages has past its end.
+pub const NO_MESSAGE: MessageRow = MessageRow {
+    copy: false,
+    eq: false,
+    first: 0,
+    after: 0,
+};
+
+/// What a table of fields has past its end.
+pub const NO_FIELD: FieldRow = FieldRow {
+    looped: false,
+    copy: false,
+    eq: false,
+    place: Place { start: 0, end: 0 },
+    entry: None,
+    oneof: None,
+};
+
+/// Message `i` of a table.
+pub fn message_row(rows: &[MessageRow], i: usize) -> MessageRow
+    ensures { result ≡ message_row rows.now i }
 {
-    match t.get(i) {
-        Some(number) => usize::from(*number),
-        None => 0,
-    }
+    rows.get(i).copied().unwrap_or(NO_MESSAGE)
 }
 
-fn flag_at(t: &[u16], i: usize) -> bool
-    ensures { result ≡ flag_at t.now i }
+/// Field `k` of a table.
+pub fn field_row(rows: &[FieldRow], k: usize) -> FieldRow
+    ensures { result ≡ field_row rows.now k }
 {
-    number_at(t, i) != 0
+    rows.get(k).copied().unwrap_or(NO_FIELD)
 }
 
-/// The row of message `i`; nothing but false and 0 past the table's end.
-#[tactic(auto, unfolding(crate::specs::Rows::message_row, base::specs::Choose::choose))]
-pub fn message_row(t: &[u16], i: usize) -> MessageRow
-    ensures { (result ≡ message_row t.now i) × (result.first < 65536) × (result.after < 65536) }
-{
-    if i >= MOST_ROWS {
-        return MessageRow {
-            copy: false,
-            eq: false,
-            first: 0,
-            after: 0,
-        };
-    }
-    let at = i * 4;
-    MessageRow {
-        copy: flag_at(t, at),
-        eq: flag_at(t, at + 1),
-        first: number_at(t, at + 2),
-        after: number_at(t, at + 3),
-    }
-}
-
-/// The row of field `k`; nothing but false and 0 past the table's end.
-#[tactic(auto, unfolding(crate::specs::Rows::field_row, base::specs::Choose::choose))]
-pub fn field_row(t: &[u16], k: usize) -> FieldRow
-    ensures { result ≡ field_row t.now k }
-{
-    if k >= MOST_ROWS {
-        return FieldRow {
-            looped: false,
-            copy: false,
-            eq: false,
-            start: 0,
-            end: 0,
-            entry: 0,
-            entryend: 0,
-            oneof: 0,
-        };
-    }
-    let at = k * 8;
-    FieldRow {
-        looped: flag_at(t, at),
-        copy: flag_at(t, at + 1),
-        eq: flag_at(t, at + 2),
-        start: number_at(t, at + 3),
-        end: number_at(t, at + 4),
-        entry: number_at(t, at + 5),
-        entryend: number_at(t, at + 6),
-        oneof: number_at(t, at + 7),
+impl Place {
+    /// The bytes that lie there.
+    pub fn bytes_in(self, set: &[u8]) -> &[u8]
+        ensures { result.now ≡ place_bytes set.now self }
+    {
+        descriptor::part_of(set, usize::from(self.start), usize::from(self.end))
     }
 }
 
-/// The oneof of a field: one more than the index, or 0.
-#[tactic(auto, unfolding(crate::specs::Rows::field_row, base::specs::Choose::choose))]
-pub fn oneof_at(t: &[u16], k: usize) -> usize
-    ensures { result ≡ (field_row t.now k).oneof }
-{
-    if k >= MOST_ROWS {
-        return 0;
+impl FieldRow {
+    /// Is it in no oneof?
+    #[tactic(auto, unfolding(crate::specs::Rows::in_none))]
+    pub fn is_plain(&self) -> bool
+        ensures { result ≡ is_plain self.now }
+    {
+        self.oneof.is_none()
     }
-    number_at(t, k * 8 + 7)
+
+    /// Is it in the oneof with the index?
+    #[tactic(auto, unfolding(crate::specs::Rows::in_one))]
+    pub fn is_in(&self, index: usize) -> bool
+        ensures { result ≡ is_in index self.now }
+    {
+        match self.oneof {
+            Some(own) => usize::from(own) == index,
+            None => false,
+        }
+    }
 }

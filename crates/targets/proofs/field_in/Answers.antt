@@ -1,5 +1,5 @@
 use Rattle.field_columns.specs.Columns.{Kind, Label}
-use Rattle.context_tables.proofs.CellLaws.{set_read}
+use Rattle.context_tables.proofs.ReadLaws.{set_read}
 use Rattle.targets.proofs.TypeLaws.{target_read, column_read, made}
 use Rattle.targets.proofs.field_in.Goals as goal
 

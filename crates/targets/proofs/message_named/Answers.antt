@@ -1,12 +1,18 @@
-use borrow.Author.Tests.{lt-ltb, le-ltb}
-use Rattle.base.specs.Choose.{choose}
+use mathlib.Core.Path.{ap, ◌∙◌}
+use Prim.Native.Nat.{ℕ, ◌-◌}
+use Rattle.field_columns.specs.Columns.{byte_of}
+use Rattle.declarations.specs.Rows.{kind_number, row_at}
+use Rattle.declarations.specs.declared.Declaration.{Declaration}
+use Rattle.type_names.proofs.FindLaws.{found_gives}
 use Rattle.targets.specs.Targets.{message_named}
 use Rattle.targets.proofs.message_named.Goals as goal
 
-pub returns-then-row-count : goal.returns-then-row-count
-unfolding message_named choose
-returns-then-row-count c = rw (← c.find_row-row.ensures c.requires, lt-ltb _ _ c.if-row-count.true, ← c.row_at.ensures) c.number_of.ensures
+pub returns-in-Some : goal.returns-in-Some
+unfolding message_named
+returns-in-Some c =
+    c.number_of.ensures ∙ ap (λ (r : Declaration). byte_of (kind_number r.kind - 2)) c.row_at.ensures
+    ∙ (rw c.in-Some.is at (found_gives _ _ _ _ _ (λ (x : ℕ). byte_of (kind_number (row_at c.args.rows.now x).kind - 2)) 0 _ (c.find_row.ensures c.requires)))
 
-pub returns : goal.returns
-unfolding message_named choose
-returns c = rw (← c.find_row-row.ensures c.requires, le-ltb _ _ c.if-row-count.false)
+pub returns-in-None : goal.returns-in-None
+unfolding message_named
+returns-in-None c = rw c.in-None.is at (found_gives _ _ _ _ _ (λ (x : ℕ). byte_of (kind_number (row_at c.args.rows.now x).kind - 2)) 0 _ (c.find_row.ensures c.requires))

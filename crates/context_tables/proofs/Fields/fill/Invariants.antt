@@ -1,12 +1,6 @@
-use Prim.Native.Nat.{◌*◌, ◌/◌, ◌-◌, ◌<◌}
-use mathlib.Core.Path.{◌≡◌}
-use lib.ListN.{length}
 use Rattle.message_graph.specs.Tab.{Filled}
-use Rattle.context_tables.specs.Sources.{cell_of_field}
+use Rattle.context_tables.specs.Sources.{field_in}
 use Rattle.context_tables.proofs.Fields.fill.Given as goal
 
-abbrev pub invariant-loop-at : goal.invariant-loop-at
-invariant-loop-at l = record { filled : Filled (cell_of_field l.self) l.initial.t l.t l.at; whole : l.at < length l.initial.t → l.at ≡ l.at / 8 * 8 }
-
-abbrev pub decreases-loop-at : goal.decreases-loop-at
-decreases-loop-at l = length l.initial.t - l.at
+abbrev pub invariant-loop-k : goal.invariant-loop-k
+invariant-loop-k l = Filled (field_in l.self) l.initial.rows l.rows l.k
