@@ -14,6 +14,8 @@ use Rattle.options.specs.Settings.{Setting, settings}
 use Rattle.options.specs.Layout.{layout}
 use Rattle.name_rules.specs.FullNames.{package_scope}
 use Rattle.name_rules.specs.Answer.{names}
+use Rattle.text_tables.specs.declared.MessageRow.{MessageRow}
+use Rattle.text_tables.specs.declared.FieldRow.{FieldRow}
 use Rattle.index.specs.Tree.{size}
 use Rattle.context_laws.specs.At.{At}
 use Rattle.context_laws.specs.At.At.{first, next}
@@ -43,7 +45,7 @@ file_is [] x = refl
 file_is (p ∷ ps) zero = refl
 file_is (p ∷ ps) (suc x) = file_is ps x
 
-module _ (set messages t : List ℕ) where
+module _ (set : List ℕ) (messages : List MessageRow) (t : List FieldRow) where
   pub behind_is : (left : ℕ) (scope : Bytes) (i : ℕ) (ps : List Bytes) → Numbered (NodeSays set messages t) scope i (decode_messages (suc left) ps) → behind messages (length ps) i ≡ i + size (decode_messages (suc left) ps)
   unfolding decode_messages behind size
   behind_is left scope i [] h = omega arith
@@ -85,7 +87,7 @@ abbrev faults_of : List Setting → FileDescriptor → Faults
 faults_of rs f = record { overlap = variants_overlap rs f; default = defaults_fail rs f }
 
 -- the file with the index, of a set within the limits, without refusals 6 and 7
-module _ (rs : List Setting) (set messages t : List ℕ) (passed : limit_passed set ≡ 0) (good : names (decode_set set) ≡ Ok tt) (says : Says rs set messages t)
+module _ (rs : List Setting) (set : List ℕ) (messages : List MessageRow) (t : List FieldRow) (passed : limit_passed set ≡ 0) (good : names (decode_set set) ≡ Ok tt) (says : Says rs set messages t)
     (file : ℕ) (there : file < length (parts 1 (entries set))) where
   abbrev part_of : Bytes
   part_of = part_at (parts 1 (entries set)) file

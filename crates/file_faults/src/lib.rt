@@ -1,205 +1,203 @@
 //! Refusals 8 and 9 of a file.
 #![tactic(auto)]
 
-ghost use Rattle.std.specs.Prelude.{◌≡◌, ◌||◌, ◌+◌, ◌-◌, ◌≤◌, ◌<◌, ◌^◌};
+ghost use Rattle.std.specs.Prelude.{◌≡◌, leb, length, ◌||◌, ◌+◌, ◌-◌, ◌≤◌, ◌<◌, ◌^◌};
 ghost use Rattle.base.specs.Lists.{any};
+ghost use Rattle.field_types.specs.Types.{sort_of, bytes};
 ghost use Rattle.descriptor.specs.Decode.{entries, parts};
-ghost use Rattle.descriptor.specs.Views.{text_of};
-ghost use Rattle.options.specs.Settings.{settings};
-ghost use Rattle.members.specs.Members.{map_entry_at, numbers_with};
+ghost use Rattle.descriptor.specs.Seen.{text_seen};
+ghost use Rattle.text_tables.specs.Rows.{is_plain};
+ghost use Rattle.members.specs.Members.{map_entry_at, numbers_where};
 ghost use Rattle.code_generator.specs.Refusals.{is_given, given_fails};
 ghost use Rattle.file_faults.specs.FileFaults.{no_faults, ◌or◌, default_fails_at, enums_meet, own_faults, message_faults, messages_faults, faults_of_file};
 
-use descriptor::Text;
-use joined::MAX_PATH;
+use context::Context;
+use descriptor::field_number::{
+    FILE_ENUM_TYPE, FILE_MESSAGE_TYPE, MESSAGE_ENUM_TYPE, MESSAGE_FIELD, MESSAGE_NESTED_TYPE,
+};
+use enum_text::overlap::enum_overlaps;
+use extern_paths::resolve::takes;
+use joined::FullName;
+use members::{Message, field_at, is_entry};
 use options::Options;
 use parts::Parts;
+use std::ops::Range;
+use text_tables::{field_row, message_row};
 
 /// Variants of a written enum overlap (8); a bytes default to be written doesn't unescape (9).
-#[derive(Drop)]
+#[derive(Clone, Copy)]
 pub struct Faults {
     pub overlap: bool,
     pub default: bool,
 }
 
-fn no_faults() -> Faults
-    ensures { result ≡ no_faults }
-{
-    Faults {
-        overlap: false,
-        default: false,
-    }
-}
+const NO_FAULTS: Faults = Faults {
+    overlap: false,
+    default: false,
+};
 
-// Those of one or the other.
-fn or(x: Faults, y: Faults) -> Faults
-    ensures { result ≡ (x or y) }
-{
-    Faults {
-        overlap: x.overlap || y.overlap,
-        default: x.default || y.default,
+impl Faults {
+    // Those of one or the other.
+    fn or(self, other: Faults) -> Faults
+        ensures { result ≡ (self or other) }
+    {
+        Faults {
+            overlap: self.overlap || other.overlap,
+            default: self.default || other.default,
+        }
     }
 }
 
 // Do variants overlap in one of the enums with this field number?
 #[tactic(auto, unfolding(base::specs::Lists::any))]
-fn enums_meet(s: &[u8], number: u64, o: &[u8], scope: &[u8]) -> bool
-    ensures { result ≡ enums_meet (settings o.now) scope.now (parts number (entries s.now)) }
+fn enums_meet(part: &[u8], number: u64, options: &Options<'_>, scope: &[u8]) -> bool
+    ensures { result ≡ enums_meet options.now scope.now (parts number (entries part.now)) }
 {
-    let options = Options::new(o);
-    Parts::new(s, number).any(|part| enum_text::overlap::enum_overlaps(part, &options, scope))
+    Parts::new(part, number).any(|part| enum_overlaps(part, options, scope))
+}
+
+// Has it the two fields of a map entry?
+fn is_map(entry: &[u8]) -> bool
+    ensures { result ≡ leb 2 (length (parts 2 (entries entry.now))) }
+{
+    2 <= Parts::new(entry, MESSAGE_FIELD).count()
 }
 
 // Does field k name a map entry?
-fn is_map(set: &[u8], t: &[u16], k: usize) -> bool
-    ensures { result ≡ is_given (map_entry_at set.now t.now k) }
+#[tactic(auto, unfolding(members::specs::Members::entry_at), using(crate::proofs::FieldLaws::given_by_two))]
+fn names_map(context: &Context<'_>, k: usize) -> bool
+    ensures { result ≡ is_given (map_entry_at context.now.set context.now.fields k) }
 {
-    let row = text_tables::field_row(t, k);
-    if row.entryend == 0 {
-        return false;
+    match field_row(context.fields, k).entry {
+        Some(entry) => is_map(entry.bytes_in(context.set)),
+        None => false,
     }
-    let p = descriptor::part_of(set, row.entry, row.entryend);
-    let n = parts::count_parts(p, 2);
-    !(n < 2)
 }
 
 // Does a default, where it is given, not unescape?
-fn given_fails(set: &[u8], v: Text) -> bool
-    ensures { result ≡ given_fails (text_of set.now v) }
+fn given_fails(default: Option<&[u8]>) -> bool
+    ensures { result ≡ given_fails (text_seen default.entry) }
 {
-    if v.given {
-        let good = c_escaping::unescapes(name_rules::text_bytes(set, v));
-        return !good;
+    match default {
+        Some(text) => !c_escaping::unescapes(text),
+        None => false,
     }
-    false
 }
 
 // Does the bytes default of field k not unescape?
-fn default_fails_at(set: &[u8], t: &[u16], k: usize) -> bool
-    ensures { result ≡ default_fails_at set.now t.now k }
+#[tactic(auto, unfolding(crate::specs::FileFaults::default_fails_at))]
+fn default_fails_at(context: &Context<'_>, k: usize) -> bool
+    ensures { result ≡ default_fails_at context.now.set context.now.fields k }
 {
-    let map = is_map(set, t, k);
-    if map {
+    if names_map(context, k) {
         return false;
     }
-    let f = members::field_at(set, t, k);
-    let sort = accessors::sort(set, f);
-    if sort == b'y' {
-        let v = f.default;
-        return given_fails(set, v);
-    }
-    false
+    let field = field_at(context, k);
+    field.sort() == b'y' && given_fails(field.default_value)
 }
 
-// Does one of the fields from first on, and before last, that are in no oneof?
-fn defaults_fail(set: &[u8], t: &[u16], first: usize, last: usize) -> bool
-    ensures { result ≡ any (default_fails_at set.now t.now) (numbers_with t.now 0 (last - first) first) }
+// Does that of one of the fields that are in no oneof?
+fn defaults_fail(context: &Context<'_>, fields: &Range<usize>) -> bool
+    ensures { result ≡ any (default_fails_at context.now.set context.now.fields) (numbers_where is_plain context.now.fields (fields.now.end - fields.now.start) fields.now.start) }
 {
-    let mut k = first;
-    while k < last {
-        let row = text_tables::field_row(t, k);
-        let number = k;
-        k = k + 1;
-        if row.oneof == 0 {
-            let fails = default_fails_at(set, t, number);
-            if fails {
-                return true;
-            }
-        }
-    }
-    false
+    (fields.start..fields.end).any(|k| field_row(context.fields, k).is_plain()
+        && default_fails_at(context, k))
 }
 
-// Message i alone, whose part p is.
-fn own_faults(
-    set: &[u8],
-    o: &[u8],
-    messages: &[u16],
-    t: &[u16],
-    full: &[u8],
-    i: usize,
-    p: &[u8],
-) -> Faults
-    ensures { result ≡ own_faults (settings o.now) set.now messages.now t.now full.now i p.now }
+// A message alone.
+#[tactic(auto, unfolding(crate::specs::FileFaults::own_faults))]
+fn own_faults(context: &Context<'_>, message: &Message<'_>) -> Faults
+    ensures { result ≡ own_faults context.now.options context.now.set context.now.messages context.now.fields message.now.full message.now.number message.now.part }
 {
-    let overlap = enums_meet(p, 4, o, full);
-    let range = members::fields_of(messages, i, p);
-    let default = defaults_fail(set, t, range.first, range.last);
+    let overlap = enums_meet(
+        message.part,
+        MESSAGE_ENUM_TYPE,
+        &context.options,
+        message.full,
+    );
+    let default = defaults_fail(context, &message.fields(context.messages));
     Faults { overlap, default }
 }
 
-// With those nested in it, so many levels: what is not written has none.
+// A message with those nested in it, so many levels: what is not written has none.
+#[tactic(auto, unfolding(crate::specs::FileFaults::message_faults, base::specs::Choose::choose), using(crate::proofs::WalkLaws::first_nested))]
 #[cycle(message_faults_messages_faults)]
 fn message_faults(
-    set: &[u8],
-    o: &[u8],
-    messages: &[u16],
-    t: &[u16],
+    context: &Context<'_>,
     scope: &[u8],
-    i: usize,
-    p: &[u8],
+    number: usize,
+    part: &[u8],
     left: usize,
 ) -> Faults
-    requires { (i + left < 2 ^ 33) × (left ≤ 16) }
-    ensures { result ≡ message_faults (settings o.now) set.now messages.now t.now (messages_faults (settings o.now) set.now messages.now t.now left) scope.now i p.now }
+    requires { (number + left < 2 ^ 33) × (left ≤ 16) }
+    ensures { result ≡ message_faults context.now.options context.now.set context.now.messages context.now.fields (messages_faults context.now.options context.now.set context.now.messages context.now.fields left) scope.now number part.now }
 {
-    let entry = members::is_entry(p);
-    if entry {
-        return no_faults();
+    if is_entry(part) {
+        return NO_FAULTS;
     }
-    let mut full = [0u8; MAX_PATH];
-    let n = joined::path_in(&mut full, scope, joined::name_of(p));
-    let taken = extern_paths::resolve::is_taken(o, &full[0..n]);
-    if taken {
-        return no_faults();
+    let full = FullName::new(scope, joined::name_of(part));
+    let full = full.as_bytes();
+    if takes(&context.options, full) {
+        return NO_FAULTS;
     }
-    let own = own_faults(set, o, messages, t, &full[0..n], i, p);
-    let first = i + 1;
-    let nested = messages_faults(set, o, messages, t, &full[0..n], first, p, 3, left);
-    or(own, nested)
+    let message = Message {
+        part,
+        number,
+        full,
+        nested: left != 0,
+    };
+    let own = own_faults(context, &message);
+    let nested = messages_faults(
+        context,
+        full,
+        number + 1,
+        Parts::new(part, MESSAGE_NESTED_TYPE),
+        left,
+    );
+    own.or(nested)
 }
 
-// The messages with this field number in a scope, the first with the number i; so many levels.
+// Messages in a scope, the first with the number `first`; so many levels.
 #[cycle(message_faults_messages_faults)]
 fn messages_faults(
-    set: &[u8],
-    o: &[u8],
-    messages: &[u16],
-    t: &[u16],
+    context: &Context<'_>,
     scope: &[u8],
-    i: usize,
-    s: &[u8],
-    number: u64,
+    first: usize,
+    messages: Parts<'_>,
     left: usize,
 ) -> Faults
-    requires { (i + left ≤ 2 ^ 33) × (left ≤ 16) }
-    ensures { result ≡ messages_faults (settings o.now) set.now messages.now t.now left scope.now i (parts number (entries s.now)) }
+    requires { (first + left ≤ 2 ^ 33) × (left ≤ 16) }
+    ensures { result ≡ messages_faults context.now.options context.now.set context.now.messages context.now.fields left scope.now first messages.entry }
 {
-    let mut found = no_faults();
+    let mut found = NO_FAULTS;
     if left == 0 {
         return found;
     }
-    let mut k = i;
-    for p in Parts::new(s, number) {
-        let own = message_faults(set, o, messages, t, scope, k, p, left - 1);
-        found = or(found, own);
-        k = text_tables::message_row(messages, k).after;
+    let mut number = first;
+    for part in messages {
+        found = found.or(message_faults(context, scope, number, part, left - 1));
+        number = usize::from(message_row(context.messages, number).after);
     }
     found
 }
 
-/// The file whose part p is; its first message has the number i.
-pub fn file_faults(set: &[u8], o: &[u8], messages: &[u16], t: &[u16], i: u32, p: &[u8]) -> Faults
-    ensures { result ≡ faults_of_file (settings o.now) set.now messages.now t.now i p.now }
+/// A file whose first message has the number `first`.
+#[tactic(auto, unfolding(crate::specs::FileFaults::faults_of_file))]
+pub fn file_faults(context: &Context<'_>, first: u32, part: &[u8]) -> Faults
+    ensures { result ≡ faults_of_file context.now.options context.now.set context.now.messages context.now.fields first part.now }
 {
-    let mut scope = [0u8; MAX_PATH];
-    let n = joined::package_in(&mut scope, p);
-    let first = i as usize;
-    let found = messages_faults(set, o, messages, t, &scope[0..n], first, p, 4, 16);
-    let overlap = enums_meet(p, 5, o, &scope[0..n]);
-    let enums = Faults {
+    let scope = FullName::package(part);
+    let scope = scope.as_bytes();
+    let found = messages_faults(
+        context,
+        scope,
+        first as usize,
+        Parts::new(part, FILE_MESSAGE_TYPE),
+        16,
+    );
+    let overlap = enums_meet(part, FILE_ENUM_TYPE, &context.options, scope);
+    found.or(Faults {
         overlap,
         default: false,
-    };
-    or(found, enums)
+    })
 }

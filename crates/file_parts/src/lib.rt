@@ -6,13 +6,15 @@ ghost use Rattle.std.specs.Option.{option_copied};
 ghost use Rattle.descriptor.specs.Decode.{entries, parts};
 ghost use Rattle.file_parts.specs.FileParts.{part_at, behind, first_number};
 
+use descriptor::field_number::{FILE_MESSAGE_TYPE, SET_FILE};
 use parts::Parts;
+use text_tables::MessageRow;
 
 // The bytes of the file with the index.
 fn nth_file(set: &[u8], file: usize) -> Option<&[u8]>
     ensures { option_copied result ≡ slice_get (parts 1 (entries set.now)) file }
 {
-    Parts::new(set, 1).nth(file)
+    Parts::new(set, SET_FILE).nth(file)
 }
 
 /// The bytes of the file with the index; none where there is no such file.
@@ -26,28 +28,26 @@ pub fn file_part(set: &[u8], file: usize) -> &[u8]
     }
 }
 
-/// The number behind n messages, the first of which is message i.
-pub fn behind(messages: &[u16], n: usize, i: usize) -> usize
-    ensures { (result ≡ behind messages.now n i) × (i < 65536 → result < 65536) }
+/// The number behind `count` messages and those nested in them; `first` is the number of the first.
+#[tactic(auto, using(crate::proofs::PlaceLaws::behind_more), unfolding(crate::specs::FileParts::behind))]
+pub fn behind(messages: &[MessageRow], count: usize, first: usize) -> usize
+    ensures { (result ≡ behind messages.now count first) × (first < 65536 → result < 65536) }
 {
-    let mut left = n;
-    let mut k = i;
-    while 0 < left {
-        let row = text_tables::message_row(messages, k);
-        k = row.after;
-        left = left - 1;
+    let mut number = first;
+    for _ in 0..count {
+        number = usize::from(text_tables::message_row(messages, number).after);
     }
-    k
+    number
 }
 
 /// The number of the first message of the file with the index.
 #[tactic(auto, unfolding(crate::specs::FileParts::first_number))]
-pub fn first_number(messages: &[u16], set: &[u8], file: usize) -> usize
+pub fn first_number(messages: &[MessageRow], set: &[u8], file: usize) -> usize
     ensures { result ≡ first_number messages.now 0 (parts 1 (entries set.now)) file }
 {
     let mut first = 0;
-    for part in Parts::new(set, 1).take(file) {
-        first = behind(messages, parts::count_parts(part, 4), first);
+    for part in Parts::new(set, SET_FILE).take(file) {
+        first = behind(messages, parts::count_parts(part, FILE_MESSAGE_TYPE), first);
     }
     first
 }

@@ -8,29 +8,31 @@ use mathlib.Core.List.{List, [], ◌∷◌, ◌++◌, map, append_assoc}
 use Rattle.base.specs.Choose.{choose, choose_case}
 use Rattle.base.specs.Lists.{any, all_of, count, is_empty, Every, every_append, map_length}
 use Rattle.writer.specs.Text.{pick}
-use Rattle.ident.specs.Name.{is_name}
 use Rattle.ident.specs.Ident.{to_snake, to_upper_camel}
 use Rattle.ident.proofs.Sizes.{snake_fits, camel_fits}
 use Rattle.ident.proofs.Written.{snake_written, camel_written}
 use Rattle.descriptor.specs.Descriptor.{Bytes, Forest, FieldDescriptor, MessageDescriptor}
-use Rattle.descriptor.specs.Decode.{entries, parts, decode_field, decode_oneof, decode_message}
+use Rattle.descriptor.specs.Decode.{entries, parts, decode_oneof, decode_message}
 use Rattle.options.specs.Settings.{Setting}
 use Rattle.name_rules.specs.Accessors.{text}
 use Rattle.name_rules.specs.FullNames.{◌·◌}
 use Rattle.name_rules.specs.WellFormed.{Named, GoodMessage}
 use Rattle.path_fits.specs.PathsFit.{max_short_name, OneofFits, MessageFits}
-use Rattle.text_tables.specs.Rows.{message_row}
+use Rattle.text_tables.specs.Rows.{is_plain as row_is_plain, is_in}
+use Rattle.text_tables.specs.declared.MessageRow.{MessageRow}
+use Rattle.text_tables.specs.declared.FieldRow.{FieldRow}
 use Rattle.members.specs.Members.{members}
 use Rattle.code_generator.specs.Refusals.{overlap}
 use Rattle.code_generator.specs.Oneofs.{oneof_of, is_plain, is_at, plain_fields, fields_at, OneofField, oneofs_from, oneof_fields}
 use Rattle.text_laws.specs.Pairwise.{Pairwise, pairwise_empty}
 use Rattle.text_laws.specs.Pairwise.Pairwise.{nil, cons}
 use Rattle.text_laws.specs.Described.{FieldIs, MessageIs}
-use Rattle.text_laws.proofs.MemberLaws.{plain_numbers, oneof_numbers}
+use Rattle.text_laws.proofs.MemberLaws.{plain_members, oneof_members}
 use Rattle.text_laws.proofs.OneofLaws.{oneof_at, walked_is}
 use Rattle.name_check.specs.NameCheck.{member_names, variant_names, members_meet}
 use Rattle.name_rows.specs.Rows.{row, place_row, rows_of}
 use Rattle.name_rows.proofs.RowLaws.{written_plain, nowhere}
+use Rattle.place_laws.specs.HeldPlaces.{named_text}
 use Rattle.place_laws.specs.PlaceCount.{from_on, later, oneofs_later}
 use Rattle.member_rows.specs.MemberRows.{name_row, field_rows, rows_overlap, oneof_row, oneof_rows, struct_meets, oneofs_meet, own_meet}
 use Rattle.member_laws.specs.RootRows.{Fine}
@@ -93,9 +95,6 @@ members_few m nested =
     omega arith
 
 -- ---- names fit
-named_text : (o : Option Bytes) → Named o → is_name (text o) ≡ true
-named_text o n = rw n.there n.good.identifier
-
 snake_fine : (o : Option Bytes) → Named o → length (text o) ≤ max_short_name → Fine (to_snake (text o))
 snake_fine o n l =
     let k = snake_fits (text o) (named_text o n) l in
@@ -114,7 +113,7 @@ oneofs_fine full m nested i (n ∷ ns) good fit =
     choose_case (Every (λ (x : OneofField). Fine (to_snake x.name))) (is_empty (fields_at i m.fields)) (λ _. rest) (λ _. (snake_fine n good.0 fit.0.own.short, rest))
 
 -- ---- the fields of the table
-field_rows_are : (rs : List Setting) (set messages t : List ℕ) (full : Bytes) (nested : Forest MessageDescriptor) (camel : Bool) {ks : List ℕ} {fs : List FieldDescriptor} → Pairwise (FieldIs rs set messages t full nested) ks fs
+field_rows_are : (rs : List Setting) (set : List ℕ) (messages : List MessageRow) (t : List FieldRow) (full : Bytes) (nested : Forest MessageDescriptor) (camel : Bool) {ks : List ℕ} {fs : List FieldDescriptor} → Pairwise (FieldIs rs set messages t full nested) ks fs
     → field_rows set t camel ks ≡ rows_of (map nowhere (map (λ (f : FieldDescriptor). choose camel (to_upper_camel (text f.name)) (to_snake (text f.name))) fs))
 unfolding field_rows name_row all_of
 field_rows_are rs set messages t full nested camel nil = refl
@@ -129,7 +128,7 @@ left_out [] x e rest = refl
 left_out (f ∷ fs) x e rest = rw e refl
 
 -- ---- the message
-module _ (rs : List Setting) (set messages t : List ℕ) (scope : Bytes) (nested : Forest MessageDescriptor) (i : ℕ) (p : Bytes) (fit : MessageFits scope (decode_message p))
+module _ (rs : List Setting) (set : List ℕ) (messages : List MessageRow) (t : List FieldRow) (scope : Bytes) (nested : Forest MessageDescriptor) (i : ℕ) (p : Bytes) (fit : MessageFits scope (decode_message p))
     (has : MessageIs rs set messages t (scope · text (decode_message p).name) (decode_message p) nested i) (good : GoodMessage (decode_message p)) (few : length (decode_message p).fields ≤ 2048) (room : ℕ) (enough : 786432 ≤ room) where
   abbrev m : MessageDescriptor
   m = decode_message p
@@ -137,13 +136,11 @@ module _ (rs : List Setting) (set messages t : List ℕ) (scope : Bytes) (nested
   abbrev full : Bytes
   full = scope · text m.name
 
-  plain_of : Pairwise (FieldIs rs set messages t full nested) (members messages t 0 i p) (plain_fields m.fields)
-  unfolding decode_message
-  plain_of = rw (← (map_length decode_field (parts 2 (entries p)))) (plain_numbers t (λ k f v. v.oneof) (message_row messages i).first m.fields has.fields)
+  plain_of : Pairwise (FieldIs rs set messages t full nested) (members row_is_plain messages t i p) (plain_fields m.fields)
+  plain_of = plain_members t (λ k f v. v.oneof) messages i p has.fields
 
-  fields_of : (x : ℕ) → Pairwise (FieldIs rs set messages t full nested) (members messages t (suc x) i p) (fields_at x m.fields)
-  unfolding decode_message
-  fields_of x = rw (← (map_length decode_field (parts 2 (entries p)))) (oneof_numbers t (λ k f v. v.oneof) x (message_row messages i).first m.fields has.fields)
+  fields_of : (x : ℕ) → Pairwise (FieldIs rs set messages t full nested) (members (is_in x) messages t i p) (fields_at x m.fields)
+  fields_of = oneof_members t (λ k f v. v.oneof) messages i p has.fields
 
   oneof_is : (x : ℕ) (q : Bytes) → OneofFits full m (decode_oneof q) → oneof_row messages t i p x q ≡ pick (is_empty (fields_at x m.fields)) [] (place_row (nowhere (to_snake (oneof_at m nested x (decode_oneof q)).name)))
   unfolding oneof_row name_row choose
@@ -172,7 +169,7 @@ module _ (rs : List Setting) (set messages t : List ℕ) (scope : Bytes) (nested
       ∙ sym (rows_join (map (λ (f : FieldDescriptor). to_snake (text f.name)) (plain_fields m.fields)) (map (λ (x : OneofField). to_snake x.name) (oneof_fields m nested))))
       ∙ rows_overlap_is room (member_names m nested) names_fine (omega arith)
 
-  variants_are : (x : ℕ) → rows_overlap room (field_rows set t true (members messages t (suc x) i p)) ≡ overlap (map (λ (f : FieldDescriptor). to_upper_camel (text f.name)) (fields_at x m.fields))
+  variants_are : (x : ℕ) → rows_overlap room (field_rows set t true (members (is_in x) messages t i p)) ≡ overlap (map (λ (f : FieldDescriptor). to_upper_camel (text f.name)) (fields_at x m.fields))
   unfolding choose
   variants_are x =
       let h = fields_few x m.fields in
@@ -184,7 +181,7 @@ module _ (rs : List Setting) (set messages t : List ℕ) (scope : Bytes) (nested
       (every_zip (λ f g h. camel_fine f.name g.named h.short) m.fields good.fields fit.fields)))
       (omega arith)
 
-  oneofs_are : (x : ℕ) (qs : List Bytes) → oneofs_meet room set messages t i p (length qs) (suc x) ≡ any (λ (y : OneofField). overlap (variant_names y)) (oneofs_from m nested x (map decode_oneof qs))
+  oneofs_are : (x : ℕ) (qs : List Bytes) → oneofs_meet room set messages t i p (length qs) x ≡ any (λ (y : OneofField). overlap (variant_names y)) (oneofs_from m nested x (map decode_oneof qs))
   unfolding oneofs_meet oneofs_from any
   oneofs_are x [] = refl
   oneofs_are x (q ∷ qs) =

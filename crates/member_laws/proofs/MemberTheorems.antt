@@ -24,6 +24,8 @@ use Rattle.path_fits.specs.PathsFit.{max_scope, MessageFits, FileFits}
 use Rattle.path_fits.proofs.FitLaws.{set_fits}
 use Rattle.table_says.specs.Says.{Numbered, NumberedFiles, NodeSays, Says}
 use Rattle.text_tables.specs.Rows.{message_row}
+use Rattle.text_tables.specs.declared.MessageRow.{MessageRow}
+use Rattle.text_tables.specs.declared.FieldRow.{FieldRow}
 use Rattle.code_generator.specs.Refusals.{any_message}
 use Rattle.limit_facts.specs.Within.{within}
 use Rattle.file_parts.specs.FileParts.{behind}
@@ -57,7 +59,7 @@ unfolding choose
 left_out true x = refl
 left_out false x = refl
 
-module _ (rs : List Setting) (set messages t : List ℕ) (room : ℕ) (enough : 786432 ≤ room) where
+module _ (rs : List Setting) (set : List ℕ) (messages : List MessageRow) (t : List FieldRow) (room : ℕ) (enough : 786432 ≤ room) where
   abbrev test : Bytes → MessageDescriptor → Forest MessageDescriptor → Bool
   test full m nested = members_meet m nested
 

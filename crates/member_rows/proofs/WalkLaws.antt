@@ -1,10 +1,7 @@
 -- Messages whose names meet, one message on. Assumes nothing.
-use Prim.Native.Nat.{ℕ, zero, suc, ◌+◌, ◌-◌}
-use mathlib.Core.Path.{◌≡◌, refl, sym, ap, ◌∙◌}
-use mathlib.Core.Bool.{Bool, true, false}
-use mathlib.Core.List.{List, [], ◌∷◌}
-use native.Mathlib.Numerals.{add-one, sub-one}
-use lib.ListN.{length, take}
+use Rattle.std.specs.Prelude.{◌≡◌, refl, ℕ, zero, suc, ◌+◌, ◌-◌, Bool, true, false, List, [], ◌∷◌, length, take}
+use Rattle.std.proofs.Common.{sym, ap, ◌∙◌, add-one}
+use native.Mathlib.Numerals.{sub-one}
 use Rattle.base.specs.Choose.{choose}
 use Rattle.descriptor.specs.Descriptor.{Bytes}
 use Rattle.descriptor.specs.Decode.{entries, parts, decode_message, decode_file}
@@ -13,21 +10,13 @@ use Rattle.extern_paths.specs.ExternPaths.{taken}
 use Rattle.name_rules.specs.FullNames.{package_scope}
 use Rattle.joined.specs.Joined.{max_path, ◌⊙◌}
 use Rattle.text_tables.specs.Rows.{message_row}
+use Rattle.text_tables.specs.declared.MessageRow.{MessageRow}
+use Rattle.text_tables.specs.declared.FieldRow.{FieldRow}
 use Rattle.members.specs.Members.{name_in}
 use Rattle.file_parts.specs.FileParts.{behind}
-use Rattle.member_rows.specs.MemberRows.{struct_meets, oneofs_meet, own_meet, message_meets, meet_of, messages_meet, file_meets, files_meet}
+use Rattle.member_rows.specs.MemberRows.{own_meet, message_meets, meet_of, messages_meet, file_meets, files_meet}
 
--- ---- one message alone. now: the room in the buffer as it is lent on
-module _ (room : ℕ) (set messages t : List ℕ) (i : ℕ) (p : Bytes) (s : Bool) (es : s ≡ struct_meets room set messages t i p) where
-  pub struct_hit : s ≡ true → true ≡ own_meet room set messages t i p
-  unfolding own_meet
-  struct_hit h = rw (← es, h) refl
-
-  pub struct_miss : s ≡ false → (now : ℕ) → now ≡ room → (z : Bool) → z ≡ oneofs_meet now set messages t i p (length (parts 8 (entries p))) 1 → z ≡ own_meet room set messages t i p
-  unfolding own_meet
-  struct_miss h now en z ez = rw (← es, h, ← en) ez
-
-module _ (rs : List Setting) (room : ℕ) (set messages t : List ℕ) where
+module _ (rs : List Setting) (room : ℕ) (set : List ℕ) (messages : List MessageRow) (t : List FieldRow) where
   -- ---- with those nested in it
   module _ (left : ℕ) (scope : Bytes) (i : ℕ) (p : Bytes) (u : Bool) (eu : u ≡ (decode_message p).map_entry) where
     abbrev whole : Bool
@@ -37,19 +26,19 @@ module _ (rs : List Setting) (room : ℕ) (set messages t : List ℕ) where
     unfolding message_meets choose
     meets_entry h = rw (← eu, h)
 
-    module _ (h : u ≡ false) (full : Bytes) (ef : full ≡ scope ⊙ name_in p) (v : Bool) (ev : v ≡ taken rs full) where
+    module _ (h : u ≡ false) (name : Bytes) (en : name ≡ name_in p) (v : Bool) (ev : v ≡ taken rs (scope ⊙ name)) where
       pub meets_taken : v ≡ true → false ≡ whole
       unfolding message_meets choose
-      meets_taken k = rw (← eu, h, ← ef, ← ev, k)
+      meets_taken k = rw (← eu, h, ← en, ← ev, k)
 
       module _ (k : v ≡ false) (own : Bool) (eo : own ≡ own_meet room set messages t i p) where
         pub meets_own : own ≡ true → true ≡ whole
         unfolding message_meets choose
-        meets_own q = rw (← eu, h, ← ef, ← ev, k, ← eo, q)
+        meets_own q = rw (← eu, h, ← en, ← ev, k, ← eo, q)
 
-        pub meets_nested : own ≡ false → (now : ℕ) → now ≡ room → (z : Bool) → z ≡ messages_meet rs now set messages t left full (i + 1) (parts 3 (entries p)) → z ≡ whole
+        pub meets_nested : own ≡ false → (now : ℕ) → now ≡ room → (z : Bool) → z ≡ messages_meet rs now set messages t left (scope ⊙ name) (i + 1) (parts 3 (entries p)) → z ≡ whole
         unfolding message_meets choose
-        meets_nested q now en z ez = rw (← eu, h, ← ef, ← ev, k, ← eo, q, ← en, ← add-one) ez
+        meets_nested q now er z ez = rw (← eu, h, ← en, ← ev, k, ← eo, q, ← er, ← add-one) ez
 
   -- one level of messages
   level : (left : ℕ) (scope : Bytes) (i : ℕ) (ps : List Bytes) → (left ≡ 0 → ⊥)

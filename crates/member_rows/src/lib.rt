@@ -1,258 +1,201 @@
 //! Names of a struct's members, and of a oneof's variants, that are the same. They are laid as rows into a lent buffer.
 #![tactic(auto)]
 
-ghost use Rattle.std.specs.Prelude.{◌≡◌, true, false, [], ◌+◌, ◌-◌, ◌≤◌, ◌<◌, ◌^◌, length};
-ghost use Rattle.base.specs.Choose.{choose};
-ghost use Rattle.base.specs.Lists.{is_empty};
-ghost use Rattle.writer.specs.Wrote.{Wrote};
+ghost use Rattle.std.specs.Prelude.{◌≡◌, ◌+◌, ◌-◌, ◌≤◌, ◌<◌, ◌^◌, true, length, List, ℕ};
+ghost use Rattle.std.specs.Borrow.{MutBor};
+ghost use Rattle.writer.specs.Writing.{◌▻◌, start};
 ghost use Rattle.descriptor.specs.Decode.{entries, parts};
-ghost use Rattle.options.specs.Settings.{settings};
-ghost use Rattle.members.specs.Members.{name_in, numbers_with};
-ghost use Rattle.member_rows.specs.MemberRows.{name_row, field_rows, rows_overlap, oneof_rows, struct_meets, oneofs_meet, own_meet, message_meets, messages_meet, file_meets, set_meets};
+ghost use Rattle.text_tables.specs.Rows.{is_in};
+ghost use Rattle.members.specs.Members.{numbers_where};
+ghost use Rattle.member_rows.specs.MemberRows.{chosen, rows_by, field_rows, rows_overlap, oneof_rows, struct_meets, oneofs_meet, own_meet, message_meets, messages_meet, file_meets, set_meets};
 
-use joined::MAX_PATH;
+use context::Context;
+use descriptor::field_number::{
+    FILE_MESSAGE_TYPE, MESSAGE_NESTED_TYPE, MESSAGE_ONEOF_DECL, SET_FILE,
+};
+use extern_paths::resolve::takes;
+use joined::FullName;
+use members::Message;
+use name_rows::{Spelling, put_row};
 use parts::Parts;
+use std::ops::Range;
+use text_tables::FieldRow;
+use writer::Text;
 
-// The row of a name: a variant's is camel, a struct's member's snake.
-fn put_name(t: &mut [u8], at: usize, camel: bool, name: &[u8]) -> usize
-    ensures { Wrote t.old at (name_row camel name.now) t.new result }
+// Is the field in the oneof with the index, or else in none?
+fn is_member(row: &FieldRow, oneof: Option<usize>) -> bool
+    ensures { result ≡ chosen oneof row.now }
 {
-    if camel {
-        return name_rows::put_camel_row(t, at, b"", name);
+    match oneof {
+        Some(index) => row.is_in(index),
+        None => row.is_plain(),
     }
-    name_rows::put_snake_row(t, at, b"", name)
 }
 
-// Those of the fields from `first` on, below `last`, of the oneof c: one more than its index, or 0 for none.
+// The rows of the fields in a range that are in the oneof with the index, or else in none.
 fn put_fields(
-    t: &mut [u8],
-    at: usize,
-    set: &[u8],
-    fields: &[u16],
-    camel: bool,
-    c: usize,
-    first: usize,
-    last: usize,
-) -> usize
-    ensures { Wrote t.old at (field_rows set.now fields.now camel (numbers_with fields.now c (last - first) first)) t.new result }
+    text: &mut Text<'_>,
+    context: &Context<'_>,
+    spelling: Spelling,
+    oneof: Option<usize>,
+    fields: Range<usize>,
+)
+    ensures { text.new ≡ text.old ▻ rows_by spelling context.now.set context.now.fields (numbers_where (chosen oneof) context.now.fields (fields.end - fields.start) fields.start) }
 {
-    let mut a = at;
-    let mut next = first;
-    while next < last {
-        let k = next;
-        next = k + 1;
-        let row = text_tables::field_row(fields, k);
-        if row.oneof == c {
-            let f = members::field_at(set, fields, k);
-            a = put_name(t, a, camel, accessors::name(set, f));
+    for k in fields.start..fields.end {
+        if is_member(&text_tables::field_row(context.fields, k), oneof) {
+            put_row(text, b"", spelling, members::field_at(context, k).name());
         }
     }
-    a
 }
 
-// That of the oneof c, whose part q is: one left without fields has none.
-fn put_oneof(
-    t: &mut [u8],
-    at: usize,
-    fields: &[u16],
-    q: &[u8],
-    c: usize,
-    first: usize,
-    last: usize,
-) -> usize
-    ensures { Wrote t.old at (choose (is_empty (numbers_with fields.now c (last - first) first)) [] (name_row false (name_in q.now))) t.new result }
+// The rows of a message's oneofs: one left without fields has none.
+fn put_oneofs(text: &mut Text<'_>, context: &Context<'_>, message: &Message<'_>)
+    ensures { text.new ≡ text.old ▻ oneof_rows context.now.messages context.now.fields message.now.number message.now.part }
 {
-    let some = members::has_members(fields, c, first, last);
-    if some {
-        return put_name(t, at, false, joined::name_of(q));
+    let fields = message.fields(context.messages);
+    for (index, part) in Parts::new(message.part, MESSAGE_ONEOF_DECL).enumerate() {
+        if members::has_members(context.fields, index, &fields) {
+            put_row(text, b"", Spelling::Snake, joined::name_of(part));
+        }
     }
-    at
 }
 
-// Those of the oneofs of message i, whose part p is.
-fn put_oneofs(
-    t: &mut [u8],
-    at: usize,
-    messages: &[u16],
-    fields: &[u16],
-    i: usize,
-    p: &[u8],
-) -> usize
-    ensures { Wrote t.old at (oneof_rows messages.now fields.now i p.now) t.new result }
+// Are two of the rows the same that a text has, which was begun in a buffer?
+fn rows_meet(text: &Text<'_>) -> bool
+    ensures { (rows : MutBor (List ℕ)) (bytes : List ℕ) → text.now ≡ start rows ▻ bytes → result ≡ rows_overlap (length rows.now) bytes }
 {
-    let range = members::fields_of(messages, i, p);
-    let mut a = at;
-    for (x, q) in Parts::new(p, 8).enumerate() {
-        a = put_oneof(t, a, fields, q, x + 1, range.first, range.last);
-    }
-    a
+    name_rows::rows_meet(&text.buffer[..text.place()])
 }
 
-// Do the names of two members of the struct of message i?
-fn struct_meets(
-    t: &mut [u8],
-    set: &[u8],
-    messages: &[u16],
-    fields: &[u16],
-    i: usize,
-    p: &[u8],
-) -> bool
-    ensures { result ≡ struct_meets (length t.old) set.now messages.now fields.now i p.now }
+// Do the names of two members of a message's struct?
+fn struct_meets(rows: &mut [u8], context: &Context<'_>, message: &Message<'_>) -> bool
+    ensures { result ≡ struct_meets (length rows.old) context.now.set context.now.messages context.now.fields message.now.number message.now.part }
 {
-    let range = members::fields_of(messages, i, p);
-    let a = put_fields(t, 0, set, fields, false, 0, range.first, range.last);
-    let a = put_oneofs(t, a, messages, fields, i, p);
-    let n = a.min(t.len());
-    name_rows::rows_meet(&t[0..n])
+    let fields = message.fields(context.messages);
+    let mut text = Text::new(rows);
+    put_fields(&mut text, context, Spelling::Snake, None, fields);
+    put_oneofs(&mut text, context, message);
+    rows_meet(&text)
 }
 
-// Do the names of two variants of the oneof c?
-fn variants_meet(
-    t: &mut [u8],
-    set: &[u8],
-    fields: &[u16],
-    c: usize,
-    first: usize,
-    last: usize,
-) -> bool
-    ensures { result ≡ rows_overlap (length t.old) (field_rows set.now fields.now true (numbers_with fields.now c (last - first) first)) }
+// Do the names of two variants of the oneof with the index?
+fn variants_meet(rows: &mut [u8], context: &Context<'_>, index: usize, fields: Range<usize>) -> bool
+    ensures { result ≡ rows_overlap (length rows.old) (field_rows context.now.set context.now.fields true (numbers_where (is_in index) context.now.fields (fields.end - fields.start) fields.start)) }
 {
-    let a = put_fields(t, 0, set, fields, true, c, first, last);
-    let n = a.min(t.len());
-    name_rows::rows_meet(&t[0..n])
+    let mut text = Text::new(rows);
+    put_fields(
+        &mut text,
+        context,
+        Spelling::UpperCamel,
+        Some(index),
+        fields,
+    );
+    rows_meet(&text)
 }
 
-// Of one of the oneofs of message i?
-fn oneofs_meet(
-    t: &mut [u8],
-    set: &[u8],
-    messages: &[u16],
-    fields: &[u16],
-    i: usize,
-    p: &[u8],
-) -> bool
-    ensures { result ≡ oneofs_meet (length t.old) set.now messages.now fields.now i p.now (length (parts 8 (entries p.now))) 1 }
+// Of one of a message's oneofs?
+fn oneofs_meet(rows: &mut [u8], context: &Context<'_>, message: &Message<'_>) -> bool
+    ensures { result ≡ oneofs_meet (length rows.old) context.now.set context.now.messages context.now.fields message.now.number message.now.part (length (parts 8 (entries message.now.part))) 0 }
 {
-    let range = members::fields_of(messages, i, p);
-    let first = range.first;
-    let last = range.last;
-    let n = parts::count_parts(p, 8);
-    let mut x: usize = 0;
-    while x < n {
-        x = x + 1;
-        let meets = variants_meet(t, set, fields, x, first, last);
-        if meets {
+    let fields = message.fields(context.messages);
+    let count = parts::count_parts(message.part, MESSAGE_ONEOF_DECL);
+    for index in 0..count {
+        if variants_meet(rows, context, index, fields.start..fields.end) {
             return true;
         }
     }
     false
 }
 
-// Message i alone, whose part p is.
-fn own_meet(t: &mut [u8], set: &[u8], messages: &[u16], fields: &[u16], i: usize, p: &[u8]) -> bool
-    ensures { result ≡ own_meet (length t.old) set.now messages.now fields.now i p.now }
+// A message alone.
+#[tactic(auto, unfolding(crate::specs::MemberRows::own_meet))]
+fn own_meet(rows: &mut [u8], context: &Context<'_>, message: &Message<'_>) -> bool
+    ensures { result ≡ own_meet (length rows.old) context.now.set context.now.messages context.now.fields message.now.number message.now.part }
 {
-    let meets = struct_meets(t, set, messages, fields, i, p);
-    if meets {
-        return true;
-    }
-    oneofs_meet(t, set, messages, fields, i, p)
+    struct_meets(rows, context, message) || oneofs_meet(rows, context, message)
 }
 
-// With those nested in it, so many levels: what is not written has none.
+// A message in a scope with those nested in it, so many levels: what is not written has none.
 #[cycle(message_meets_messages_meet)]
 fn message_meets(
-    t: &mut [u8],
-    o: &[u8],
-    set: &[u8],
-    messages: &[u16],
-    fields: &[u16],
+    rows: &mut [u8],
+    context: &Context<'_>,
     scope: &[u8],
-    i: usize,
-    p: &[u8],
+    number: usize,
+    part: &[u8],
     left: usize,
 ) -> bool
-    requires { (i + left < 2 ^ 33) × (left ≤ 16) }
-    ensures { result ≡ message_meets (settings o.now) (length t.old) set.now messages.now fields.now (messages_meet (settings o.now) (length t.old) set.now messages.now fields.now left) scope.now i p.now }
+    requires { (number + left < 2 ^ 33) × (left ≤ 16) }
+    ensures { result ≡ message_meets context.now.options (length rows.old) context.now.set context.now.messages context.now.fields (messages_meet context.now.options (length rows.old) context.now.set context.now.messages context.now.fields left) scope.now number part.now }
 {
-    let entry = members::is_entry(p);
-    if entry {
+    if members::is_entry(part) {
         return false;
     }
-    let mut full = [0u8; MAX_PATH];
-    let n = joined::path_in(&mut full, scope, joined::name_of(p));
-    let taken = extern_paths::resolve::is_taken(o, &full[0..n]);
-    if taken {
+    let full = FullName::new(scope, joined::name_of(part));
+    if takes(&context.options, full.as_bytes()) {
         return false;
     }
-    let own = own_meet(t, set, messages, fields, i, p);
-    if own {
+    let message = Message {
+        part,
+        number,
+        full: full.as_bytes(),
+        nested: left != 0,
+    };
+    if own_meet(rows, context, &message) {
         return true;
     }
-    let first = i + 1;
-    messages_meet(t, o, set, messages, fields, &full[0..n], first, p, 3, left)
+    let nested = Parts::new(part, MESSAGE_NESTED_TYPE);
+    messages_meet(rows, context, full.as_bytes(), number + 1, nested, left)
 }
 
-// The messages with this field number in a scope, the first with the number i; so many levels.
+// Messages in a scope, so many levels; `first` is the number of the first.
 #[cycle(message_meets_messages_meet)]
 fn messages_meet(
-    t: &mut [u8],
-    o: &[u8],
-    set: &[u8],
-    messages: &[u16],
-    fields: &[u16],
+    rows: &mut [u8],
+    context: &Context<'_>,
     scope: &[u8],
-    i: usize,
-    s: &[u8],
-    number: u64,
+    first: usize,
+    messages: Parts<'_>,
     left: usize,
 ) -> bool
-    requires { (i + left ≤ 2 ^ 33) × (left ≤ 16) }
-    ensures { result ≡ messages_meet (settings o.now) (length t.old) set.now messages.now fields.now left scope.now i (parts number (entries s.now)) }
+    requires { (first + left ≤ 2 ^ 33) × (left ≤ 16) }
+    ensures { result ≡ messages_meet context.now.options (length rows.old) context.now.set context.now.messages context.now.fields left scope.now first messages.entry }
 {
     if left == 0 {
         return false;
     }
-    let mut k = i;
-    for p in Parts::new(s, number) {
-        let own = message_meets(t, o, set, messages, fields, scope, k, p, left - 1);
-        if own {
+    let mut number = first;
+    for part in messages {
+        if message_meets(rows, context, scope, number, part, left - 1) {
             return true;
         }
-        k = text_tables::message_row(messages, k).after;
+        number = usize::from(text_tables::message_row(context.messages, number).after);
     }
     false
 }
 
-// The file whose part p is; its first message has the number i.
-fn file_meets(
-    t: &mut [u8],
-    o: &[u8],
-    set: &[u8],
-    messages: &[u16],
-    fields: &[u16],
-    i: usize,
-    p: &[u8],
-) -> bool
-    requires { i < 65536 }
-    ensures { result ≡ file_meets (settings o.now) (length t.old) set.now messages.now fields.now i p.now }
+// A file; `first` is the number of its first message.
+fn file_meets(rows: &mut [u8], context: &Context<'_>, first: usize, part: &[u8]) -> bool
+    requires { first < 65536 }
+    ensures { result ≡ file_meets context.now.options (length rows.old) context.now.set context.now.messages context.now.fields first part.now }
 {
-    let mut scope = [0u8; MAX_PATH];
-    let n = joined::package_in(&mut scope, p);
-    messages_meet(t, o, set, messages, fields, &scope[0..n], i, p, 4, 16)
+    let scope = FullName::package(part);
+    let messages = Parts::new(part, FILE_MESSAGE_TYPE);
+    messages_meet(rows, context, scope.as_bytes(), first, messages, 16)
 }
 
-/// Do the names of two members of a written struct, or of two variants of one of its oneofs? t: room for the rows.
-pub fn members_meet(t: &mut [u8], o: &[u8], set: &[u8], messages: &[u16], fields: &[u16]) -> bool
-    ensures { result ≡ set_meets (settings o.now) (length t.old) set.now messages.now fields.now }
+/// Do the names of two members of a written struct, or of two variants of one of its oneofs? rows: room for the rows.
+pub fn members_meet(rows: &mut [u8], context: &Context<'_>) -> bool
+    ensures { result ≡ set_meets context.now.options (length rows.old) context.now.set context.now.messages context.now.fields }
 {
-    let mut i = 0;
-    for p in Parts::new(set, 1) {
-        let meets = file_meets(t, o, set, messages, fields, i, p);
-        if meets {
+    let mut first = 0;
+    for part in Parts::new(context.set, SET_FILE) {
+        if file_meets(rows, context, first, part) {
             return true;
         }
-        i = file_parts::behind(messages, parts::count_parts(p, 4), i);
+        let messages = parts::count_parts(part, FILE_MESSAGE_TYPE);
+        first = file_parts::behind(context.messages, messages, first);
     }
     false
 }

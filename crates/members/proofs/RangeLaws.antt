@@ -1,50 +1,68 @@
--- What is asked of the fields in a range, by the numbers in it. Assumes nothing.
-use mathlib.Core.Path.{◌≡◌, refl, ap, ◌∙◌}
-use mathlib.Core.Bool.{Bool, true, false, ◌||◌, ◌&&◌, not}
-use mathlib.Core.List.{List, ◌∷◌}
-use Prim.Native.Nat.{ℕ, zero, suc}
-use native.Mathlib.Numerals.{add-one}
-use lib.Dec.{eqb}
-use Rattle.std.specs.List.{list_any, list_all, range_with_len}
+-- What is asked of the rows in a range, by the numbers in it. Assumes nothing.
+use Rattle.std.proofs.Common.{◌≡◌, refl, ap, ◌∙◌, ℕ, zero, suc, Bool, true, false, ◌||◌, ◌&&◌, not, List, [], ◌∷◌, take, drop}
+use Rattle.std.specs.List.{list_any, list_all}
 use Rattle.base.specs.Choose.{choose}
 use Rattle.base.specs.Lists.{is_empty, all}
-use Rattle.text_tables.specs.Rows.{field_row}
-use Rattle.members.specs.Members.{numbers_with, in_oneofs}
+use Rattle.text_tables.specs.Rows.{field_row, no_field, is_plain, is_in, in_none, in_one}
+use Rattle.text_tables.specs.declared.FieldRow.{FieldRow}
+use Rattle.members.specs.Members.{numbers_where, in_oneofs}
 
-module _ (t : List ℕ) where
-  -- is one of them in a oneof?
-  in_all : (n k : ℕ) → list_any (λ (j : ℕ). not (eqb (field_row t j).oneof 0)) (range_with_len k n) ≡ in_oneofs t n k
-  unfolding in_oneofs
-  in_all zero k = refl
-  in_all (suc n) k = ap (λ (m : ℕ). not (eqb (field_row t k).oneof 0) || list_any (λ (j : ℕ). not (eqb (field_row t j).oneof 0)) (range_with_len m n)) (add-one k) ∙ ap (λ (u : Bool). not (eqb (field_row t k).oneof 0) || u) (in_all n (suc k))
+-- a test that fails for what is past the table's end
+module _ (p : FieldRow → Bool) (none : p no_field ≡ false) where
+  past : (n k : ℕ) → list_any p (take n (drop k [])) ≡ false
+  past zero k = refl
+  past (suc n) zero = refl
+  past (suc n) (suc k) = refl
 
-  module _ (c : ℕ) where
-    -- is one of them of the oneof c?
-    with_all : (n k : ℕ) → list_any (λ (j : ℕ). eqb (field_row t j).oneof c) (range_with_len k n) ≡ not (is_empty (numbers_with t c n k))
-    unfolding numbers_with choose
-    with_all zero k = refl
-    with_all (suc n) k = ap (λ (m : ℕ). eqb (field_row t k).oneof c || list_any (λ (j : ℕ). eqb (field_row t j).oneof c) (range_with_len m n)) (add-one k) ∙ go (eqb (field_row t k).oneof c) (with_all n (suc k))
+  any_row : (t : List FieldRow) (n k : ℕ) → list_any p (take (suc n) (drop k t)) ≡ (p (field_row t k) || list_any p (take n (drop (suc k) t)))
+  any_row [] n k = past (suc n) k ∙ rw (none, past n (suc k))
+  any_row (row ∷ t) n zero = refl
+  any_row (row ∷ t) n (suc k) = any_row t n k
+
+  module _ (t : List FieldRow) where
+    some_row : (n k : ℕ) → list_any p (take n (drop k t)) ≡ not (is_empty (numbers_where p t n k))
+    unfolding numbers_where choose
+    some_row zero k = refl
+    some_row (suc n) k = any_row t n k ∙ go (p (field_row t k)) (some_row n (suc k))
       where
-        go : (member : Bool) {rest : Bool} → rest ≡ not (is_empty (numbers_with t c n (suc k))) → (member || rest) ≡ not (is_empty (choose member (k ∷ numbers_with t c n (suc k)) (numbers_with t c n (suc k))))
+        go : (member : Bool) {rest : Bool} → rest ≡ not (is_empty (numbers_where p t n (suc k))) → (member || rest) ≡ not (is_empty (choose member (k ∷ numbers_where p t n (suc k)) (numbers_where p t n (suc k))))
         go true e = refl
         go false e = e
 
-    -- does a test hold of all of them that are of the oneof c?
-    with_each : (p : ℕ → Bool) (n k : ℕ) → list_all (λ (j : ℕ). not (eqb (field_row t j).oneof c) || p j) (range_with_len k n) ≡ all p (numbers_with t c n k)
-    unfolding numbers_with choose all
-    with_each p zero k = refl
-    with_each p (suc n) k = ap (λ (m : ℕ). (not (eqb (field_row t k).oneof c) || p k) && list_all (λ (j : ℕ). not (eqb (field_row t j).oneof c) || p j) (range_with_len m n)) (add-one k) ∙ go (eqb (field_row t k).oneof c) (with_each p n (suc k))
+-- and another test of those that pass it
+module _ (p : FieldRow → Bool) (none : p no_field ≡ false) (q : FieldRow → Bool) where
+  past_all : (n k : ℕ) → list_all (λ row. not (p row) || q row) (take n (drop k [])) ≡ true
+  past_all zero k = refl
+  past_all (suc n) zero = refl
+  past_all (suc n) (suc k) = refl
+
+  all_row : (t : List FieldRow) (n k : ℕ) → list_all (λ row. not (p row) || q row) (take (suc n) (drop k t)) ≡ ((not (p (field_row t k)) || q (field_row t k)) && list_all (λ row. not (p row) || q row) (take n (drop (suc k) t)))
+  all_row [] n k = past_all (suc n) k ∙ rw (none, past_all n (suc k))
+  all_row (row ∷ t) n zero = refl
+  all_row (row ∷ t) n (suc k) = all_row t n k
+
+  module _ (t : List FieldRow) where
+    each_row : (n k : ℕ) → list_all (λ row. not (p row) || q row) (take n (drop k t)) ≡ all (λ (j : ℕ). q (field_row t j)) (numbers_where p t n k)
+    unfolding numbers_where choose all
+    each_row zero k = refl
+    each_row (suc n) k = all_row t n k ∙ go (p (field_row t k)) (each_row n (suc k))
       where
-        go : (member : Bool) {rest : Bool} → rest ≡ all p (numbers_with t c n (suc k)) → ((not member || p k) && rest) ≡ all p (choose member (k ∷ numbers_with t c n (suc k)) (numbers_with t c n (suc k)))
-        go true e = ap (λ (u : Bool). p k && u) e
+        go : (member : Bool) {rest : Bool} → rest ≡ all (λ (j : ℕ). q (field_row t j)) (numbers_where p t n (suc k)) → ((not member || q (field_row t k)) && rest) ≡ all (λ (j : ℕ). q (field_row t j)) (choose member (k ∷ numbers_where p t n (suc k)) (numbers_where p t n (suc k)))
+        go true e = ap (λ (u : Bool). q (field_row t k) && u) e
         go false e = e
 
--- what a chain over a range answers
-pub some_in : (t : List ℕ) (n k : ℕ) {r : Bool} → r ≡ list_any (λ (j : ℕ). not (eqb (field_row t j).oneof 0)) (range_with_len k n) → r ≡ in_oneofs t n k
-some_in t n k e = e ∙ in_all t n k
+-- is one of them in a oneof?
+pub some_in : (t : List FieldRow) (n k : ℕ) → list_any (λ row. not (is_plain row)) (take n (drop k t)) ≡ in_oneofs t n k
+unfolding in_oneofs in_none
+some_in t zero k = refl
+some_in t (suc n) k = any_row (λ row. not (is_plain row)) refl t n k ∙ ap (λ (u : Bool). not (is_plain (field_row t k)) || u) (some_in t n (suc k))
 
-pub some_with : (t : List ℕ) (c n k : ℕ) {r : Bool} → r ≡ list_any (λ (j : ℕ). eqb (field_row t j).oneof c) (range_with_len k n) → r ≡ not (is_empty (numbers_with t c n k))
-some_with t c n k e = e ∙ with_all t c n k
+-- in the one with the index?
+pub some_with : (x : ℕ) (t : List FieldRow) (n k : ℕ) → list_any (is_in x) (take n (drop k t)) ≡ not (is_empty (numbers_where (is_in x) t n k))
+unfolding in_one
+some_with x = some_row (is_in x) refl
 
-pub all_with : (t : List ℕ) (c : ℕ) (p : ℕ → Bool) (n k : ℕ) {r : Bool} → r ≡ list_all (λ (j : ℕ). not (eqb (field_row t j).oneof c) || p j) (range_with_len k n) → r ≡ all p (numbers_with t c n k)
-all_with t c p n k e = e ∙ with_each t c p n k
+-- does a test hold of all that are in it?
+pub all_with : (x : ℕ) (q : FieldRow → Bool) (t : List FieldRow) (n k : ℕ) → list_all (λ row. not (is_in x row) || q row) (take n (drop k t)) ≡ all (λ (j : ℕ). q (field_row t j)) (numbers_where (is_in x) t n k)
+unfolding in_one
+all_with x = each_row (is_in x) refl

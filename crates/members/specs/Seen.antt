@@ -12,6 +12,6 @@ pub record MessageSeen : Type 0 where
 pub record OneofSeen : Type 0 where
   pub name : Bytes
   pub conflict : Bool
-  pub number : ℕ
+  pub index : ℕ
   pub first : ℕ
   pub last : ℕ

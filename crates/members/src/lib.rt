@@ -1,37 +1,74 @@
-//! The fields of a message by their numbers in the table of fields: those of a oneof, and those of none.
+//! What the text's writers ask of a message, its fields and its oneofs.
 #![tactic(auto)]
 
-ghost use Rattle.std.specs.Prelude.{◌≡◌, ◌&&◌, ◌||◌, not, List, ◌++◌, ℕ, ◌+◌, ◌-◌, length};
-ghost use Rattle.base.specs.Bytes.{same};
-ghost use Rattle.base.specs.Lists.{is_empty, any};
-ghost use Rattle.checksums.specs.Sums.{sum_of};
-ghost use Rattle.checksums.specs.SumLaws.{Stored};
-ghost use Rattle.descriptor.specs.Descriptor.{Bytes};
+ghost use Rattle.std.specs.Prelude.{◌≡◌, ◌+◌, ◌-◌, not, length, take, drop, Some, None};
+ghost use Rattle.std.specs.Iterator.{item_count, YieldsFirst};
+ghost use Rattle.base.specs.Choose.{choose};
+ghost use Rattle.base.specs.Lists.{is_empty, all};
+ghost use Rattle.writer.specs.Writing.{◌▻◌};
+ghost use Rattle.options.specs.Kind.{kind_number};
 ghost use Rattle.descriptor.specs.Decode.{entries, parts, decode_message};
-ghost use Rattle.descriptor.specs.Views.{field_of};
-ghost use Rattle.options.specs.Settings.{settings};
 ghost use Rattle.context.specs.Context.{has};
 ghost use Rattle.joined.specs.Joined.{◌⊙◌};
-ghost use Rattle.text_tables.specs.Rows.{message_row};
+ghost use Rattle.text_tables.specs.Rows.{message_row, is_in};
 ghost use Rattle.code_generator.specs.Attributes.{deprecated};
-ghost use Rattle.members.specs.Members.{name_in, field_at, boxed_at, numbers_with, in_oneofs, cut_camel, conflict, part_sums, camel_sums};
+ghost use Rattle.code_generator.specs.Piece.{spelt, oneof_type};
+ghost use Rattle.members.specs.Members.{field_at, boxed_at, name_in, numbers_where, oneof_members, oneofs_of, in_oneofs, may_derive, can_derive, conflict};
 
 pub mod camel;
-pub mod of_message;
 
-use crate::camel::CamelName;
-use descriptor::{FieldView, MessageHeader};
-use joined::MAX_PATH;
+use crate::camel::CamelSums;
+use context::Context;
+use derives::Derive;
+use descriptor::field_number::{MESSAGE_FIELD, MESSAGE_ONEOF_DECL};
+use descriptor::{FieldDescriptor, MessageHeader};
+use joined::FullName;
+use options::{Kind, Options};
 use parts::Parts;
+use std::iter::Enumerate;
+use std::marker::Model;
+use std::ops::Range;
+use text_tables::{FieldRow, MessageRow};
+use writer::Text;
 
-/// More than the messages and enums that a message can hold (limits 3 and 5).
-pub const NAMES: usize = 512;
-
-/// The numbers of a message's fields: from `first` on, below `last`.
+/// A message of the set. A clause sees the two slices as the bytes.
 #[derive(Drop)]
-pub struct Range {
-    pub first: usize,
-    pub last: usize,
+pub struct Message<'a> {
+    /// The bytes of its descriptor.
+    pub part: &'a [u8],
+    /// Its number in declaration order.
+    pub number: usize,
+    /// Its full name.
+    pub full: &'a [u8],
+    /// Are nested messages read?
+    pub nested: bool,
+}
+
+impl<'a> Model for Message<'a> {
+    ghost use Rattle.members.specs.Seen.{MessageSeen};
+
+    ghost Value = { MessageSeen };
+
+    ghost view = { λ m. record { part = m.part.now; number = m.number; full = m.full.now; nested = m.nested } };
+}
+
+/// A oneof of a message.
+#[derive(Drop)]
+pub struct Oneof<'a> {
+    pub name: &'a [u8],
+    /// Does its type's name meet that of a nested type?
+    pub conflict: bool,
+    pub index: usize,
+    /// The numbers of its message's fields.
+    pub fields: Range<usize>,
+}
+
+impl<'a> Model for Oneof<'a> {
+    ghost use Rattle.members.specs.Seen.{OneofSeen};
+
+    ghost Value = { OneofSeen };
+
+    ghost view = { λ o. record { name = o.name.now; conflict = o.conflict; index = o.index; first = o.fields.start; last = o.fields.end } };
 }
 
 /// Is the message a map entry?
@@ -41,152 +78,245 @@ pub fn is_entry(part: &[u8]) -> bool
     MessageHeader::new(part).map_entry
 }
 
-// What follows serves the crates that read fields by views and write over a buffer and a place; the others call of_message and
-// camel.
-
-/// Field k of a set.
-pub fn field_at(set: &[u8], t: &[u16], k: usize) -> FieldView
-    ensures { field_of set.now result ≡ field_at set.now t.now k }
+/// Field k of the set.
+pub fn field_at<'a>(context: &Context<'a>, k: usize) -> FieldDescriptor<'a>
+    ensures { result ≡ field_at context.now.set context.now.fields k }
 {
-    let row = text_tables::field_row(t, k);
-    descriptor::field_view(set, row.start, row.end)
+    let row = text_tables::field_row(context.fields, k);
+    FieldDescriptor::new(row.place.bytes_in(context.set))
 }
 
 /// Does a row of the kind match the path of a name in a scope?
-pub fn setting(o: &[u8], kind: u16, full: &[u8], name: &[u8]) -> bool
-    ensures { result ≡ has (settings o.now) kind (full.now ⊙ name.now) }
+#[tactic(auto, using(crate::proofs::SettingLaws::some_found))]
+pub fn setting(options: &Options<'_>, kind: Kind, full: &[u8], name: &[u8]) -> bool
+    ensures { result ≡ has options.now (kind_number kind) (full.now ⊙ name.now) }
 {
-    let mut path = [0u8; MAX_PATH];
-    let n = joined::path_in(&mut path, full, name);
-    let row = path::find_first(o, kind, &path[0..n]);
-    row.found
+    let path = FullName::new(full, name);
+    path::get_first(options, kind, path.as_bytes()).is_some()
 }
 
 /// Is the field marked as deprecated?
-pub fn is_deprecated(s: &[u8], f: FieldView) -> bool
-    ensures { result ≡ deprecated (field_of s.now f) }
+#[tactic(auto, unfolding(code_generator::specs::Attributes::deprecated))]
+pub fn is_deprecated(field: &FieldDescriptor<'_>) -> bool
+    ensures { result ≡ deprecated field.now }
 {
-    if f.options {
-        return f.deprecated;
-    }
-    false
+    field.options.unwrap_or_default().deprecated
 }
 
 /// `should_box`: `at` is the message's full name, or the oneof's.
-pub fn boxed_at(o: &[u8], set: &[u8], t: &[u16], k: usize, at: &[u8]) -> bool
-    ensures { result ≡ boxed_at (settings o.now) set.now t.now k at.now }
+#[tactic(auto, unfolding(crate::specs::Members::boxed_at, base::specs::Choose::choose))]
+pub fn boxed_at(context: &Context<'_>, k: usize, at: &[u8]) -> bool
+    ensures { result ≡ boxed_at context.now.options context.now.set context.now.fields k at.now }
 {
-    let f = field_at(set, t, k);
-    let label = accessors::label(set, f);
-    if label == 3 {
+    let field = field_at(context, k);
+    if field.is_repeated() {
         return false;
     }
-    let row = text_tables::field_row(t, k);
-    if row.looped {
-        return true;
+    text_tables::field_row(context.fields, k).looped
+        || setting(&context.options, Kind::Boxed, at, field.name())
+}
+
+// The rows of the fields in a range, as far as the table goes.
+fn rows_in<'a>(rows: &'a [FieldRow], range: &Range<usize>) -> &'a [FieldRow]
+    ensures { result.now ≡ take (range.now.end - range.now.start) (drop range.now.start rows.now) }
+{
+    let end = range.end.min(rows.len());
+    let start = range.start.min(end);
+    &rows[start..end]
+}
+
+/// Is one of the fields in the range in the oneof with the index?
+pub fn has_members(fields: &[FieldRow], index: usize, range: &Range<usize>) -> bool
+    ensures { result ≡ not (is_empty (numbers_where (is_in index) fields.now (range.now.end - range.now.start) range.now.start)) }
+{
+    rows_in(fields, range).iter().any(|row| row.is_in(index))
+}
+
+/// Is one of the fields in the range in a oneof?
+pub fn in_oneofs(fields: &[FieldRow], range: &Range<usize>) -> bool
+    ensures { result ≡ in_oneofs fields.now (range.now.end - range.now.start) range.now.start }
+{
+    rows_in(fields, range).iter().any(|row| !row.is_plain())
+}
+
+// May the field derive the trait?
+#[tactic(auto, unfolding(crate::specs::Members::may_derive))]
+fn can_derive(row: &FieldRow, derive: Derive) -> bool
+    ensures { result ≡ may_derive derive row.now }
+{
+    match derive {
+        Derive::Copy => row.copy,
+        Derive::Eq => row.eq,
     }
-    let name = accessors::name(set, f);
-    setting(o, 4, at, name)
 }
 
-/// Is one of the fields from `first` on, below `last`, of the oneof c: one more than its index, or 0 for none?
-pub fn has_members(t: &[u16], c: usize, first: usize, last: usize) -> bool
-    ensures { result ≡ not (is_empty (numbers_with t.now c (last - first) first)) }
+/// `can_oneof_derive_copy` and `can_oneof_derive_eq`: may all fields of the oneof derive the trait?
+pub fn all_derive(fields: &[FieldRow], derive: Derive, oneof: &Oneof<'_>) -> bool
+    ensures { result ≡ all (can_derive derive fields.now) (oneof_members fields.now oneof.now) }
 {
-    of_message::has_members(t, c, first..last)
+    rows_in(fields, &oneof.fields)
+        .iter()
+        .all(|row| !row.is_in(oneof.index) || can_derive(row, derive))
 }
 
-/// Is one of them in a oneof?
-pub fn in_oneofs(t: &[u16], first: usize, last: usize) -> bool
-    ensures { result ≡ in_oneofs t.now (last - first) first }
-{
-    of_message::in_oneofs(t, first..last)
-}
-
-/// The fields of message i, whose part p is.
-pub fn fields_of(messages: &[u16], i: usize, p: &[u8]) -> Range
-    ensures { (result.first ≡ (message_row messages.now i).first) × (result.last ≡ result.first + length (parts 2 (entries p.now))) }
-{
-    let row = text_tables::message_row(messages, i);
-    let first = row.first;
-    let n = parts::count_parts(p, 2);
-    let last = first + n;
-    Range { first, last }
-}
-
-// Is it the camel name of the declaration whose part q is?
-#[tactic(auto, unfolding(base::specs::Bytes::same))]
-fn meets_part(camel: &[u8], q: &[u8]) -> bool
-    ensures { result ≡ same (cut_camel (name_in q.now)) camel.now }
-{
-    let own = CamelName::new(joined::name_of(q));
-    own.as_bytes() == camel
-}
-
-// Is it that of a declaration with the field number in a message?
-#[tactic(auto, unfolding(base::specs::Lists::any))]
-fn meets(p: &[u8], number: u64, camel: &[u8]) -> bool
-    ensures { result ≡ any (λ (q : Bytes). same (cut_camel (name_in q)) camel.now) (parts number (entries p.now)) }
-{
-    Parts::new(p, number).any(|q| meets_part(camel, q))
-}
-
-fn conflicts(p: &[u8], deeper: bool, camel: &[u8]) -> bool
-    ensures { result ≡ ((deeper && any (λ (q : Bytes). same (cut_camel (name_in q)) camel.now) (parts 3 (entries p.now))) || any (λ (q : Bytes). same (cut_camel (name_in q)) camel.now) (parts 4 (entries p.now))) }
-{
-    (deeper && meets(p, 3, camel)) || meets(p, 4, camel)
-}
-
-/// `has_type_name_conflict`, of a oneof's name in the message whose part p is. deeper: are nested messages read?
-#[tactic(auto, unfolding(crate::specs::Members::conflict, crate::specs::Members::meets_part))]
-pub fn conflict(p: &[u8], deeper: bool, name: &[u8]) -> bool
-    ensures { result ≡ conflict deeper p.now name.now }
-{
-    let camel = CamelName::new(name);
-    conflicts(p, deeper, camel.as_bytes())
-}
-
-// The checksum of a camel name.
-fn camel_sum(name: &[u8]) -> u64
-    ensures { result ≡ sum_of (cut_camel name.now) }
-{
-    let camel = CamelName::new(name);
-    checksums::checksum(camel.as_bytes())
-}
-
-// Those of the declarations with the field number in a message, behind n checksums that a table has.
-fn put_sums(sums: &mut [u64], n: usize, p: &[u8], number: u64) -> usize
-    ensures { (l : List ℕ) → Stored sums.old n l → Stored sums.new result (l ++ part_sums number p.now) }
-{
-    let mut count = n;
-    for q in Parts::new(p, number) {
-        let x = camel_sum(joined::name_of(q));
-        count = checksums::put_sum(sums, count, x);
+impl<'a> Message<'a> {
+    /// Its name.
+    pub fn name(&self) -> &'a [u8]
+        ensures { result.now ≡ name_in self.now.part }
+    {
+        joined::name_of(self.part)
     }
-    count
+
+    /// The numbers of its fields.
+    pub fn fields(&self, messages: &[MessageRow]) -> Range<usize>
+        ensures start { result.start ≡ (message_row messages.now self.now.number).first }
+        ensures end { result.end ≡ result.start + length (parts 2 (entries self.now.part)) }
+    {
+        let first = usize::from(text_tables::message_row(messages, self.number).first);
+        first..first + Parts::new(self.part, MESSAGE_FIELD).count()
+    }
+
+    /// Does it declare a oneof?
+    pub fn declares_oneofs(&self) -> bool
+        ensures { result ≡ not (is_empty (parts 8 (entries self.now.part))) }
+    {
+        Parts::new(self.part, MESSAGE_ONEOF_DECL).next().is_some()
+    }
+
+    /// Its oneofs that have fields.
+    #[tactic(auto, unfolding(crate::specs::Members::oneofs_of))]
+    pub fn oneofs<'t>(&self, context: &Context<'t>) -> Oneofs<'t, 'a>
+        ensures { result ≡ oneofs_of context.now.messages context.now.fields self.now }
+    {
+        Oneofs {
+            parts: Parts::new(self.part, MESSAGE_ONEOF_DECL).enumerate(),
+            table: context.fields,
+            fields: self.fields(context.messages),
+            sums: CamelSums::of(self.part, self.nested),
+        }
+    }
 }
 
-/// The checksums of all camel names that a oneof's name can meet in the message whose part p is; and how many they are.
-pub fn camel_sums(sums: &mut [u64], deeper: bool, p: &[u8]) -> usize
-    ensures { Stored sums.new result (camel_sums deeper p.now) }
-{
-    if deeper {
-        let n = put_sums(sums, 0, p, 3);
-        return put_sums(sums, n, p, 4);
-    }
-    put_sums(sums, 0, p, 4)
+/// The oneofs of a message that are left, but those without fields.
+#[derive(Drop)]
+pub struct Oneofs<'t, 'a> {
+    parts: Enumerate<Parts<'a>>,
+    table: &'t [FieldRow],
+    fields: Range<usize>,
+    sums: CamelSums<'a>,
 }
 
-/// `conflict`, given those checksums: a name whose checksum is none of them meets no name.
-pub fn conflict_by(sums: &[u64], n: usize, p: &[u8], deeper: bool, name: &[u8]) -> bool
-    ensures { Stored sums.now n (camel_sums deeper p.now) → result ≡ conflict deeper p.now name.now }
-{
-    if sums.len() < n {
-        return conflict(p, deeper, name);
+impl<'t, 'a> Model for Oneofs<'t, 'a> {
+    ghost use Rattle.std.specs.Prelude.{List, ◌+◌, ◌<◌, ◌^◌, length};
+    ghost use Rattle.std.specs.Iterator.Adapters.{enumerate_source, enumerate_count};
+    ghost use Rattle.members.specs.Members.{oneofs_from};
+    ghost use Rattle.members.specs.Seen.{OneofSeen};
+
+    ghost Value = { List OneofSeen };
+
+    ghost view = { λ s. oneofs_from s.table.now s.fields.start s.fields.end s.sums.0 s.sums.1 (enumerate_count s.parts) (enumerate_source s.parts) };
+
+    ghost invariant = { λ s. enumerate_count s.parts + length (enumerate_source s.parts) < 2 ^ 64 };
+}
+
+impl<'t, 'a> Iterator for Oneofs<'t, 'a> {
+    type Item = Oneof<'a>;
+
+    ghost next_gives = { YieldsFirst (λ rest. rest) };
+
+    ghost remaining = { item_count (λ rest. rest) };
+
+    #[tactic(auto, unfolding(crate::specs::Members::oneofs_from, base::specs::Choose::choose))]
+    fn next(&mut self) -> Option<Oneof<'a>> {
+        while let Some((index, part)) = self.parts.next() {
+            let fields = self.fields.start..self.fields.end;
+            let oneof = Oneof::new(self.table, fields, &self.sums, index, part);
+            if oneof.is_some() {
+                return oneof;
+            }
+        }
+        None
     }
-    let some = checksums::holds(&sums[0..n], camel_sum(name));
-    if some {
-        return conflict(p, deeper, name);
+}
+
+/// The numbers of a oneof's fields that are left.
+#[derive(Drop)]
+pub struct Members<'t> {
+    table: &'t [FieldRow],
+    index: usize,
+    fields: Range<usize>,
+}
+
+impl<'t> Model for Members<'t> {
+    ghost use Rattle.std.specs.Prelude.{List, ℕ, ◌-◌};
+    ghost use Rattle.text_tables.specs.Rows.{is_in};
+    ghost use Rattle.members.specs.Members.{numbers_where};
+
+    ghost Value = { List ℕ };
+
+    ghost view = { λ s. numbers_where (is_in s.index) s.table.now (s.fields.end - s.fields.start) s.fields.start };
+}
+
+impl<'t> Iterator for Members<'t> {
+    type Item = usize;
+
+    ghost next_gives = { YieldsFirst (λ rest. rest) };
+
+    ghost remaining = { item_count (λ rest. rest) };
+
+    fn next(&mut self) -> Option<usize> {
+        while let Some(k) = self.fields.next() {
+            if text_tables::field_row(self.table, k).is_in(self.index) {
+                return Some(k);
+            }
+        }
+        None
     }
-    false
+}
+
+impl<'a> Oneof<'a> {
+    /// The oneof with the index, whose bytes `part` is, of the message that has these fields and names; none where it is left
+    /// without fields.
+    #[tactic(auto, unfolding(base::specs::Choose::choose))]
+    pub fn new(
+        table: &[FieldRow],
+        fields: Range<usize>,
+        sums: &CamelSums<'_>,
+        index: usize,
+        part: &'a [u8],
+    ) -> Option<Self>
+        ensures { result ≡ choose (is_empty (numbers_where (is_in index) table.now (fields.end - fields.start) fields.start)) None (Some (record { name = name_in part.now; conflict = conflict sums.now.0 sums.now.1 (name_in part.now); index = index; first = fields.start; last = fields.end })) }
+    {
+        if !has_members(table, index, &fields) {
+            return None;
+        }
+        let name = joined::name_of(part);
+        let conflict = sums.meets(name);
+        Some(Oneof {
+            name,
+            conflict,
+            index,
+            fields,
+        })
+    }
+
+    /// The numbers of its fields.
+    pub fn members<'t>(&self, context: &Context<'t>) -> Members<'t>
+        ensures { result ≡ oneof_members context.now.fields self.now }
+    {
+        Members {
+            table: context.fields,
+            index: self.index,
+            fields: self.fields.start..self.fields.end,
+        }
+    }
+
+    /// The name of its type.
+    #[tactic(auto, using(crate::proofs::TypeLaws::type_named))]
+    pub fn put_type(&self, text: &mut Text<'_>)
+        ensures { text.new ≡ text.old ▻ spelt (oneof_type self.now.conflict self.now.name) }
+    {
+        ident::text::put_upper_camel(text, self.name);
+        text.put_if(self.conflict, b"OneOf");
+    }
 }

@@ -1,67 +1,102 @@
--- The text of a message, where it is left out and where it has a module; and one level of messages. Assumes nothing.
-use Prim.Native.Nat.{ℕ, zero, suc, ◌+◌, ◌-◌, ◌≤◌}
-use mathlib.Core.Path.{◌≡◌, refl, sym, ap, ap₂}
-use mathlib.Core.Bool.{Bool, true, false, not}
-use mathlib.Core.List.{List, [], append-nil}
-use native.Mathlib.Numerals.{add-one, sub-one}
-use native.Mathlib.Omega.{arith}
-use lib.Dec.{eqb}
-use Rattle.writer.specs.Wrote.{Wrote, named, ◌►◌}
+-- The text of a message and of its module, piece by piece, and one level of messages. Assumes nothing.
+use Rattle.std.proofs.Common.{◌≡◌, refl, sym, ap, ◌∙◌, ℕ, zero, suc, ◌+◌, ◌-◌, ◌≤◌, Bool, true, false, not, eqb, List, [], ◌++◌, append-nil, take, arith, add-one, sub-one}
+use Rattle.writer.specs.declared.text.Text.{Text}
+use Rattle.writer.specs.Text.{pick}
+use Rattle.writer.specs.Draft.{draft, extended, Filled}
+use Rattle.writer.specs.Writing.{◌▻◌}
+use Rattle.writer.proofs.TextLaws.{extended-nil, appended, put-nothing}
 use Rattle.descriptor.specs.Descriptor.{Bytes}
-use Rattle.descriptor.specs.Decode.{entries, parts}
-use Rattle.options.specs.Settings.{Setting}
+use Rattle.descriptor.specs.Decode.{entries, parts, decode_file}
+use Rattle.syntax.specs.Syntax.{syntax_of}
+use Rattle.name_rules.specs.FullNames.{package_scope}
+use Rattle.context.specs.Given.{Given}
 use Rattle.extern_paths.specs.ExternPaths.{taken}
 use Rattle.walks.specs.Walked.{walked}
-use Rattle.joined.specs.Joined.{◌⊙◌}
+use Rattle.joined.specs.Joined.{max_path, ◌⊙◌}
 use Rattle.members.specs.Members.{name_in}
+use Rattle.members.specs.Seen.{MessageSeen}
 use Rattle.struct_text.specs.StructText.{struct_text}
 use Rattle.enum_text.specs.EnumText.{enums_in, enum_texts}
 use Rattle.oneof_text.specs.OneofText.{oneof_texts}
-use Rattle.code_generator.specs.Piece.{flat}
 use Rattle.code_generator.specs.Attributes.{end}
-use Rattle.code_generator.specs.Generate.{push_mod}
-use Rattle.message_text.specs.MessageText.{is_entry, module_for, module_text, message_text, number_after, message_texts}
+use Rattle.code_generator.specs.Generate.{push_mod, is_proto3}
+use Rattle.code_generator.specs.Writing.{◌⊳◌}
+use Rattle.code_generator.proofs.WritingLaws.{written-flat}
+use Rattle.message_text.specs.MessageText.{is_entry, module_for, module_text, message_text, number_after, message_texts, text_of_file}
 
-module _ (rs : List Setting) (set messages t : List ℕ) (proto3 : Bool) where
-  -- one level of messages: those with 15 levels in them stand at the depth 0
-  pub level : (left : ℕ) (scope : Bytes) (i : ℕ) (ps : List Bytes) → (left ≡ 0 → ⊥)
-      → walked (message_text rs set messages t proto3 (message_texts rs set messages t proto3 (left - 1)) (15 - (left - 1)) scope (not (eqb (left - 1) 0))) (number_after rs set messages t proto3) i ps
-      ≡ message_texts rs set messages t proto3 left (16 - left) scope i ps
+-- nothing in a lent buffer
+pub nothing_filled : {p : Bytes} (old : List ℕ) → [] ≡ p → Filled old p old 0
+nothing_filled old e = record { is = extended-nil (draft old 0) ∙ ap (extended (draft old 0)) e }
+
+-- ---- what is written where a test holds, behind what is written in any case
+pub written_too : (t t₁ t₂ : Text) (p q : Bytes) {test : Bool} → test ≡ true → t₁ ≡ t ▻ p → t₂ ≡ t₁ ▻ q → t₂ ≡ t ▻ (p ++ pick test q [])
+written_too t t₁ t₂ p q h e f = rw h (appended t t₁ t₂ p q e f)
+
+pub written_alone : (t t₁ : Text) (p q : Bytes) {test : Bool} → test ≡ false → t₁ ≡ t ▻ p → t₁ ≡ t ▻ (p ++ pick test q [])
+written_alone t t₁ p q h e = rw (h, append-nil) e
+
+module _ (g : Given) (proto3 : Bool) where
+  -- ---- levels of messages
+  pub no_level : (u : Text) (left d : ℕ) (scope : Bytes) (i : ℕ) (ps : List Bytes) → left ≡ 0 → u ≡ u ▻ message_texts g.options g.set g.messages g.fields proto3 left d scope i ps
   unfolding message_texts
-  level zero scope i ps ne = absurd (ne refl)
-  level (suc k) scope i ps ne = let e : 16 - suc k ≡ 15 - k = omega arith in rw (sub-one, e)
+  no_level u left d scope i ps e = rw e (sym (put-nothing u))
 
-  -- the module of a message, piece by piece
-  module _ (left depth : ℕ) (h : left ≤ 15) (ed : depth ≡ 15 - left) (full : Bytes) (deeper : Bool) (i : ℕ) (p name : Bytes) (en : name ≡ name_in p) where
-    inner : 16 - left ≡ suc (15 - left)
-    inner = omega arith
+  -- those with 15 levels in them stand at the depth 0
+  pub one_level : (left : ℕ) (scope : Bytes) (i : ℕ) (ps : List Bytes) → (left ≡ 0 → ⊥)
+      → walked (message_text g.options g.set g.messages g.fields proto3 (message_texts g.options g.set g.messages g.fields proto3 (left - 1)) (15 - (left - 1)) scope (not (eqb (left - 1) 0))) (number_after g.options g.set g.messages g.fields proto3) i ps
+      ≡ message_texts g.options g.set g.messages g.fields proto3 left (16 - left) scope i ps
+  unfolding message_texts
+  one_level zero scope i ps ne = absurd (ne refl)
+  one_level (suc k) scope i ps ne = let e : 16 - suc k ≡ 15 - k = omega arith in rw (sub-one, e)
 
-    pub text_of_module : {b b₁ b₂ b₃ b₄ b₅ : List ℕ} {at a₁ a₂ a₃ a₄ a₅ : ℕ} → Wrote b at (flat (push_mod depth name)) b₁ a₁ → Wrote b₁ a₁ (message_texts rs set messages t proto3 left (16 - left) full (i + 1) (parts 3 (entries p))) b₂ a₂
-        → Wrote b₂ a₂ (enum_texts rs (16 - left) full (enums_in 4 p)) b₃ a₃ → Wrote b₃ a₃ (oneof_texts rs set messages t (16 - left) full deeper i p) b₄ a₄ → Wrote b₄ a₄ (flat (end depth)) b₅ a₅
-        → Wrote b at (module_text rs set messages t proto3 (message_texts rs set messages t proto3 left) (15 - left) full deeper i p) b₅ a₅
+  module _ (left : ℕ) where
+    abbrev inner : ℕ → Bytes → ℕ → List Bytes → Bytes
+    inner = message_texts g.options g.set g.messages g.fields proto3 left
+
+    -- ---- the module of a message. g₁, m₁: the context and the message as the code has them
+    pub module_written : (m : MessageSeen) (u u₁ u₂ u₃ u₄ u₅ : Text) {g₁ : Given} {m₁ : MessageSeen} {name : Bytes} {ps : List Bytes} → left ≤ 15 → g₁ ≡ g → m₁ ≡ m → name ≡ name_in m.part → ps ≡ parts 3 (entries m₁.part)
+        → u₁ ≡ u ⊳ push_mod (15 - left) name
+        → u₂ ≡ u₁ ▻ inner (16 - left) m₁.full (m₁.number + 1) ps
+        → u₃ ≡ u₂ ▻ enum_texts g₁.options (16 - left) m₁.full (enums_in 4 m₁.part)
+        → u₄ ≡ u₃ ▻ oneof_texts g.options g.set g.messages g.fields (16 - left) m.full m.nested m.number m.part
+        → u₅ ≡ u₄ ⊳ end (15 - left)
+        → u₅ ≡ u ▻ module_text g.options g.set g.messages g.fields proto3 inner (15 - left) m.full m.nested m.number m.part
     unfolding module_text
-    text_of_module opened nested enums oneofs closed =
-        named (ap₂ (λ (d : ℕ) (x : Bytes). flat (push_mod d x)) ed en) opened
-        ► named (ap₂ (λ (d k : ℕ). message_texts rs set messages t proto3 left d full k (parts 3 (entries p))) inner (add-one i)) nested
-        ► named (ap (λ (d : ℕ). enum_texts rs d full (enums_in 4 p)) inner) enums
-        ► named (ap (λ (d : ℕ). oneof_texts rs set messages t d full deeper i p) inner) oneofs
-        ► named (ap (λ (d : ℕ). flat (end d)) ed) closed
+    module_written m u u₁ u₂ u₃ u₄ u₅ {g₁} {m₁} {name} {ps} h ge me ne pe opened nested enums oneofs closed =
+        let deeper : 16 - left ≡ suc (15 - left) = omega arith in
+        let opened₁ = opened ∙ ap (λ (x : Bytes). u ⊳ push_mod (15 - left) x) ne ∙ written-flat u (push_mod (15 - left) (name_in m.part)) in
+        let nested₁ = nested ∙ ap (λ (l : List Bytes). u₁ ▻ inner (16 - left) m₁.full (m₁.number + 1) l) pe
+        ∙ ap (λ (y : MessageSeen). u₁ ▻ inner (16 - left) y.full (y.number + 1) (parts 3 (entries y.part))) me
+        ∙ ap (λ (k : ℕ). u₁ ▻ inner (16 - left) m.full k (parts 3 (entries m.part))) (add-one m.number)
+        ∙ ap (λ (d : ℕ). u₁ ▻ inner d m.full (suc m.number) (parts 3 (entries m.part))) deeper in
+        let enums₁ = enums ∙ ap (λ (y : Given). u₂ ▻ enum_texts y.options (16 - left) m₁.full (enums_in 4 m₁.part)) ge
+        ∙ ap (λ (y : MessageSeen). u₂ ▻ enum_texts g.options (16 - left) y.full (enums_in 4 y.part)) me
+        ∙ ap (λ (d : ℕ). u₂ ▻ enum_texts g.options d m.full (enums_in 4 m.part)) deeper in
+        let oneofs₁ = oneofs ∙ ap (λ (d : ℕ). u₃ ▻ oneof_texts g.options g.set g.messages g.fields d m.full m.nested m.number m.part) deeper in
+        appended u u₄ u₅ _ _ (appended u u₃ u₄ _ _ (appended u u₂ u₃ _ _ (appended u u₁ u₂ _ _ opened₁ nested₁) enums₁) oneofs₁) (closed ∙ written-flat u₄ (end (15 - left)))
 
-  module _ (left d : ℕ) (scope : Bytes) (deeper : Bool) (i : ℕ) (p : Bytes) (u : Bool) (eu : u ≡ is_entry p) where
-    pub text_of_entry : u ≡ true → [] ≡ message_text rs set messages t proto3 (message_texts rs set messages t proto3 left) d scope deeper i p
-    unfolding message_text
-    text_of_entry h = rw (← eu, h)
-
-    module _ (h : u ≡ false) (full : Bytes) (ef : full ≡ scope ⊙ name_in p) (v : Bool) (ev : v ≡ taken rs full) where
-      pub text_of_taken : v ≡ true → [] ≡ message_text rs set messages t proto3 (message_texts rs set messages t proto3 left) d scope deeper i p
+    -- ---- a message
+    module _ (d : ℕ) (scope : Bytes) (deeper : Bool) (i : ℕ) (p : Bytes) {entry : Bool} (is : entry ≡ is_entry p) where
+      pub text_of_entry : entry ≡ true → [] ≡ message_text g.options g.set g.messages g.fields proto3 inner d scope deeper i p
       unfolding message_text
-      text_of_taken k = rw (← eu, h, ← ef, ← ev, k)
+      text_of_entry h = rw (← is, h)
 
-      module _ (k : v ≡ false) {b b' : List ℕ} {a : ℕ} (w : Wrote b 0 (struct_text rs set messages t proto3 d scope full deeper i p) b' a) (m : Bool) (em : m ≡ module_for messages t deeper i p) where
-        pub text_of_struct : m ≡ false → Wrote b 0 (message_text rs set messages t proto3 (message_texts rs set messages t proto3 left) d scope deeper i p) b' a
+      module _ (h : entry ≡ false) {full : Bytes} (fe : full ≡ scope ⊙ name_in p) {other : Bool} (te : other ≡ taken g.options full) where
+        pub text_of_taken : other ≡ true → [] ≡ message_text g.options g.set g.messages g.fields proto3 inner d scope deeper i p
         unfolding message_text
-        text_of_struct none = rw (← eu, h, ← ef, ← ev, k, ← em, none) (named (sym (append-nil _)) w)
+        text_of_taken k = rw (← is, h, ← fe, ← te, k)
 
-        pub text_with_module : m ≡ true → {b'' : List ℕ} {r : ℕ} → Wrote b' a (module_text rs set messages t proto3 (message_texts rs set messages t proto3 left) d full deeper i p) b'' r → Wrote b 0 (message_text rs set messages t proto3 (message_texts rs set messages t proto3 left) d scope deeper i p) b'' r
+        pub text_written : other ≡ false → {there : Bool} → there ≡ module_for g.messages g.fields deeper i p
+            → struct_text g.options g.set g.messages g.fields proto3 d scope full deeper i p ++ pick there (module_text g.options g.set g.messages g.fields proto3 inner d full deeper i p) []
+            ≡ message_text g.options g.set g.messages g.fields proto3 inner d scope deeper i p
         unfolding message_text
-        text_with_module there x = rw (← eu, h, ← ef, ← ev, k, ← em, there) (w ► x)
+        text_written k e = rw (← is, h, ← fe, ← te, k, ← e)
+
+-- ---- a file. g₁: the context as the code has it
+pub file_written : (g : Given) (first : ℕ) (p : Bytes) (u u₁ u₂ : Text) {g₁ : Given} {proto3 : Bool} {scope : Bytes} {ps : List Bytes} → g₁ ≡ g → proto3 ≡ is_proto3 (syntax_of (decode_file p).syntax) → scope ≡ take max_path (package_scope (decode_file p).package_name) → ps ≡ parts 4 (entries p)
+    → u₁ ≡ u ▻ message_texts g.options g.set g.messages g.fields proto3 16 0 scope first ps
+    → u₂ ≡ u₁ ▻ enum_texts g₁.options 0 scope (enums_in 5 p)
+    → u₂ ≡ u ▻ text_of_file g.options g.set g.messages g.fields first p
+unfolding text_of_file
+file_written g first p u u₁ u₂ {g₁} {proto3} {scope} {ps} ge pe se le messages enums =
+    rw (← pe, ← se, ← le) (appended u u₁ u₂ _ _ messages (enums ∙ ap (λ (y : Given). u₁ ▻ enum_texts y.options 0 scope (enums_in 5 p)) ge))

@@ -11,6 +11,8 @@ use Rattle.name_rules.specs.FullNames.{package_scope}
 use Rattle.walks.specs.Walked.{walked}
 use Rattle.joined.specs.Joined.{max_path, ◌⊙◌}
 use Rattle.text_tables.specs.Rows.{message_row}
+use Rattle.text_tables.specs.declared.MessageRow.{MessageRow}
+use Rattle.text_tables.specs.declared.FieldRow.{FieldRow}
 use Rattle.members.specs.Members.{name_in, in_oneofs}
 use Rattle.struct_text.specs.StructText.{struct_text}
 use Rattle.enum_text.specs.EnumText.{enums_in, enum_texts}
@@ -24,14 +26,14 @@ abbrev pub is_entry : Bytes → Bool
 is_entry q = (decode_message q).map_entry
 
 -- is a module written for message i, whose part p is? deeper: are nested messages read?
-unfoldable pub module_for : List ℕ → List ℕ → Bool → ℕ → Bytes → Bool
+unfoldable pub module_for : List MessageRow → List FieldRow → Bool → ℕ → Bytes → Bool
 module_for messages t deeper i p =
     not (is_empty (parts 4 (entries p)))
     || ((deeper && any (λ (q : Bytes). not (is_entry q)) (parts 3 (entries p)))
     || in_oneofs t (length (parts 2 (entries p))) (message_row messages i).first)
 
 -- t: the table of fields
-module _ (rs : List Setting) (set messages t : List ℕ) (proto3 : Bool) where
+module _ (rs : List Setting) (set : List ℕ) (messages : List MessageRow) (t : List FieldRow) (proto3 : Bool) where
   -- how the nested messages are written: at a depth, in a scope, the first with a number
   abbrev pub Inner : Type 0
   Inner = ℕ → Bytes → ℕ → List Bytes → Bytes
@@ -62,7 +64,7 @@ module _ (rs : List Setting) (set messages t : List ℕ) (proto3 : Bool) where
   message_texts (suc left) d scope i ps = walked (message_text (message_texts left) d scope (not (eqb left 0))) number_after i ps
 
 -- the text of the file whose part p is; its first message has the number i
-unfoldable pub text_of_file : List Setting → List ℕ → List ℕ → List ℕ → ℕ → Bytes → Bytes
+unfoldable pub text_of_file : List Setting → List ℕ → List MessageRow → List FieldRow → ℕ → Bytes → Bytes
 text_of_file rs set messages t i p =
     message_texts rs set messages t (is_proto3 (syntax_of (decode_file p).syntax)) 16 0 (take max_path (package_scope (decode_file p).package_name)) i (parts 4 (entries p))
     ++ enum_texts rs 0 (take max_path (package_scope (decode_file p).package_name)) (enums_in 5 p)

@@ -11,6 +11,8 @@ use Rattle.descriptor.specs.Decode.{decode_set}
 use Rattle.descriptor.specs.Limits.{limit_passed}
 use Rattle.options.specs.Settings.{Setting}
 use Rattle.name_rules.specs.Answer.{names}
+use Rattle.text_tables.specs.declared.MessageRow.{MessageRow}
+use Rattle.text_tables.specs.declared.FieldRow.{FieldRow}
 use Rattle.table_says.specs.Says.{Says}
 use Rattle.code_generator.specs.Refusals.{overlap}
 use Rattle.name_check.specs.NameCheck.{Place, package_modules, module_place, file_places, places, places_differ, file_members_meet, name_check}
@@ -38,7 +40,7 @@ not_not : (a : Bool) → not (not a) ≡ a
 not_not true = refl
 not_not false = refl
 
-module _ (rs : List Setting) (set messages t : List ℕ) (passed : limit_passed set ≡ 0) (good : names (decode_set set) ≡ Ok tt) (says : Says rs set messages t) (room : ℕ) where
+module _ (rs : List Setting) (set : List ℕ) (messages : List MessageRow) (t : List FieldRow) (passed : limit_passed set ≡ 0) (good : names (decode_set set) ≡ Ok tt) (says : Says rs set messages t) (room : ℕ) where
   abbrev declared : List Place
   declared = all_of (file_places rs) (decode_set set)
 

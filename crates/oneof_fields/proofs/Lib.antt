@@ -1,3 +1,3 @@
 pub mod TagLaws
-pub mod RangeLaws
 pub mod PathLaws
+pub mod FieldLaws

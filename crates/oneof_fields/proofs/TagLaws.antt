@@ -1,5 +1,5 @@
 -- The numbers of a oneof's fields, one field on. Assumes nothing.
-use Rattle.std.specs.Prelude.{◌≡◌, ℕ, ◌+◌, ◌-◌, ◌<◌, ◌≤◌, Bool, true, false, List, [], ◌∷◌, ◌++◌, map}
+use Rattle.std.specs.Prelude.{◌≡◌, ℕ, Bool, true, false, List, [], ◌∷◌, ◌++◌, map}
 use mathlib.Core.Path.{refl, sym, ap, ◌∙◌}
 use Rattle.base.specs.Bytes.{b}
 use Rattle.writer.specs.declared.text.Text.{Text}
@@ -11,10 +11,6 @@ use Rattle.code_generator.proofs.WritingLaws.{written-flat}
 use Rattle.writer.specs.Decimal.{decimal}
 use Rattle.descriptor.specs.Descriptor.{Bytes, FieldDescriptor}
 use Rattle.name_rules.specs.Accessors.{number}
-use Rattle.text_tables.specs.Rows.{field_row}
-use Rattle.text_tables.specs.declared.FieldRow.{FieldRow}
-use Rattle.members.specs.Members.{field_at, numbers_with}
-use Rattle.members.proofs.MemberLaws.{numbers_end, numbers_found, numbers_skip}
 use Rattle.code_generator.specs.Piece.{flat}
 use Rattle.code_generator.specs.Oneofs.{tags, more_tags}
 
@@ -33,54 +29,25 @@ unfolding numbers_of tags more_tags
 next_of true f fs = refl
 next_of false f fs = refl
 
-module _ (set t : List ℕ) (c last : ℕ) where
-  -- those of the oneof c from field k on, below last
-  abbrev pub tags_from : Bool → ℕ → Bytes
-  tags_from more k = numbers_of more (map (field_at set t) (numbers_with t c (last - k) k))
-
-  pub all_tags : (k : ℕ) → tags_from false k ≡ flat (tags (map (field_at set t) (numbers_with t c (last - k) k)))
-  unfolding numbers_of
-  all_tags k = refl
-
-  module _ (more : Bool) (k : ℕ) where
-    same_tags : {ks : List ℕ} → numbers_with t c (last - k) k ≡ ks → tags_from more k ≡ numbers_of more (map (field_at set t) ks)
-    same_tags e = ap (λ (ks : List ℕ). numbers_of more (map (field_at set t) ks)) e
-
-    pub tags_end : last ≤ k → tags_from more k ≡ []
-    tags_end h = same_tags (numbers_end t last k c h) ∙ none_of more
-
-    module _ (h : k < last) (row : FieldRow) (is : row ≡ field_row t k) where
-      pub tags_skip : (row.oneof ≡ c → ⊥) → tags_from more k ≡ tags_from more (k + 1)
-      tags_skip ne = same_tags (numbers_skip t last k h row is c ne)
-
-      pub tags_next : row.oneof ≡ c → (n : ℕ) → n ≡ number (field_at set t k) → tags_from more k ≡ (pick more (b ", ") [] ++ decimal n) ++ tags_from true (k + 1)
-      tags_next e n there =
-          same_tags (numbers_found t last k h row is c e) ∙ next_of more (field_at set t k) _
-          ∙ ap (λ (m : ℕ). (pick more (b ", ") [] ++ decimal m) ++ tags_from true (k + 1)) (sym there)
-
 -- ---- written into a text
 pub tag_written : (t t₁ t₂ : Text) (more : Bool) (p q : List ℕ) → t₁ ≡ put_where more t p → t₂ ≡ t₁ ▻ q → t₂ ≡ t ▻ (pick more p [] ++ q)
 tag_written t t₁ t₂ more p q e f = appended t t₁ t₂ (pick more p []) q (e ∙ put_where-pick more t p) f
 
-module _ (set t : List ℕ) (c last k : ℕ) (u goal : Text) (more : Bool) (h : u ▻ tags_from set t c last more k ≡ goal) where
+-- all of them
+pub tags_all : (t : Text) (fs : List FieldDescriptor) → t ▻ numbers_of false fs ≡ t ⊳ tags fs
+unfolding numbers_of
+tags_all t fs = sym (written-flat t (tags fs))
+
+module _ (field : ℕ → FieldDescriptor) (u goal : Text) (more : Bool) (ks : List ℕ) (h : u ▻ numbers_of more (map field ks) ≡ goal) where
   -- one field on
-  pub tags_on : k < last → (field_row t k).oneof ≡ c → (n : ℕ) (u₁ : Text) (more₁ : Bool) → n ≡ number (field_at set t k) → u₁ ≡ u ▻ (pick more (b ", ") [] ++ decimal n) → more₁ ≡ true → u₁ ▻ tags_from set t c last more₁ (k + 1) ≡ goal
-  tags_on l e n u₁ more₁ there w m =
-      ap (λ (v : Text). v ▻ tags_from set t c last more₁ (k + 1)) w
-      ∙ ap (λ (o : Bool). u ▻ (pick more (b ", ") [] ++ decimal n) ▻ tags_from set t c last o (k + 1)) m
-      ∙ put-append u (pick more (b ", ") [] ++ decimal n) (tags_from set t c last true (k + 1))
-      ∙ ap (λ (p : Bytes). u ▻ p) (sym (tags_next set t c last more k l (field_row t k) refl e n there))
+  pub tags_on : (k : ℕ) (rest : List ℕ) (n : ℕ) (u₁ : Text) → ks ≡ k ∷ rest → n ≡ number (field k) → u₁ ≡ u ▻ (pick more (b ", ") [] ++ decimal n) → u₁ ▻ numbers_of true (map field rest) ≡ goal
+  tags_on k rest n u₁ first there w =
+      ap (λ (v : Text). v ▻ numbers_of true (map field rest)) (w ∙ ap (λ (m : ℕ). u ▻ (pick more (b ", ") [] ++ decimal m)) there)
+      ∙ put-append u (pick more (b ", ") [] ++ decimal (number (field k))) (numbers_of true (map field rest))
+      ∙ ap (λ (p : Bytes). u ▻ p) (sym (next_of more (field k) (map field rest)))
+      ∙ ap (λ (l : List ℕ). u ▻ numbers_of more (map field l)) (sym first)
       ∙ h
 
-  pub tags_past : k < last → ((field_row t k).oneof ≡ c → ⊥) → (u₁ : Text) (more₁ : Bool) → u₁ ≡ u → more₁ ≡ more → u₁ ▻ tags_from set t c last more₁ (k + 1) ≡ goal
-  tags_past l ne u₁ more₁ w m =
-      ap (λ (v : Text). v ▻ tags_from set t c last more₁ (k + 1)) w
-      ∙ ap (λ (o : Bool). u ▻ tags_from set t c last o (k + 1)) m
-      ∙ ap (λ (p : Bytes). u ▻ p) (sym (tags_skip set t c last more k l (field_row t k) refl ne))
-      ∙ h
-
-  pub tags_done : last ≤ k → (u₀ : Text) (first : ℕ) → goal ≡ u₀ ▻ tags_from set t c last false first → u ≡ u₀ ⊳ tags (map (field_at set t) (numbers_with t c (last - first) first))
-  tags_done l u₀ first e =
-      sym (put-nothing u) ∙ ap (λ (p : Bytes). u ▻ p) (sym (tags_end set t c last more k l)) ∙ h ∙ e
-      ∙ ap (λ (p : Bytes). u₀ ▻ p) (all_tags set t c last first)
-      ∙ sym (written-flat u₀ (tags (map (field_at set t) (numbers_with t c (last - first) first))))
+  pub tags_done : ks ≡ [] → u ≡ goal
+  tags_done ends =
+      sym (put-nothing u) ∙ ap (λ (p : Bytes). u ▻ p) (sym (none_of more)) ∙ ap (λ (l : List ℕ). u ▻ numbers_of more (map field l)) (sym ends) ∙ h

@@ -7,13 +7,16 @@ use Rattle.descriptor.specs.Decode.{entries, parts}
 use Rattle.options.specs.Settings.{Setting}
 use Rattle.walks.specs.Walked.{walked}
 use Rattle.joined.specs.Joined.{fits}
+use Rattle.text_tables.specs.Rows.{is_in}
+use Rattle.text_tables.specs.declared.MessageRow.{MessageRow}
+use Rattle.text_tables.specs.declared.FieldRow.{FieldRow}
 use Rattle.members.specs.Members.{name_in, field_at, members, conflict}
 use Rattle.code_generator.specs.Piece.{Text, ◌⟫◌, when, flat}
 use Rattle.code_generator.specs.Attributes.{line, append_field_attributes}
 use Rattle.code_generator.specs.Oneofs.{OneofField, oneof_tag, oneof_line}
 
 -- t: the table of fields
-module _ (rs : List Setting) (set messages t : List ℕ) where
+module _ (rs : List Setting) (set : List ℕ) (messages : List MessageRow) (t : List FieldRow) where
   -- a oneof by the numbers of its fields
   abbrev pub oneof_of_numbers : Bytes → Bool → List ℕ → OneofField
   oneof_of_numbers name has_conflict ks = record { name = name; fields = map (field_at set t) ks; has_type_name_conflict = has_conflict }
@@ -29,8 +32,8 @@ module _ (rs : List Setting) (set messages t : List ℕ) where
   -- the oneof with the index x, whose part q is, of message i, whose part p is: one left without fields is left out
   unfoldable pub oneof_field_part : ℕ → Bytes → Bool → ℕ → Bytes → ℕ → Bytes → Bytes
   oneof_field_part d full deeper i p x q =
-      pick (is_empty (members messages t (suc x) i p)) []
-      (flat (oneof_field_text d full (name_in p) (name_in q) (conflict deeper p (name_in q)) (members messages t (suc x) i p)))
+      pick (is_empty (members (is_in x) messages t i p)) []
+      (flat (oneof_field_text d full (name_in p) (name_in q) (conflict deeper p (name_in q)) (members (is_in x) messages t i p)))
 
   abbrev pub next_index : ℕ → Bytes → ℕ
   next_index x q = suc x

@@ -8,13 +8,16 @@ use Rattle.descriptor.specs.Decode.{entries, parts}
 use Rattle.options.specs.Settings.{Setting}
 use Rattle.walks.specs.Walked.{walked}
 use Rattle.joined.specs.Joined.{◌⊙◌}
+use Rattle.text_tables.specs.Rows.{is_in}
+use Rattle.text_tables.specs.declared.MessageRow.{MessageRow}
+use Rattle.text_tables.specs.declared.FieldRow.{FieldRow}
 use Rattle.members.specs.Members.{name_in, members, all_copy, all_eq, conflict}
 use Rattle.variants.specs.Variants.{variant_texts}
 use Rattle.code_generator.specs.Piece.{Text, ◌⟫◌, piece, decl_open, choice, oneof_type, flat, lit}
 use Rattle.code_generator.specs.Attributes.{line, end, derive, append_type_attributes, append_enum_attributes, append_prost_path_attribute, append_skip_debug}
 
 -- t: the table of fields
-module _ (rs : List Setting) (set messages t : List ℕ) where
+module _ (rs : List Setting) (set : List ℕ) (messages : List MessageRow) (t : List FieldRow) where
   -- append_oneof: ks are its fields. full: the message's full name
   unfoldable pub oneof_text : ℕ → Bytes → Bytes → Bool → List ℕ → Text
   oneof_text d full name has_conflict ks =
@@ -32,8 +35,8 @@ module _ (rs : List Setting) (set messages t : List ℕ) where
   -- the oneof with the index x, whose part q is, of message i, whose part p is: one left without fields is left out
   unfoldable pub oneof_part : ℕ → Bytes → Bool → ℕ → Bytes → ℕ → Bytes → Bytes
   oneof_part d full deeper i p x q =
-      pick (is_empty (members messages t (suc x) i p)) []
-      (flat (oneof_text d full (name_in q) (conflict deeper p (name_in q)) (members messages t (suc x) i p)))
+      pick (is_empty (members (is_in x) messages t i p)) []
+      (flat (oneof_text d full (name_in q) (conflict deeper p (name_in q)) (members (is_in x) messages t i p)))
 
   abbrev pub next_index : ℕ → Bytes → ℕ
   next_index x q = suc x

@@ -2,7 +2,7 @@
 use Rattle.std.specs.Prelude.{◌≡◌, refl, ◌≤◌, Bool, true, false, ◌||◌, List, [], ◌∷◌, length, take}
 use Rattle.std.proofs.Common.{sym, ap, ap₂, ◌∙◌, arith, take_all, le-ltb, length-take-le}
 use Rattle.std.proofs.Math.Decide.{dec_le}
-use Rattle.std.proofs.lemmas.List.{take-append-le}
+use Rattle.std.proofs.lemmas.List.{take-append-le, length-append}
 use Rattle.base.specs.Lists.{any}
 use Rattle.descriptor.specs.Descriptor.{Bytes}
 use Rattle.name_rules.specs.FullNames.{◌·◌}
@@ -45,6 +45,13 @@ module _ (rows : List Bytes) where
   pub stands_none : (home : Bytes) → false ≡ stand home []
   unfolding modules_in any
   stands_none home = refl
+
+  pub stands_long : (home : Bytes) (xs : List Bytes) → 257 ≤ length home → false ≡ stand home xs
+  unfolding modules_in any module_in
+  stands_long home [] long = refl
+  stands_long home (x ∷ xs) long =
+      let n = length-append home (46 ∷ x) in
+      rw (le-ltb (length home) 257 long) (stands_long (home · x) xs (omega arith))
 
   module _ (home x : Bytes) (xs : List Bytes) (m : Bool) (is : m ≡ module_in rows (module_of home x)) where
     pub stands_hit : m ≡ true → true ≡ stand home (x ∷ xs)

@@ -10,10 +10,14 @@ ghost use Rattle.name_check.specs.NameCheck.{modules_in};
 ghost use Rattle.name_rows.specs.Rows.{rows_in};
 
 use descriptor::FileHeader;
+use descriptor::field_number::SET_FILE;
 use joined::{FullName, MAX_PATH};
 use name_rows::Spelling;
 use parts::Parts;
 use split::Separator;
+
+// The length of the longest home that has a declaration.
+const MAX_HOME: usize = 256;
 
 // Have two segments one snake name?
 fn same_snake(x: &[u8], y: &[u8]) -> bool
@@ -56,7 +60,7 @@ fn parts_meet(part: &[u8], other: &[u8]) -> bool
 fn package_meets(set: &[u8], part: &[u8]) -> bool
     ensures { result ≡ package_meets set.now part.now }
 {
-    Parts::new(set, 1).any(|other| parts_meet(part, other))
+    Parts::new(set, SET_FILE).any(|other| parts_meet(part, other))
 }
 
 /// Do two packages of the set meet?
@@ -64,7 +68,7 @@ fn package_meets(set: &[u8], part: &[u8]) -> bool
 pub fn packages_meet(set: &[u8]) -> bool
     ensures { result ≡ packages_meet set.now }
 {
-    Parts::new(set, 1).any(|part| package_meets(set, part))
+    Parts::new(set, SET_FILE).any(|part| package_meets(set, part))
 }
 
 // Does the module of a segment in a home stand among these rows? A home of over 256 bytes has no declaration.
@@ -72,7 +76,7 @@ pub fn packages_meet(set: &[u8]) -> bool
 fn module_stands(rows: &[u8], home: &[u8], segment: &[u8]) -> bool
     ensures { result ≡ module_in (rows_in (length rows.now) rows.now) (module_of home.now segment.now) }
 {
-    home.len() < 257
+    home.len() <= MAX_HOME
         && name_rows::row_among(rows, &name_rows::row_of(home, Spelling::Snake, segment))
 }
 
@@ -82,6 +86,10 @@ fn package_stands(rows: &[u8], name: &[u8]) -> bool
 {
     let mut home = FullName::root();
     for segment in split::Parts::new(name, Separator::Dot) {
+        // The homes behind it are longer.
+        if home.as_bytes().len() > MAX_HOME {
+            return false;
+        }
         if module_stands(rows, home.as_bytes(), segment) {
             return true;
         }
@@ -106,5 +114,5 @@ fn part_stands(rows: &[u8], part: &[u8]) -> bool
 pub fn packages_stand(rows: &[u8], set: &[u8]) -> bool
     ensures { result ≡ packages_stand (length rows.now) rows.now set.now }
 {
-    Parts::new(set, 1).any(|part| part_stands(rows, part))
+    Parts::new(set, SET_FILE).any(|part| part_stands(rows, part))
 }

@@ -19,7 +19,7 @@ use Rattle.name_rules.specs.Accessors.{text, is_repeated, is_message}
 use Rattle.name_rules.specs.Rules.{is_text, file_good}
 use Rattle.name_rules.specs.FullNames.{package_scope, entries, set_entries, fields_of_entries, set_fields}
 use Rattle.name_rules.specs.MapEntries.{names_it, maps_it, entry_named, entries_named, map_entries_named}
-use Rattle.name_rules.specs.Answer.{file_named, first_six, first_seven, names}
+use Rattle.name_rules.specs.Answer.{file_named, first_six, names}
 use Rattle.name_rules.proofs.NamesLaws.{no_refusals}
 use Rattle.map_entries.proofs.FieldCounts.{count_append}
 use Rattle.type_names.proofs.SevenTheorems.{fields_append}

@@ -1,11 +1,11 @@
 -- The declaration that a field's type name names, in a set without refusals 6 and 7. Assumes nothing.
-use Rattle.std.specs.Prelude.{ℕ, zero, suc, ◌+◌, ◌≤◌, ◌<◌, ◌≡◌, refl, Bool, true, ◌&&◌, ◌||◌, not, eqb, ltb, length, get_or, Ok}
+use Rattle.std.specs.Prelude.{ℕ, zero, suc, ◌+◌, ◌≤◌, ◌<◌, ◌≡◌, refl, Bool, true, ◌&&◌, ◌||◌, not, eqb, length, get_or, Ok}
 use Rattle.std.proofs.Math.Path.{ap, sym}
 use Rattle.std.proofs.Common.{◌∙◌, subst, ⊎_elim, arith, ltb-false, eqb-true, eq-eqb}
 use Rattle.std.proofs.Math.Bool.{false}
 use mathlib.Core.List.Memᴰ
 use mathlib.Core.List.{List, [], ◌∷◌, ◌++◌, map, Memᴰ}
-use Rattle.base.specs.Choose.{choose, choose_case}
+use Rattle.base.specs.Choose.{choose_case}
 use Rattle.base.specs.Tests.{both_ways, and_left, and_right, or_left, or_right, or_cases}
 use Rattle.base.specs.Lists.{all, Every}
 use Rattle.field_types.specs.Types.{FieldType, types, no_type, sort_of, group, message, enumerated}
@@ -15,7 +15,7 @@ use Rattle.extern_paths.specs.ExternPaths.{taken}
 use Rattle.name_rules.specs.Accessors.{text, type, is_message, is_group, is_enum}
 use Rattle.name_rules.specs.FullNames.{◌·◌, package_scope, Entry, entries, set_entries, Declaration, enum_declarations, entry_declarations, file_declarations, set_declarations, fresh, type_declared, file_fields, set_fields, first_undeclared}
 use Rattle.name_rules.specs.WellFormed.{GoodEnum, WellFormed}
-use Rattle.name_rules.specs.Answer.{first_six, first_seven, names}
+use Rattle.name_rules.specs.Answer.{first_seven, names}
 use Rattle.name_rules.proofs.NamesLaws.{no_refusals}
 use Rattle.name_rules.proofs.WellFormedLaws.{every_file}
 use Rattle.type_names.proofs.FreshLaws.{fulls}

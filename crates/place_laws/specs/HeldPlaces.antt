@@ -59,7 +59,7 @@ package_plain none h = tt
 package_plain (some p) h = (omega arith, segments_plain p (every_to (λ s n. name_plain s n.identifier) (segments p) (h p refl)))
 
 -- ---- one place
-named_text : (o : Option Bytes) → Named o → is_name (text o) ≡ true
+pub named_text : (o : Option Bytes) → Named o → is_name (text o) ≡ true
 named_text o n = rw n.there n.good.identifier
 
 -- a home in which a name of up to 106 bytes has room

@@ -8,6 +8,8 @@ use Rattle.descriptor.specs.Limits.{limit_passed}
 use Rattle.options.specs.Settings.{Setting}
 use Rattle.name_rules.specs.Answer.{names}
 use Rattle.name_rules.proofs.WellFormedLaws.{every_file}
+use Rattle.text_tables.specs.declared.MessageRow.{MessageRow}
+use Rattle.text_tables.specs.declared.FieldRow.{FieldRow}
 use Rattle.path_fits.proofs.FitLaws.{set_fits}
 use Rattle.table_says.specs.Says.{Says}
 use Rattle.limit_facts.specs.Within.{within}
@@ -19,7 +21,7 @@ use Rattle.place_laws.specs.RowTexts.{files_rows_are}
 use Rattle.place_laws.specs.HeldPlaces.{files_held}
 use Rattle.place_laws.specs.PlaceCount.{places_most}
 
-module _ (rs : List Setting) (set messages t : List ℕ) (passed : limit_passed set ≡ 0) (good : names (decode_set set) ≡ Ok tt) (says : Says rs set messages t) where
+module _ (rs : List Setting) (set : List ℕ) (messages : List MessageRow) (t : List FieldRow) (passed : limit_passed set ≡ 0) (good : names (decode_set set) ≡ Ok tt) (says : Says rs set messages t) where
   abbrev pub declared : List Place
   declared = all_of (file_places rs) (decode_set set)
 

@@ -5,11 +5,11 @@ use Rattle.std.proofs.Math.Path.{refl, sym, ap₂}
 use Rattle.std.proofs.Common.{ap, ◌∙◌, ⊎_elim, arith, take_all}
 use mathlib.Core.List.{List, [], ◌∷◌, ◌++◌, map, append_assoc, append-nil}
 use Rattle.base.specs.Choose.{choose}
-use Rattle.base.specs.Lists.{is_empty, all_of, Every, map_length}
+use Rattle.base.specs.Lists.{is_empty, all_of, Every}
 use Rattle.writer.specs.Text.{pick}
 use Rattle.ident.specs.Ident.{to_snake, to_upper_camel}
 use Rattle.descriptor.specs.Descriptor.{Bytes, Forest, done, MessageDescriptor, FileDescriptor}
-use Rattle.descriptor.specs.Decode.{entries, parts, decode_field, decode_oneof, decode_enum, decode_message, decode_messages, decode_file}
+use Rattle.descriptor.specs.Decode.{entries, parts, decode_oneof, decode_enum, decode_message, decode_messages, decode_file}
 use Rattle.index.specs.Tree.{size}
 use Rattle.index.proofs.OwnerLaws.{all_of_append}
 use Rattle.options.specs.Settings.{Setting}
@@ -20,7 +20,9 @@ use Rattle.name_rules.specs.WellFormed.{WellFormed}
 use Rattle.walks.specs.Walked.{walked}
 use Rattle.joined.specs.Joined.{max_path}
 use Rattle.path_fits.specs.PathsFit.{max_scope, EnumFits, OneofFits, MessageFits, FileFits}
-use Rattle.text_tables.specs.Rows.{message_row}
+use Rattle.text_tables.specs.Rows.{message_row, is_in}
+use Rattle.text_tables.specs.declared.MessageRow.{MessageRow}
+use Rattle.text_tables.specs.declared.FieldRow.{FieldRow}
 use Rattle.members.specs.Members.{name_in, members, cut_camel}
 use Rattle.table_says.specs.Says.{Numbered, NumberedFiles, NodeSays, Says}
 use Rattle.code_generator.specs.Piece.{spelt}
@@ -28,7 +30,7 @@ use Rattle.code_generator.specs.Oneofs.{fields_at, OneofField, oneof_fields, typ
 use Rattle.code_generator.specs.Generate.{has_module}
 use Rattle.text_laws.specs.Pairwise.{pairwise_empty}
 use Rattle.text_laws.specs.Described.{MessageIs, Described}
-use Rattle.text_laws.proofs.MemberLaws.{oneof_numbers}
+use Rattle.text_laws.proofs.MemberLaws.{oneof_members}
 use Rattle.text_laws.proofs.NestedLaws.{Siblings, siblings_fit, conflict_is, module_is}
 use Rattle.text_laws.proofs.OneofLaws.{oneof_at, walked_is}
 use Rattle.text_laws.proofs.FileLaws.{no_parts, none_mapped}
@@ -86,7 +88,7 @@ one_message rs scope m nested =
     ++ (enum_places rs (scope · text m.name) m.enums ++ oneof_places (scope · text m.name) (oneof_fields m nested)))) [])
 
 -- ---- message i, whose part p is, with so many levels below it
-module _ (rs : List Setting) (set messages t : List ℕ) (scope : Bytes) (left i : ℕ) (p : Bytes) (fit : MessageFits scope (decode_message p))
+module _ (rs : List Setting) (set : List ℕ) (messages : List MessageRow) (t : List FieldRow) (scope : Bytes) (left i : ℕ) (p : Bytes) (fit : MessageFits scope (decode_message p))
     (s : Siblings (MessageFits (scope · text (decode_message p).name)) (decode_messages left (parts 3 (entries p))))
     (has : MessageIs rs set messages t (scope · text (decode_message p).name) (decode_message p) (decode_messages left (parts 3 (entries p))) i) where
   abbrev full : Bytes
@@ -102,11 +104,8 @@ module _ (rs : List Setting) (set messages t : List ℕ) (scope : Bytes) (left i
   deeper = not (eqb left 0)
 
   -- its oneofs
-  members_empty : (x : ℕ) → is_empty (members messages t (suc x) i p) ≡ is_empty (fields_at x m.fields)
-  unfolding decode_message
-  members_empty x =
-      rw (← (map_length decode_field (parts 2 (entries p))))
-      (pairwise_empty (oneof_numbers t (λ k f v. v.oneof) x (message_row messages i).first m.fields has.fields))
+  members_empty : (x : ℕ) → is_empty (members (is_in x) messages t i p) ≡ is_empty (fields_at x m.fields)
+  members_empty x = pairwise_empty (oneof_members t (λ k f v. v.oneof) messages i p has.fields x)
 
   abbrev oneof_place : OneofField → Place
   oneof_place x = record { home = full; name = spelt (type_name x) }
@@ -130,7 +129,7 @@ module _ (rs : List Setting) (set messages t : List ℕ) (scope : Bytes) (left i
       rw (fit.own.whole, module_is rs set messages t full left i p s has, inside, enum_rows_are rs full (parts 4 (entries p)) fit.enums, oneof_rows_are)
       (whole_message (m.map_entry || taken rs full) (has_module m nested) _ _ (message_places rs full nested) (enum_places rs full m.enums) (oneof_places full (oneof_fields m nested)))
 
-module _ (rs : List Setting) (set messages t : List ℕ) where
+module _ (rs : List Setting) (set : List ℕ) (messages : List MessageRow) (t : List FieldRow) where
   messages_rows_are : (left : ℕ) (scope : Bytes) (i : ℕ) (ps : List Bytes) → Described rs set messages t scope i (decode_messages left ps)
       → messages_rows rs messages t left scope i ps ≡ rows_of (message_places rs scope (decode_messages left ps))
   unfolding messages_rows walked message_places all_of decode_messages

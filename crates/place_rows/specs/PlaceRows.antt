@@ -10,7 +10,9 @@ use Rattle.extern_paths.specs.ExternPaths.{taken}
 use Rattle.name_rules.specs.FullNames.{package_scope}
 use Rattle.walks.specs.Walked.{walked}
 use Rattle.joined.specs.Joined.{max_path, ◌⊙◌}
-use Rattle.text_tables.specs.Rows.{message_row}
+use Rattle.text_tables.specs.Rows.{message_row, is_in}
+use Rattle.text_tables.specs.declared.MessageRow.{MessageRow}
+use Rattle.text_tables.specs.declared.FieldRow.{FieldRow}
 use Rattle.members.specs.Members.{name_in, members, conflict}
 use Rattle.code_generator.specs.Piece.{spelt, oneof_type}
 use Rattle.message_text.specs.MessageText.{is_entry, module_for}
@@ -28,11 +30,11 @@ unfoldable pub enum_rows : List Setting → Bytes → List Bytes → Bytes
 enum_rows rs home qs = walked (enum_row rs home) same_count 0 qs
 
 -- ---- by the tables; t: the table of fields
-module _ (messages t : List ℕ) where
+module _ (messages : List MessageRow) (t : List FieldRow) where
   -- the enum of the oneof with the index x, whose part q is, of message i, whose part p is: one left without fields is left out
   unfoldable pub oneof_row : Bytes → Bool → ℕ → Bytes → ℕ → Bytes → Bytes
   oneof_row full deeper i p x q =
-      pick (is_empty (members messages t (suc x) i p)) [] (row full (spelt (oneof_type (conflict deeper p (name_in q)) (name_in q))))
+      pick (is_empty (members (is_in x) messages t i p)) [] (row full (spelt (oneof_type (conflict deeper p (name_in q)) (name_in q))))
 
   abbrev pub next_index : ℕ → Bytes → ℕ
   next_index x q = suc x
@@ -40,7 +42,7 @@ module _ (messages t : List ℕ) where
   unfoldable pub oneof_rows : Bytes → Bool → ℕ → Bytes → Bytes
   oneof_rows full deeper i p = walked (oneof_row full deeper i p) next_index 0 (parts 8 (entries p))
 
-module _ (rs : List Setting) (messages t : List ℕ) where
+module _ (rs : List Setting) (messages : List MessageRow) (t : List FieldRow) where
   -- the rows of nested messages in a scope, the first with a number
   abbrev pub Inner : Type 0
   Inner = Bytes → ℕ → List Bytes → Bytes

@@ -1,289 +1,184 @@
-// The rows of the places that a set's declarations have: structs, enums, oneof enums, modules of messages.
+//! The rows of the places that a set's declarations have: structs, enums, oneof enums, modules of messages.
 #![tactic(auto)]
 
-ghost use Rattle.std.specs.Prelude.{◌≡◌, ◌&&◌, not, [], ◌+◌, ◌-◌, ◌≤◌, ◌<◌, ◌^◌, eqb};
-ghost use Rattle.base.specs.Lists.{is_empty};
-ghost use Rattle.writer.specs.Wrote.{Wrote};
-ghost use Rattle.writer.specs.Text.{pick};
+ghost use Rattle.std.specs.Prelude.{◌≡◌, ◌+◌, ◌≤◌, ◌<◌, ◌^◌, not, eqb};
+ghost use Rattle.writer.specs.Writing.{◌▻◌};
 ghost use Rattle.descriptor.specs.Decode.{entries, parts};
-ghost use Rattle.options.specs.Settings.{settings};
-ghost use Rattle.checksums.specs.SumLaws.{Stored};
-ghost use Rattle.members.specs.Members.{name_in, numbers_with, conflict, camel_sums};
-ghost use Rattle.code_generator.specs.Piece.{spelt, oneof_type};
-ghost use Rattle.name_rows.specs.Rows.{row};
 ghost use Rattle.place_rows.specs.PlaceRows.{enum_row, enum_rows, oneof_rows, module_rows, message_rows, messages_rows, file_rows, set_rows};
 
-use joined::MAX_PATH;
-use members::NAMES;
-use wire::Step;
+use context::Context;
+use descriptor::field_number::{
+    FILE_ENUM_TYPE, FILE_MESSAGE_TYPE, MESSAGE_ENUM_TYPE, MESSAGE_NESTED_TYPE, MESSAGE_ONEOF_DECL,
+    SET_FILE,
+};
+use extern_paths::resolve::takes;
+use joined::FullName;
+use members::camel::CamelSums;
+use members::{Message, Oneof};
+use name_rows::{Spelling, put_row};
+use options::Options;
+use parts::Parts;
+use writer::Text;
 
-// The enum whose part q is, unless an extern path takes it.
-fn put_enum(t: &mut [u8], at: usize, o: &[u8], home: &[u8], q: &[u8]) -> usize
-    ensures { Wrote t.old at (enum_row (settings o.now) home.now 0 q.now) t.new result }
+// An enum, unless an extern path takes it.
+fn put_enum(text: &mut Text<'_>, options: &Options<'_>, home: &[u8], part: &[u8])
+    ensures { text.new ≡ text.old ▻ enum_row options.now home.now 0 part.now }
 {
-    let name = joined::name_of(q);
-    let mut path = [0u8; MAX_PATH];
-    let n = joined::path_in(&mut path, home, name);
-    let taken = extern_paths::resolve::is_taken(o, &path[0..n]);
-    if taken {
-        return at;
+    let name = joined::name_of(part);
+    let path = FullName::new(home, name);
+    if !takes(options, path.as_bytes()) {
+        put_row(text, home, Spelling::UpperCamel, name);
     }
-    name_rows::put_camel_row(t, at, home, name)
 }
 
-// The enums with this field number.
-fn put_enums(t: &mut [u8], at: usize, o: &[u8], home: &[u8], s: &[u8], number: u64) -> usize
-    ensures { Wrote t.old at (enum_rows (settings o.now) home.now (parts number (entries s.now))) t.new result }
+fn put_enums(text: &mut Text<'_>, options: &Options<'_>, home: &[u8], enums: Parts<'_>)
+    ensures { text.new ≡ text.old ▻ enum_rows options.now home.now enums.entry }
 {
-    let mut a = at;
-    let mut place: usize = 0;
-    loop {
-        match wire::read_step(s, place) {
-            Step::End => return a,
-            Step::Fault(_) => return a,
-            Step::Found(f) => {
-                place = f.next;
-                if f.number == number {
-                    a = put_enum(t, a, o, home, parts::embedded(s, f));
-                }
-            }
+    for part in enums {
+        put_enum(text, options, home, part);
+    }
+}
+
+// The enums of a message's oneofs: one left without fields is left out.
+fn put_oneofs(text: &mut Text<'_>, context: &Context<'_>, message: &Message<'_>)
+    ensures { text.new ≡ text.old ▻ oneof_rows context.now.messages context.now.fields message.now.full message.now.nested message.now.number message.now.part }
+{
+    if !message.declares_oneofs() {
+        return;
+    }
+    let fields = message.fields(context.messages);
+    let sums = CamelSums::of(message.part, message.nested);
+    for (index, part) in Parts::new(message.part, MESSAGE_ONEOF_DECL).enumerate() {
+        let range = fields.start..fields.end;
+        let oneof = Oneof::new(context.fields, range, &sums, index, part);
+        if let Some(oneof) = oneof {
+            put_row(
+                text,
+                message.full,
+                Spelling::OneofType(oneof.conflict),
+                oneof.name,
+            );
         }
     }
 }
 
-// The enum of the oneof whose part q is, of the message whose part p is: one left without fields is left out.
-fn put_oneof(
-    t: &mut [u8],
-    at: usize,
-    fields: &[u16],
-    full: &[u8],
-    sums: &[u64],
-    n: usize,
-    deeper: bool,
-    p: &[u8],
-    q: &[u8],
-    c: usize,
-    first: usize,
-    last: usize,
-) -> usize
-    requires { Stored sums.now n (camel_sums deeper p.now) }
-    ensures { Wrote t.old at (pick (is_empty (numbers_with fields.now c (last - first) first)) [] (row full.now (spelt (oneof_type (conflict deeper p.now (name_in q.now)) (name_in q.now))))) t.new result }
-{
-    let there = members::has_members(fields, c, first, last);
-    if !there {
-        return at;
-    }
-    let name = joined::name_of(q);
-    let meets = members::conflict_by(sums, n, p, deeper, name);
-    name_rows::put_oneof_row(t, at, full, name, meets)
-}
-
-// The enums of the oneofs of message i, whose part p is.
-fn oneofs_by(
-    t: &mut [u8],
-    at: usize,
-    messages: &[u16],
-    fields: &[u16],
-    full: &[u8],
-    sums: &[u64],
-    n: usize,
-    deeper: bool,
-    i: usize,
-    p: &[u8],
-) -> usize
-    requires { Stored sums.now n (camel_sums deeper p.now) }
-    ensures { Wrote t.old at (oneof_rows messages.now fields.now full.now deeper i p.now) t.new result }
-{
-    let range = members::fields_of(messages, i, p);
-    let first = range.first;
-    let last = range.last;
-    let mut a = at;
-    let mut place: usize = 0;
-    let mut x: usize = 0;
-    loop {
-        match wire::read_step(p, place) {
-            Step::End => return a,
-            Step::Fault(_) => return a,
-            Step::Found(f) => {
-                place = f.next;
-                if f.number == 8 {
-                    x = x + 1;
-                    let q = parts::embedded(p, f);
-                    a = put_oneof(t, a, fields, full, sums, n, deeper, p, q, x, first, last);
-                }
-            }
-        }
-    }
-}
-
-// The same, where the checksums of the types that a oneof's enum may not be called like aren't there yet.
-fn put_oneofs(
-    t: &mut [u8],
-    at: usize,
-    messages: &[u16],
-    fields: &[u16],
-    full: &[u8],
-    deeper: bool,
-    i: usize,
-    p: &[u8],
-) -> usize
-    ensures { Wrote t.old at (oneof_rows messages.now fields.now full.now deeper i p.now) t.new result }
-{
-    let mut sums = [0u64; NAMES];
-    let n = members::camel_sums(&mut sums, deeper, p);
-    oneofs_by(t, at, messages, fields, full, &sums, n, deeper, i, p)
-}
-
-// The module of message i, whose part p is, with so many levels of messages in it.
+// The module of a message in a scope, with so many levels of messages in it.
 #[cycle(put_message_put_messages_put_module)]
 fn put_module(
-    t: &mut [u8],
-    at: usize,
-    o: &[u8],
-    messages: &[u16],
-    fields: &[u16],
+    text: &mut Text<'_>,
+    context: &Context<'_>,
     scope: &[u8],
-    full: &[u8],
-    i: usize,
-    p: &[u8],
+    message: &Message<'_>,
     left: u32,
-) -> usize
-    requires { (left ≤ 15) × (i + left < 2 ^ 33) }
-    ensures { Wrote t.old at (module_rows (settings o.now) messages.now fields.now (messages_rows (settings o.now) messages.now fields.now left) scope.now full.now (not (eqb left 0)) i p.now) t.new result }
+)
+    requires { (left ≤ 15) × (message.now.number + left < 2 ^ 33) }
+    ensures { text.new ≡ text.old ▻ module_rows context.now.options context.now.messages context.now.fields (messages_rows context.now.options context.now.messages context.now.fields left) scope.now message.now.full message.now.nested message.now.number message.now.part }
 {
-    let deeper = left != 0;
-    let first = i + 1;
-    let a = name_rows::put_snake_row(t, at, scope, joined::name_of(p));
-    let a = put_messages(t, a, o, messages, fields, full, first, p, 3, left);
-    let a = put_enums(t, a, o, full, p, 4);
-    put_oneofs(t, a, messages, fields, full, deeper, i, p)
+    let part = message.part;
+    put_row(text, scope, Spelling::Snake, message.name());
+    put_messages(
+        text,
+        context,
+        message.full,
+        message.number + 1,
+        Parts::new(part, MESSAGE_NESTED_TYPE),
+        left,
+    );
+    put_enums(
+        text,
+        &context.options,
+        message.full,
+        Parts::new(part, MESSAGE_ENUM_TYPE),
+    );
+    put_oneofs(text, context, message);
 }
 
-// Message i, whose part p is.
+// A message in a scope.
 #[cycle(put_message_put_messages_put_module)]
 fn put_message(
-    t: &mut [u8],
-    at: usize,
-    o: &[u8],
-    messages: &[u16],
-    fields: &[u16],
+    text: &mut Text<'_>,
+    context: &Context<'_>,
     scope: &[u8],
-    i: usize,
-    p: &[u8],
+    number: usize,
+    part: &[u8],
     left: u32,
-) -> usize
-    requires { (left ≤ 15) × (i + left < 2 ^ 33) }
-    ensures { Wrote t.old at (message_rows (settings o.now) messages.now fields.now (messages_rows (settings o.now) messages.now fields.now left) scope.now (not (eqb left 0)) i p.now) t.new result }
+)
+    requires { (left ≤ 15) × (number + left < 2 ^ 33) }
+    ensures { text.new ≡ text.old ▻ message_rows context.now.options context.now.messages context.now.fields (messages_rows context.now.options context.now.messages context.now.fields left) scope.now (not (eqb left 0)) number part.now }
 {
-    let entry = members::is_entry(p);
-    if entry {
-        return at;
+    if members::is_entry(part) {
+        return;
     }
-    let name = joined::name_of(p);
-    let mut path = [0u8; MAX_PATH];
-    let n = joined::path_in(&mut path, scope, name);
-    let full = &path[0..n];
-    let taken = extern_paths::resolve::is_taken(o, full);
-    if taken {
-        return at;
+    let name = joined::name_of(part);
+    let full = FullName::new(scope, name);
+    if takes(&context.options, full.as_bytes()) {
+        return;
     }
-    let a = name_rows::put_camel_row(t, at, scope, name);
-    let deeper = left != 0;
-    let module = message_text::module_for(messages, fields, deeper, i, p);
-    if module {
-        return put_module(t, a, o, messages, fields, scope, full, i, p, left);
+    put_row(text, scope, Spelling::UpperCamel, name);
+    let message = Message {
+        part,
+        number,
+        full: full.as_bytes(),
+        nested: left != 0,
+    };
+    if message_text::module_for(context, &message) {
+        put_module(text, context, scope, &message, left);
     }
-    a
 }
 
-// The messages with this field number in a scope, the first with the number i; so many levels.
+// Messages in a scope, so many levels; `first` is the number of the first.
 #[cycle(put_message_put_messages_put_module)]
 fn put_messages(
-    t: &mut [u8],
-    at: usize,
-    o: &[u8],
-    messages: &[u16],
-    fields: &[u16],
+    text: &mut Text<'_>,
+    context: &Context<'_>,
     scope: &[u8],
-    i: usize,
-    s: &[u8],
-    number: u64,
+    first: usize,
+    messages: Parts<'_>,
     left: u32,
-) -> usize
-    requires { (left ≤ 16) × (i + left ≤ 2 ^ 33) }
-    ensures { Wrote t.old at (messages_rows (settings o.now) messages.now fields.now left scope.now i (parts number (entries s.now))) t.new result }
+)
+    requires { (left ≤ 16) × (first + left ≤ 2 ^ 33) }
+    ensures { text.new ≡ text.old ▻ messages_rows context.now.options context.now.messages context.now.fields left scope.now first messages.entry }
 {
     if left == 0 {
-        return at;
+        return;
     }
-    let fewer = left - 1;
-    let mut place: usize = 0;
-    let mut a = at;
-    let mut k = i;
-    loop {
-        match wire::read_step(s, place) {
-            Step::End => return a,
-            Step::Fault(_) => return a,
-            Step::Found(f) => {
-                place = f.next;
-                if f.number == number {
-                    let p = parts::embedded(s, f);
-                    a = put_message(t, a, o, messages, fields, scope, k, p, fewer);
-                    let row = text_tables::message_row(messages, k);
-                    k = row.after;
-                }
-            }
-        }
+    let mut number = first;
+    for part in messages {
+        put_message(text, context, scope, number, part, left - 1);
+        number = usize::from(text_tables::message_row(context.messages, number).after);
     }
 }
 
-// The file whose part p is; its first message has the number i.
-fn put_file(
-    t: &mut [u8],
-    at: usize,
-    o: &[u8],
-    messages: &[u16],
-    fields: &[u16],
-    i: usize,
-    p: &[u8],
-) -> usize
-    requires { i < 65536 }
-    ensures { Wrote t.old at (file_rows (settings o.now) messages.now fields.now i p.now) t.new result }
+// A file; `first` is the number of its first message.
+fn put_file(text: &mut Text<'_>, context: &Context<'_>, first: usize, part: &[u8])
+    requires { first < 65536 }
+    ensures { text.new ≡ text.old ▻ file_rows context.now.options context.now.messages context.now.fields first part.now }
 {
-    let mut path = [0u8; MAX_PATH];
-    let n = joined::package_in(&mut path, p);
-    let scope = &path[0..n];
-    let a = put_messages(t, at, o, messages, fields, scope, i, p, 4, 16);
-    put_enums(t, a, o, scope, p, 5)
+    let scope = FullName::package(part);
+    put_messages(
+        text,
+        context,
+        scope.as_bytes(),
+        first,
+        Parts::new(part, FILE_MESSAGE_TYPE),
+        16,
+    );
+    put_enums(
+        text,
+        &context.options,
+        scope.as_bytes(),
+        Parts::new(part, FILE_ENUM_TYPE),
+    );
 }
 
-// The rows of all declared places of a set.
-pub fn put_places(
-    t: &mut [u8],
-    at: usize,
-    o: &[u8],
-    set: &[u8],
-    messages: &[u16],
-    fields: &[u16],
-) -> usize
-    ensures { Wrote t.old at (set_rows (settings o.now) messages.now fields.now set.now) t.new result }
+/// The rows of all declared places of a set.
+pub fn put_places(text: &mut Text<'_>, context: &Context<'_>)
+    ensures { text.new ≡ text.old ▻ set_rows context.now.options context.now.messages context.now.fields context.now.set }
 {
-    let mut a = at;
-    let mut place: usize = 0;
-    let mut i: usize = 0;
-    loop {
-        match wire::read_step(set, place) {
-            Step::End => return a,
-            Step::Fault(_) => return a,
-            Step::Found(f) => {
-                place = f.next;
-                if f.number == 1 {
-                    let p = parts::embedded(set, f);
-                    a = put_file(t, a, o, messages, fields, i, p);
-                    let n = parts::count_parts(p, 4);
-                    i = file_parts::behind(messages, n, i);
-                }
-            }
-        }
+    let mut first = 0;
+    for part in Parts::new(context.set, SET_FILE) {
+        put_file(text, context, first, part);
+        let messages = parts::count_parts(part, FILE_MESSAGE_TYPE);
+        first = file_parts::behind(context.messages, messages, first);
     }
 }

@@ -6,6 +6,7 @@ use Rattle.options.specs.Settings.{Setting}
 use Rattle.name_rules.specs.Accessors.{text}
 use Rattle.context.specs.Context.{has}
 use Rattle.joined.specs.Joined.{fits, ◌⊙◌}
+use Rattle.text_tables.specs.declared.FieldRow.{FieldRow}
 use Rattle.members.specs.Members.{field_at, map_entry_at, boxed_at}
 use Rattle.code_generator.specs.Piece.{Text, nothing, ◌⟫◌, when}
 use Rattle.code_generator.specs.Attributes.{line, append_deprecated, append_field_attributes}
@@ -13,7 +14,7 @@ use Rattle.code_generator.specs.Fields.{field_tag, field_line}
 use Rattle.code_generator.specs.MapFields.{MapEntry, map_tag, map_line}
 
 -- t: the table of fields. scope: where the struct stands; full: the message's full name
-module _ (rs : List Setting) (set t : List ℕ) (proto3 : Bool) where
+module _ (rs : List Setting) (set : List ℕ) (t : List FieldRow) (proto3 : Bool) where
   abbrev pub name_at : ℕ → Bytes
   name_at k = text (field_at set t k).name
 

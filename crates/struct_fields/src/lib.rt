@@ -1,26 +1,25 @@
 //! code_generator.rs, append_field and append_map_field: the fields of a struct.
 #![tactic(auto)]
 
-ghost use Rattle.std.specs.Prelude.{◌≡◌, ◌-◌, eqb, map};
-ghost use Rattle.writer.specs.Wrote.{Wrote};
-ghost use Rattle.options.specs.Settings.{settings};
+ghost use Rattle.std.specs.Prelude.{◌≡◌, ◌-◌, map};
 ghost use Rattle.descriptor.specs.Decode.{entries, parts, decode_field};
 ghost use Rattle.descriptor.specs.Seen.{option_seen};
-ghost use Rattle.text_tables.specs.Rows.{field_row};
-ghost use Rattle.members.specs.Members.{map_entry_at, numbers_with};
+ghost use Rattle.text_tables.specs.Rows.{field_row, is_plain};
+ghost use Rattle.members.specs.Members.{map_entry_at, numbers_where};
 ghost use Rattle.code_generator.specs.MapFields.{entry_of};
-ghost use Rattle.code_generator.specs.Piece.{flat, when};
+ghost use Rattle.code_generator.specs.Piece.{when};
 ghost use Rattle.code_generator.specs.Writing.{◌⊳◌};
 ghost use Rattle.struct_fields.specs.StructFields.{plain_text, map_text, field_text, field_texts};
 
-use attributes::writing::{append_deprecated, append_field_attributes, put_line};
+use attributes::{append_deprecated, append_field_attributes, put_line};
 use context::Context;
 use descriptor::FieldDescriptor;
-use field_lines::writing::field_line;
+use descriptor::field_number::MESSAGE_FIELD;
+use field_lines::field_line;
 use field_tags::field_tag;
 use map_fields::{MapEntry, MapSettings, map_line, map_tag};
-use members::of_message::{boxed_at, field_at, is_deprecated, setting};
-use options::{Kind, Options};
+use members::{boxed_at, field_at, is_deprecated, setting};
+use options::Kind;
 use parts::Parts;
 use std::ops::Range;
 use writer::Text;
@@ -37,11 +36,11 @@ pub struct Struct<'a> {
     pub full: &'a [u8],
 }
 
-/// The first two fields of the map entry whose bytes these are, where it has two.
+// The first two fields of the map entry whose bytes these are, where it has two.
 fn entry_fields(entry: &[u8]) -> Option<MapEntry<'_>>
     ensures { option_seen result ≡ entry_of (map decode_field (parts 2 (entries entry.now))) }
 {
-    let mut fields = Parts::new(entry, 2);
+    let mut fields = Parts::new(entry, MESSAGE_FIELD);
     let key = fields.next()?;
     let value = fields.next()?;
     Some(MapEntry {
@@ -50,19 +49,16 @@ fn entry_fields(entry: &[u8]) -> Option<MapEntry<'_>>
     })
 }
 
-/// The map entry that field k names, if it names one.
-#[tactic(auto, unfolding(members::specs::Members::map_entry_at, base::specs::Choose::choose))]
+// The map entry that field k names, if it names one.
+#[tactic(auto, unfolding(members::specs::Members::entry_at))]
 fn map_entry_at<'a>(context: &Context<'a>, k: usize) -> Option<MapEntry<'a>>
     ensures { option_seen result ≡ map_entry_at context.now.set context.now.fields k }
 {
-    let row = text_tables::field_row(context.fields, k);
-    if row.entryend == 0 {
-        return None;
-    }
-    entry_fields(descriptor::part_of(context.set, row.entry, row.entryend))
+    let place = text_tables::field_row(context.fields, k).entry?;
+    entry_fields(place.bytes_in(context.set))
 }
 
-/// append_field: field k.
+// append_field: field k.
 #[tactic(auto, unfolding(crate::specs::StructFields::plain_text, crate::specs::StructFields::attributes_at, code_generator::specs::Attributes::append_deprecated))]
 fn append_field(text: &mut Text<'_>, context: &Context<'_>, of: &Struct<'_>, k: usize)
     ensures { text.new ≡ text.old ⊳ plain_text context.now.options context.now.set context.now.fields of.now.proto3 of.now.depth of.now.scope.now of.now.full.now k }
@@ -81,7 +77,7 @@ fn append_field(text: &mut Text<'_>, context: &Context<'_>, of: &Struct<'_>, k: 
     );
 }
 
-/// append_map_field: field k, which names a map entry.
+// append_map_field: field k, which names a map entry.
 #[tactic(auto, unfolding(crate::specs::StructFields::map_text, crate::specs::StructFields::attributes_at))]
 fn append_map_field(
     text: &mut Text<'_>,
@@ -106,7 +102,7 @@ fn append_map_field(
     map_line(text, options, of.depth, of.scope, &field, entry, settings);
 }
 
-/// Field k: one that names a map entry is a map.
+// Field k: one that names a map entry is a map.
 #[tactic(auto, unfolding(crate::specs::StructFields::field_text))]
 fn field_or_map(text: &mut Text<'_>, context: &Context<'_>, of: &Struct<'_>, k: usize)
     ensures { text.new ≡ text.old ⊳ field_text context.now.options context.now.set context.now.fields of.now.proto3 of.now.depth of.now.scope.now of.now.full.now k }
@@ -117,11 +113,11 @@ fn field_or_map(text: &mut Text<'_>, context: &Context<'_>, of: &Struct<'_>, k: 
     }
 }
 
-/// Field k, where it is in no oneof.
+// Field k, where it is in no oneof.
 fn append_if_free(text: &mut Text<'_>, context: &Context<'_>, of: &Struct<'_>, k: usize)
-    ensures { text.new ≡ text.old ⊳ when (eqb (field_row context.now.fields k).oneof 0) (field_text context.now.options context.now.set context.now.fields of.now.proto3 of.now.depth of.now.scope.now of.now.full.now k) }
+    ensures { text.new ≡ text.old ⊳ when (is_plain (field_row context.now.fields k)) (field_text context.now.options context.now.set context.now.fields of.now.proto3 of.now.depth of.now.scope.now of.now.full.now k) }
 {
-    if text_tables::oneof_at(context.fields, k) == 0 {
+    if text_tables::field_row(context.fields, k).is_plain() {
         field_or_map(text, context, of, k);
     }
 }
@@ -133,47 +129,9 @@ pub fn append_each_field(
     of: &Struct<'_>,
     fields: Range<usize>,
 )
-    ensures { text.new ≡ text.old ⊳ field_texts context.now.options context.now.set context.now.fields of.now.proto3 of.now.depth of.now.scope.now of.now.full.now (numbers_with context.now.fields 0 (fields.end - fields.start) fields.start) }
+    ensures { text.new ≡ text.old ⊳ field_texts context.now.options context.now.set context.now.fields of.now.proto3 of.now.depth of.now.scope.now of.now.full.now (numbers_where is_plain context.now.fields (fields.end - fields.start) fields.start) }
 {
     for k in fields.start..fields.end {
         append_if_free(text, context, of, k);
     }
-}
-
-// What follows serves the crates that write over a slice from a place.
-
-/// The fields of a message that are in no oneof: those from `first` on, below `last`.
-pub fn append_fields(
-    t: &mut [u8],
-    at: usize,
-    o: &[u8],
-    set: &[u8],
-    fields: &[u16],
-    proto3: bool,
-    d: usize,
-    scope: &[u8],
-    full: &[u8],
-    first: usize,
-    last: usize,
-) -> usize
-    ensures { Wrote t.old at (flat (field_texts (settings o.now) set.now fields.now proto3 d scope.now full.now (numbers_with fields.now 0 (last - first) first))) t.new result }
-{
-    let context = Context {
-        options: Options::new(o),
-        set,
-        messages: &[],
-        fields,
-    };
-    let of = Struct {
-        proto3,
-        depth: d,
-        scope,
-        full,
-    };
-    let mut text = Text {
-        buffer: t,
-        length: at,
-    };
-    append_each_field(&mut text, &context, &of, first..last);
-    text.next(at)
 }

@@ -1,7 +1,6 @@
 -- Options, a set and a file index that refusals 1 to 7 don't apply to.
 use Rattle.std.proofs.Common.{◌≡◌, ℕ, ◌<◌, ltb-true}
 use Rattle.std.specs.Prelude.{ltb, length, Ok}
-use Rattle.base.specs.Choose.{choose}
 use Rattle.base.proofs.RefusalLaws.{chosen}
 use Rattle.descriptor.specs.Descriptor.{Bytes}
 use Rattle.descriptor.specs.Decode.{decode_set}

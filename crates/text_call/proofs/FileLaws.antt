@@ -2,7 +2,7 @@
 use mathlib.Core.Path.{◌≡◌, refl, sym, ap, ◌∙◌, subst}
 use mathlib.Core.Bool.{true, false}
 use mathlib.Core.List.{List, [], ◌∷◌, map}
-use Prim.Native.Nat.{ℕ, ◌*◌, ◌-◌, ◌^◌, ◌≤◌, ◌<◌, min}
+use Prim.Native.Nat.{ℕ, ◌-◌, ◌/◌, ◌^◌, ◌≤◌, ◌<◌, min}
 use native.Mathlib.Omega.{arith}
 use borrow.Author.Tests.{le-leb}
 use lib.ListN.{length, length-replicate, replicate, take, drop}
@@ -13,7 +13,10 @@ use Rattle.descriptor.specs.Decode.{entries, parts, decode_messages, decode_enum
 use Rattle.limits.specs.Short.{short}
 use Rattle.options.specs.Settings.{settings}
 use Rattle.table_says.specs.Says.{Says}
-use Rattle.set_tables.specs.Filled.{field_count, message_numbers, field_numbers_in}
+use Rattle.text_tables.specs.Rows.{no_message, no_field}
+use Rattle.text_tables.specs.declared.MessageRow.{MessageRow}
+use Rattle.text_tables.specs.declared.FieldRow.{FieldRow}
+use Rattle.set_tables.specs.Filled.{field_count, message_rows, field_rows_in}
 use Rattle.set_tables.proofs.ZeroLaws.{fresh_zeros, held_zeros}
 use Rattle.set_tables.proofs.TablesSay.{tables_say, all_messages, all_fields, short_fields}
 use Rattle.set_tables.proofs.FillLaws.{front_length}
@@ -55,29 +58,29 @@ module _ (set o : Bytes) (file : ℕ) (t : List ℕ) where
       (blank (decode_file p) (ap (decode_messages 16) none.0) (ap (map decode_enum) none.1))
 
 -- ---- fresh tables, as long as the set needs
-fresh : (set o : Bytes) (file k n : ℕ) → Accepted set o file → k ≡ min (length set * 2) 1024 → field_count set * 8 ≤ n
-    → Roomy set (take (k - 0) (drop 0 (replicate 1024 0))) (replicate n 0)
+pub fresh : (set o : Bytes) (file k n : ℕ) → Accepted set o file → k ≡ min (length set / 2) 256 → field_count set ≤ n
+    → Roomy set (take (k - 0) (drop 0 (replicate 256 no_message))) (replicate n no_field)
 fresh set o file k n accepted k_is h =
-    let all = length-replicate {A = ℕ} 1024 0 in
-    let cells : List ℕ = replicate 1024 0 in
-    let wide = front_length k cells (omega arith) in
-    let long = length-replicate {A = ℕ} n 0 in
+    let all = length-replicate {A = MessageRow} 256 no_message in
+    let rows : List MessageRow = replicate 256 no_message in
+    let wide = front_length k rows (omega arith) in
+    let long = length-replicate {A = FieldRow} n no_field in
     let few = all_messages set accepted.limits in
     record { messages_room = omega arith; fields_room = omega arith; clear = fresh_zeros n }
 
-module _ (set o : Bytes) (file k : ℕ) (accepted : Accepted set o file) (k_is : k ≡ min (length set * 2) 1024) where
-  pub short_tables : length set ≤ short → Roomy set (take (k - 0) (drop 0 (replicate 1024 0))) (replicate 1200 0)
-  short_tables h = fresh set o file k 1200 accepted k_is (short_fields set accepted.limits accepted.named h)
+module _ (set o : Bytes) (file : ℕ) (accepted : Accepted set o file) where
+  pub few_fields : length set ≤ short → field_count set ≤ 150
+  few_fields h = short_fields set accepted.limits accepted.named h
 
-  pub all_tables : Roomy set (take (k - 0) (drop 0 (replicate 1024 0))) (replicate 16384 0)
-  all_tables = fresh set o file k 16384 accepted k_is (all_fields set accepted.limits accepted.named)
+  pub most_fields : field_count set ≤ 2048
+  most_fields = all_fields set accepted.limits accepted.named
 
-module _ (set o : Bytes) (file : ℕ) (accepted : Accepted set o file) (messages fields old held : List ℕ) (roomy : Roomy set old held)
-    (messages_are : messages ≡ message_numbers (length old) set o) (fields_are : fields ≡ field_numbers_in held set o) where
+module _ (set o : Bytes) (file : ℕ) (accepted : Accepted set o file) (messages old : List MessageRow) (fields held : List FieldRow) (roomy : Roomy set old held)
+    (messages_are : messages ≡ message_rows (length old) set (settings o)) (fields_are : fields ≡ field_rows_in held set (settings o)) where
   says : Says (settings o) set messages fields
   says =
-      rw (messages_are, fields_are, held_zeros (length held) held set o roomy.clear)
-      (tables_say set o accepted.limits accepted.named (length old) (length held) roomy.messages_room roomy.fields_room)
+      rw (messages_are, fields_are, held_zeros (length held) held set (settings o) roomy.clear)
+      (tables_say set (settings o) accepted.limits accepted.named (length old) (length held) roomy.messages_room roomy.fields_room)
 
   there : file < length (parts 1 (entries set))
   there = let a = files_counted set in let h = accepted.there in omega arith

@@ -1,18 +1,18 @@
 -- A text in a buffer, whole or not at all: refusal 10. Assumes nothing.
 use mathlib.Core.Path.{◌≡◌, refl, sym, ap, ◌∙◌, subst}
-use mathlib.Core.Bool.{false, ◌&&◌}
+use mathlib.Core.Bool.{◌&&◌}
 use mathlib.Core.List.{List, ◌++◌}
 use Prim.Native.Nat.{ℕ, ◌-◌, ◌^◌, ◌≤◌, ◌<◌, min}
 use native.Mathlib.Decide.{dec_le}
 use native.Mathlib.Omega.{arith}
-use lib.Dec.{eqb, leb}
+use lib.Dec.{leb}
 use lib.ListN.{length, take, drop}
-use lib.Seq.{take_all}
 use borrow.Author.Tests.{le-leb, lt-leb}
 use Rattle.base.specs.Choose.{choose}
-use Rattle.writer.specs.Wrote.{Wrote, kept}
-use Rattle.writer.specs.Answer.{needs_room, rendered}
-use Rattle.joined.specs.Joined.{used, sliced}
+use Rattle.std.proofs.Math.Seq.{take-append_seam}
+use native.Mathlib.Nat.{sub-zero}
+use Rattle.writer.specs.Draft.{Filled}
+use Rattle.writer.proofs.TextLaws.{measured, wholly}
 use Rattle.std.specs.Prelude.{Result, Ok, Err}
 use Rattle.base.specs.declared.refusal.Refusal.{Refusal}
 use Rattle.base.specs.declared.refusal.Refusal.TheVariants.{TextLength}
@@ -41,32 +41,24 @@ module _ (t p : List ℕ) where
     unfolding choose
     no_room h = refuses (TextLength (length p)) _ p t (sym (by_least ∙ rw (lt-leb (length p) (min (length t) max_text) (omega arith)) refl))
 
-    module _ (fits : length p ≤ room) {t' : List ℕ} {m : ℕ} (w : Wrote t 0 p t' m) where
-      size : m ≡ length p
-      size = let g = needs_room w in omega arith
-
-      text_is : t' ≡ p ++ drop (length p) t
-      text_is =
-          let e = size in
-          rw (le-leb (length p) (length t) (omega arith)) at (rendered refl w (omega arith) w).text
-
+    module _ (fits : length p ≤ room) where
       given_is : by_room (length t) (length p) ≡ Ok (length p)
       unfolding choose
       given_is = by_least ∙ rw (le-leb (length p) (min (length t) max_text) (omega arith)) refl
 
-      pub written : Whole p t t' (Ok m)
-      written = record { answer = ap (λ (n : ℕ). Ok n) size ∙ sym given_is; left = rw given_is text_is }
+      pub written : {t' : List ℕ} {m : ℕ} → t' ≡ p ++ drop (length p) t → m ≡ length p → Whole p t t' (Ok m)
+      written text_is size = record { answer = ap (λ (n : ℕ). Ok n) size ∙ sym given_is; left = rw given_is text_is }
 
-  -- the text was made in a buffer s of its own, of which n bytes are used
-  module _ (short : length p < 2 ^ 63) {s s' : List ℕ} {n : ℕ} (w : Wrote s 0 p s' n) where
+  -- the text was made in a buffer s of its own, where n is its length
+  module _ (short : length p < 2 ^ 63) {s s' : List ℕ} {n : ℕ} (w : Filled s p s' n) where
     made : n ≡ length p
-    made = let g = needs_room w in omega arith
+    made = let m = measured w in omega arith
 
     pub too_long : max_text < n → Whole p t t (Err (TextLength n))
     too_long h = let e = made in subst (λ (k : ℕ). Whole p t t (Err (TextLength k))) (sym e) (no_room _ refl (omega arith))
 
-    pub from_part : (size : ℕ) → length s ≡ size → n ≤ size → {t' : List ℕ} {r : Result ℕ Refusal} → Whole (take (n - 0) (drop 0 s')) t t' r → Whole p t t' r
-    from_part size l h {t'} {r} v =
+    pub from_part : (size : ℕ) → length s ≡ size → size < 2 ^ 63 → n ≤ size → {t' : List ℕ} {r : Result ℕ Refusal} → Whole (take (n - 0) (drop 0 s')) t t' r → Whole p t t' r
+    from_part size l b h {t'} {r} v =
         let e = made in
-        let k = kept w in
-        subst (λ (q : List ℕ). Whole q t t' r) (sliced s' _ n (used {n = n} w (omega arith)).1 ∙ take_all (length s) p (omega arith)) v
+        let front : take (n - 0) (drop 0 s') ≡ p = rw (sub-zero, e, wholly w (omega arith) (omega arith)) (take-append_seam p (drop (length p) s)) in
+        subst (λ (q : List ℕ). Whole q t t' r) front v

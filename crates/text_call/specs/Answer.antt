@@ -1,12 +1,15 @@
 -- What the parts of the text call say of their answers. Assumes nothing.
-use Rattle.std.specs.Prelude.{ℕ, ◌*◌, ◌≤◌, ◌<◌, ◌≡◌, List, length, Result, Ok}
+use Rattle.std.specs.Prelude.{ℕ, ◌≤◌, ◌<◌, ◌≡◌, List, length, replicate, Result, Ok}
 use Rattle.base.specs.declared.refusal.Refusal.{Refusal}
 use Rattle.descriptor.specs.Descriptor.{Bytes}
 use Rattle.descriptor.specs.Decode.{decode_set}
 use Rattle.descriptor.specs.Limits.{messages_in, limit_passed}
 use Rattle.options.specs.Layout.{layout}
 use Rattle.name_rules.specs.Answer.{names}
-use Rattle.set_tables.specs.Filled.{zeros, field_count}
+use Rattle.text_tables.specs.Rows.{no_field}
+use Rattle.text_tables.specs.declared.MessageRow.{MessageRow}
+use Rattle.text_tables.specs.declared.FieldRow.{FieldRow}
+use Rattle.set_tables.specs.Filled.{field_count}
 use Rattle.calls.specs.TextCall.{by_room, left_by}
 
 -- a call for the text p gives x: r is its answer, and t' is left in the buffer t
@@ -25,8 +28,8 @@ pub record Accepted (set o : Bytes) (file : ℕ) : Type 0 where
   pub named : names (decode_set set) ≡ Ok tt
   pub there : file < length (decode_set set)
 
--- tables with room for the messages and the fields of a set; that of the fields holds zeros
-pub record Roomy (set : Bytes) (messages fields : List ℕ) : Type 0 where
-  pub messages_room : length (messages_in (decode_set set)) * 4 ≤ length messages
-  pub fields_room : field_count set * 8 ≤ length fields
-  pub clear : fields ≡ zeros (length fields)
+-- tables with room for the messages and the fields of a set; that of the fields holds nothing yet
+pub record Roomy (set : Bytes) (messages : List MessageRow) (fields : List FieldRow) : Type 0 where
+  pub messages_room : length (messages_in (decode_set set)) ≤ length messages
+  pub fields_room : field_count set ≤ length fields
+  pub clear : fields ≡ replicate (length fields) no_field

@@ -1,28 +1,33 @@
-// The text call: a set, options, a file index and a text buffer give a length, or a refusal.
+//! The text call: a set, options, a file index and a text buffer give a length, or a refusal.
 #![tactic(auto)]
 
-ghost use Rattle.std.specs.Prelude.{◌≡◌, ◌^◌, ◌<◌, length, true, []};
+ghost use Rattle.std.specs.Prelude.{◌≡◌, ◌++◌, ◌^◌, ◌≤◌, ◌<◌, length, drop, true, []};
 ghost use Rattle.descriptor.specs.Decode.{entries, parts, decode_set};
 ghost use Rattle.options.specs.Settings.{settings};
+ghost use Rattle.set_tables.specs.Filled.{field_count};
 ghost use Rattle.message_text.specs.MessageText.{text_of_file};
 ghost use Rattle.calls.specs.TextCall.{by_index, by_text, file_at, call_text, text_answer, text_left};
 ghost use Rattle.text_call.specs.Answer.{Accepted, Roomy, Whole, Answers};
 
 use base::refusal::Refusal;
+use context::Context;
+use descriptor::field_number::{FILE_ENUM_TYPE, FILE_MESSAGE_TYPE, SET_FILE};
 use limits::SHORT;
 use options::Options;
+use parts::Parts;
+use text_tables::{FieldRow, MessageRow, NO_FIELD, NO_MESSAGE};
 
 const MAX_TEXT: usize = 65536;
 
 // The text of a short set is made in so many bytes first.
 const SHORT_TEXT: usize = 2048;
 
-// Four numbers for each of 256 messages, eight for each of 2,048 fields, and of 150 in a short set.
-const MESSAGE_NUMBERS: usize = 1024;
+// Limits 3 and 4, and how many fields a short set has at most.
+const MESSAGES: usize = 256;
 
-const FIELD_NUMBERS: usize = 16384;
+const FIELDS: usize = 2048;
 
-const SHORT_NUMBERS: usize = 1200;
+const SHORT_FIELDS: usize = 150;
 
 fn narrow(n: usize) -> u32
     requires { n < 2 ^ 32 }
@@ -31,99 +36,126 @@ fn narrow(n: usize) -> u32
     n as u32
 }
 
-// A text is copied whole, or not at all where t or the limit has no room for it.
-fn copy_whole(t: &mut [u8], text: &[u8]) -> Result<usize, Refusal>
-    ensures { Whole text.now t.old t.new result }
+// A text, at the buffer's start.
+fn copy_front(buffer: &mut [u8], text: &[u8])
+    requires { length text.now ≤ length buffer.old }
+    ensures { buffer.new ≡ text.now ++ drop (length text.now) buffer.old }
 {
-    let size = text.len();
-    let room = writer::within(t.len(), MAX_TEXT);
-    if room < size {
-        return Err(Refusal::TextLength { needed: size });
-    }
-    let written = writer::put(t, 0, text);
-    Ok(written)
+    let needed = text.len();
+    buffer[0..needed].copy_from_slice(text);
 }
 
-// The text of the file whose part p is, made apart: it is copied whole, or not at all.
-fn put_whole(
-    t: &mut [u8],
-    o: &[u8],
-    set: &[u8],
-    messages: &[u16],
-    fields: &[u16],
-    i: u32,
-    p: &[u8],
-) -> Result<usize, Refusal>
-    requires { length (text_of_file (settings o.now) set.now messages.now fields.now i p.now) < 2 ^ 63 }
-    ensures { Whole (text_of_file (settings o.now) set.now messages.now fields.now i p.now) t.old t.new result }
+// A text is copied whole, or not at all where the buffer or the limit has no room for it.
+fn copy_whole(buffer: &mut [u8], text: &[u8]) -> Result<usize, Refusal>
+    ensures { Whole text.now buffer.old buffer.new result }
 {
-    if set.len() <= SHORT {
+    let needed = text.len();
+    let room = buffer.len().min(MAX_TEXT);
+    if room < needed {
+        return Err(Refusal::TextLength { needed });
+    }
+    copy_front(buffer, text);
+    Ok(needed)
+}
+
+// The text of a file, made apart: it is copied whole, or not at all. Its first message has the number `first`.
+fn put_whole(
+    buffer: &mut [u8],
+    context: &Context<'_>,
+    first: u32,
+    part: &[u8],
+) -> Result<usize, Refusal>
+    requires { length (text_of_file context.now.options context.now.set context.now.messages context.now.fields first part.now) < 2 ^ 63 }
+    ensures { Whole (text_of_file context.now.options context.now.set context.now.messages context.now.fields first part.now) buffer.old buffer.new result }
+{
+    if context.set.len() <= SHORT {
         let mut text = [0u8; SHORT_TEXT];
-        let n = message_text::append_file(&mut text, o, set, messages, fields, i, p);
-        if n <= SHORT_TEXT {
-            return copy_whole(t, &text[0..n]);
+        let length = message_text::append_file(&mut text, context, first, part);
+        if length <= SHORT_TEXT {
+            return copy_whole(buffer, &text[0..length]);
         }
     }
     let mut text = [0u8; MAX_TEXT];
-    let n = message_text::append_file(&mut text, o, set, messages, fields, i, p);
-    if n <= MAX_TEXT {
-        return copy_whole(t, &text[0..n]);
+    let length = message_text::append_file(&mut text, context, first, part);
+    if length <= MAX_TEXT {
+        return copy_whole(buffer, &text[0..length]);
     }
-    Err(Refusal::TextLength { needed: n })
+    Err(Refusal::TextLength { needed: length })
 }
 
 // 8, 9 and 10 of a file, of a set and options without the refusals before, by tables with room for the set.
 fn answer_by(
     set: &[u8],
-    o: &[u8],
+    options: &[u8],
     file: usize,
-    t: &mut [u8],
-    messages: &mut [u16],
-    fields: &mut [u16],
+    buffer: &mut [u8],
+    messages: &mut [MessageRow],
+    fields: &mut [FieldRow],
 ) -> Result<usize, Refusal>
-    requires accepted { Accepted set.now o.now file }
+    requires accepted { Accepted set.now options.now file }
     requires roomy { Roomy set.now messages.old fields.old }
-    ensures { Answers (by_text (settings o.now) (decode_set set.now) (length t.old) (file_at (decode_set set.now) file)) (call_text set.now o.now file) t.old t.new result }
+    ensures { Answers (by_text (settings options.now) (decode_set set.now) (length buffer.old) (file_at (decode_set set.now) file)) (call_text set.now options.now file) buffer.old buffer.new result }
 {
-    set_tables::fill_tables(set, o, messages, fields);
-    let i = narrow(file_parts::first_number(messages, set, file));
-    let p = file_parts::file_part(set, file);
-    let faults = file_faults::file_faults(set, o, messages, fields, i, p);
+    let options = Options::new(options);
+    set_tables::fill_tables(set, &options, messages, fields);
+    let context = Context {
+        options,
+        set,
+        messages,
+        fields,
+    };
+    let first = narrow(file_parts::first_number(context.messages, set, file));
+    let part = file_parts::file_part(set, file);
+    let faults = file_faults::file_faults(&context, first, part);
     if faults.overlap {
         return Err(Refusal::Variants);
     }
     if faults.default {
         return Err(Refusal::BytesDefault);
     }
-    put_whole(t, o, set, messages, fields, i, p)
+    put_whole(buffer, &context, first, part)
 }
 
 // Does a file hold neither messages nor enums?
-fn declares_none(p: &[u8]) -> bool
-    ensures { result ≡ true → (parts 4 (entries p.now) ≡ []) × (parts 5 (entries p.now) ≡ []) }
+fn declares_none(part: &[u8]) -> bool
+    ensures { result ≡ true → (parts 4 (entries part.now) ≡ []) × (parts 5 (entries part.now) ≡ []) }
 {
-    if parts::count_parts(p, 4) == 0 {
-        return parts::count_parts(p, 5) == 0;
-    }
-    false
+    let messages = Parts::new(part, FILE_MESSAGE_TYPE).next();
+    let enums = Parts::new(part, FILE_ENUM_TYPE).next();
+    messages.is_none() && enums.is_none()
 }
 
-// The same, by tables as small as the set allows; the text of a file without declarations is empty.
-fn file_answer(set: &[u8], o: &[u8], file: usize, t: &mut [u8]) -> Result<usize, Refusal>
-    requires { Accepted set.now o.now file }
-    ensures { Answers (by_text (settings o.now) (decode_set set.now) (length t.old) (file_at (decode_set set.now) file)) (call_text set.now o.now file) t.old t.new result }
+// The same, by tables as small as the set allows, of a set with at most so many fields.
+fn answer_within<const SIZE: usize>(
+    set: &[u8],
+    options: &[u8],
+    file: usize,
+    buffer: &mut [u8],
+) -> Result<usize, Refusal>
+    requires bound { SIZE ≤ 65536 }
+    requires accepted { Accepted set.now options.now file }
+    requires fields_room { field_count set.now ≤ SIZE }
+    ensures { Answers (by_text (settings options.now) (decode_set set.now) (length buffer.old) (file_at (decode_set set.now) file)) (call_text set.now options.now file) buffer.old buffer.new result }
+{
+    let mut messages = [NO_MESSAGE; MESSAGES];
+    let mut fields = [NO_FIELD; SIZE];
+    let count = (set.len() / 2).min(MESSAGES);
+    let messages = &mut messages[0..count];
+    answer_by(set, options, file, buffer, messages, &mut fields)
+}
+
+// The same of any set; the text of a file without declarations is empty.
+fn file_answer(set: &[u8], options: &[u8], file: usize, buffer: &mut [u8]) -> Result<usize, Refusal>
+    requires { Accepted set.now options.now file }
+    ensures { Answers (by_text (settings options.now) (decode_set set.now) (length buffer.old) (file_at (decode_set set.now) file)) (call_text set.now options.now file) buffer.old buffer.new result }
 {
     if declares_none(file_parts::file_part(set, file)) {
         return Ok(0);
     }
-    let mut messages = [0u16; MESSAGE_NUMBERS];
-    let n = writer::within(set.len() * 2, MESSAGE_NUMBERS);
     if set.len() <= SHORT {
-        let mut fields = [0u16; SHORT_NUMBERS];
-        return answer_by(set, o, file, t, &mut messages[0..n], &mut fields);
+        return answer_within::<SHORT_FIELDS>(set, options, file, buffer);
     }
-    let mut fields = [0u16; FIELD_NUMBERS];
-    answer_by(set, o, file, t, &mut messages[0..n], &mut fields)
+    answer_within::<FIELDS>(set, options, file, buffer)
 }
 
 // Refusal 5.
@@ -131,7 +163,7 @@ fn file_answer(set: &[u8], o: &[u8], file: usize, t: &mut [u8]) -> Result<usize,
 fn check_index(set: &[u8], file: usize) -> Result<(), Refusal>
     ensures { result ≡ by_index file (length (decode_set set.now)) }
 {
-    let count = parts::count_parts(set, 1);
+    let count = parts::count_parts(set, SET_FILE);
     if file < count {
         return Ok(());
     }

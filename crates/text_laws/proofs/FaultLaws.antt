@@ -13,6 +13,8 @@ use Rattle.name_rules.specs.Accessors.{text}
 use Rattle.name_rules.specs.FullNames.{◌·◌}
 use Rattle.path_fits.specs.PathsFit.{EnumFits, MessageFits}
 use Rattle.text_tables.specs.Rows.{message_row}
+use Rattle.text_tables.specs.declared.MessageRow.{MessageRow}
+use Rattle.text_tables.specs.declared.FieldRow.{FieldRow}
 use Rattle.file_faults.specs.FileFaults.{no_faults, ◌or◌, default_fails_at, Inner, own_faults, message_faults, faults_of, messages_faults}
 use Rattle.file_faults.specs.declared.Faults.{Faults}
 use Rattle.code_generator.specs.Oneofs.{plain_fields}
@@ -29,7 +31,7 @@ unfolding choose
 left_out true x = refl
 left_out false x = refl
 
-module _ (rs : List Setting) (set messages t : List ℕ) where
+module _ (rs : List Setting) (set : List ℕ) (messages : List MessageRow) (t : List FieldRow) where
   -- the tests of a message
   abbrev pub overlaps : Bytes → MessageDescriptor → Forest MessageDescriptor → Bool
   overlaps full m nested = any (enum_overlaps rs full) m.enums

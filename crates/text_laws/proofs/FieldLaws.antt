@@ -13,6 +13,8 @@ use Rattle.options.specs.Settings.{Setting}
 use Rattle.name_rules.specs.Accessors.{text}
 use Rattle.name_rules.specs.FullNames.{◌·◌}
 use Rattle.context.specs.Context.{should_box}
+use Rattle.text_tables.specs.declared.MessageRow.{MessageRow}
+use Rattle.text_tables.specs.declared.FieldRow.{FieldRow}
 use Rattle.path_fits.specs.PathsFit.{max_scope, NameFits, MessageFits}
 use Rattle.path_fits.proofs.FitLaws.{name_fits}
 use Rattle.members.specs.Members.{boxed_at}
@@ -60,7 +62,7 @@ module _ (full : Bytes) (room : length full ≤ max_scope) where
   map_entry_fits (node m nested following) x s =
       choose_case (EntryFits full) (m.map_entry && same (full · text m.name) (text x)) (λ _. entry_of_fits (full · text m.name) m.fields s.0.fields) (λ _. map_entry_fits following x s.1)
 
-module _ (rs : List Setting) (set messages t : List ℕ) (full : Bytes) (nested : Forest MessageDescriptor) where
+module _ (rs : List Setting) (set : List ℕ) (messages : List MessageRow) (t : List FieldRow) (full : Bytes) (nested : Forest MessageDescriptor) where
   abbrev ds : List FileDescriptor
   ds = decode_set set
 

@@ -12,6 +12,8 @@ use Rattle.name_rules.specs.FullNames.{package_scope}
 use Rattle.name_rules.specs.Rules.{none_nested}
 use Rattle.walks.specs.Walked.{walked}
 use Rattle.joined.specs.Joined.{max_path}
+use Rattle.text_tables.specs.declared.MessageRow.{MessageRow}
+use Rattle.text_tables.specs.declared.FieldRow.{FieldRow}
 use Rattle.path_fits.specs.PathsFit.{max_scope, EnumFits, FileFits}
 use Rattle.enum_text.specs.EnumText.{enum_texts}
 use Rattle.message_text.specs.MessageText.{message_texts, text_of_file}
@@ -36,7 +38,7 @@ pub none_mapped : {A B : Type 0} (g : A → B) (xs : List A) → map g xs ≡ []
 none_mapped g [] e = refl
 none_mapped g (x ∷ xs) e = both_ways refl (sym (ap is_empty e))
 
-module _ (rs : List Setting) (set messages t : List ℕ) (i : ℕ) (p : Bytes) where
+module _ (rs : List Setting) (set : List ℕ) (messages : List MessageRow) (t : List FieldRow) (i : ℕ) (p : Bytes) where
   abbrev ds : List FileDescriptor
   ds = decode_set set
 

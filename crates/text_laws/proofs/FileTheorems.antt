@@ -10,6 +10,8 @@ use Rattle.name_rules.specs.FullNames.{package_scope}
 use Rattle.name_rules.specs.WellFormed.{WellFormed}
 use Rattle.name_rules.specs.Answer.{names}
 use Rattle.name_rules.proofs.WellFormedLaws.{every_file}
+use Rattle.text_tables.specs.declared.MessageRow.{MessageRow}
+use Rattle.text_tables.specs.declared.FieldRow.{FieldRow}
 use Rattle.index.specs.Tree.{size}
 use Rattle.context_laws.specs.At.{At, at_map}
 use Rattle.context_laws.specs.At.At.{first, next}
@@ -45,7 +47,7 @@ numbered_at P i (first e) h = subst (λ (g : FileDescriptor). Numbered P (packag
 numbered_at P i (next {y = g} p) h = numbered_at P (i + size g.messages) p h.1
 
 -- file n of a set within the limits, without refusals 6 and 7; p is its part
-module _ (rs : List Setting) (set messages t : List ℕ) (passed : limit_passed set ≡ 0) (good : names (decode_set set) ≡ Ok tt) (says : Says rs set messages t)
+module _ (rs : List Setting) (set : List ℕ) (messages : List MessageRow) (t : List FieldRow) (passed : limit_passed set ≡ 0) (good : names (decode_set set) ≡ Ok tt) (says : Says rs set messages t)
     (p : Bytes) (n : ℕ) (at : At p (parts 1 (entries set)) n) where
   file_at : At (decode_file p) (decode_set set) n
   unfolding decode_set

@@ -1,72 +1,85 @@
 -- The numbers of a message's fields stand for its fields: those of no oneof, and those of each. Assumes nothing.
 use Prim.Native.Nat.{ℕ, suc, ◌+◌, ◌≤◌, ◌<◌}
-use Rattle.std.specs.Prelude.{◌≡◌, Bool, ◌⊎◌, eqb, length}
+use Rattle.std.specs.Prelude.{◌≡◌, Bool, length, None, Some}
+use Rattle.std.specs.Prelude as std
 use Rattle.std.proofs.Math.Path.{refl, ap₂}
-use Rattle.std.proofs.Common.{sym, ap, ◌∙◌, inl, inr, ⊎_elim, eqb-true, eq-eqb, ne_eqb}
+use Rattle.std.proofs.Common.{sym, ap, ◌∙◌, ⊎_elim, eq-eqb}
 use Rattle.std.proofs.Math.Bool.{true, false, ◌||◌, not}
 use Rattle.std.proofs.Math.Option.{Option, some, none}
 use mathlib.Core.List.{List, [], ◌∷◌}
 use native.Mathlib.Omega.{arith}
 use Rattle.std.proofs.Math.Decide.{ℕ_discrete}
-use Rattle.std.proofs.Math.Dec.{eqb-suc-zero, eqb-suc-suc, eqb-zero-suc}
-use Rattle.std.proofs.lemmas.Bool.{eqb-false}
 use Rattle.base.specs.Choose.{choose, choose_case}
-use Rattle.base.specs.Lists.{any, is_empty, Every}
+use Rattle.base.specs.Lists.{any, is_empty, Every, map_length}
 use Rattle.base.specs.Tests.{bool_cases, both_ways, or_false_left, or_false_right}
+use Rattle.split.proofs.SplitLaws.{eqb_turned}
 use Rattle.descriptor.specs.Descriptor.{Bytes, Forest, FieldDescriptor, MessageDescriptor}
-use Rattle.text_tables.specs.Rows.{field_row}
-use Rattle.members.specs.Members.{numbers_with, in_oneofs}
-use Rattle.table_says.specs.Says.{oneof_number}
+use Rattle.descriptor.specs.Decode.{entries, parts, decode_field, decode_message}
+use Rattle.descriptor.specs.Seen.{option_seen}
+use Rattle.text_tables.specs.Rows.{message_row, field_row, in_none, is_plain as row_is_plain, in_one, is_in}
+use Rattle.text_tables.specs.declared.MessageRow.{MessageRow}
+use Rattle.text_tables.specs.declared.FieldRow.{FieldRow}
+use Rattle.members.specs.Members.{numbers_where, members, in_oneofs}
 use Rattle.code_generator.specs.Oneofs.{oneof_of, is_plain, is_at, plain_fields, fields_at, OneofField, oneofs_from, oneof_fields}
 use Rattle.text_laws.specs.Pairwise.{Pairwise}
 use Rattle.text_laws.specs.Pairwise.Pairwise.{nil, cons}
 use Rattle.text_laws.specs.Described.{Below, From}
 
-eqb_turned : (a c : ℕ) → eqb a c ≡ eqb c a
-eqb_turned a c = go (bool_cases (eqb a c))
-  where
-    go : (eqb a c ≡ true) ⊎ (eqb a c ≡ false) → eqb a c ≡ eqb c a
-    go (inl h) = h ∙ sym (eq-eqb c a (sym (eqb-true a c h)))
-    go (inr h) = h ∙ sym (ne_eqb c a (λ e. eqb-false a c h (sym e)))
+-- the tests of a row's oneof
+in_none_is : (o : std.Option ℕ) → in_none o ≡ is_plain (option_seen o)
+unfolding in_none
+in_none_is None = refl
+in_none_is (Some i) = refl
 
--- the tests of a oneof's number
-plain_number : (o : Option ℕ) → eqb (oneof_number o) 0 ≡ is_plain o
-plain_number none = refl
-plain_number (some i) = eqb-suc-zero i
+in_one_is : (x : ℕ) (o : std.Option ℕ) → in_one x o ≡ is_at x (option_seen o)
+unfolding in_one
+in_one_is x None = refl
+in_one_is x (Some i) = eqb_turned i x
 
-number_at : (x : ℕ) (o : Option ℕ) → eqb (oneof_number o) (suc x) ≡ is_at x o
-number_at x none = eqb-zero-suc x
-number_at x (some i) = eqb-suc-suc i x ∙ eqb_turned i x
+-- a test of a row is that of its field: the numbers that pass it stand for the fields that pass it
+module _ {P : ℕ → FieldDescriptor → Type 0} (t : List FieldRow) (test : FieldRow → Bool) (passes : FieldDescriptor → Bool) (is : (k : ℕ) (f : FieldDescriptor) → P k f → test (field_row t k) ≡ passes f)
+    (passing : List FieldDescriptor → List FieldDescriptor) (on_nil : passing [] ≡ []) (on_cons : (f : FieldDescriptor) (fs : List FieldDescriptor) → passing (f ∷ fs) ≡ choose (passes f) (f ∷ passing fs) (passing fs)) where
+  if_passes : (passed : Bool) {k : ℕ} {f : FieldDescriptor} {ks : List ℕ} {fs : List FieldDescriptor} → P k f → Pairwise P ks fs → Pairwise P (choose passed (k ∷ ks) ks) (choose passed (f ∷ fs) fs)
+  unfolding choose
+  if_passes true p ps = cons p ps
+  if_passes false p ps = ps
+
+  numbers_pairwise : (k : ℕ) (fs : List FieldDescriptor) → From P k fs → Pairwise P (numbers_where test t (length fs) k) (passing fs)
+  unfolding numbers_where
+  numbers_pairwise k [] h = rw on_nil nil
+  numbers_pairwise k (f ∷ fs) h = rw (is k f h.0, on_cons f fs) (if_passes (passes f) h.0 (numbers_pairwise (suc k) fs h.1))
 
 -- what holds of a row and its field; the row has the field's oneof
-module _ {P : ℕ → FieldDescriptor → Type 0} (t : List ℕ) (oneof : (k : ℕ) (f : FieldDescriptor) → P k f → (field_row t k).oneof ≡ oneof_number (oneof_of f)) where
-  plain_is : {k : ℕ} {f : FieldDescriptor} → P k f → eqb (field_row t k).oneof 0 ≡ is_plain (oneof_of f)
-  plain_is {k} {f} p = ap (λ (n : ℕ). eqb n 0) (oneof k f p) ∙ plain_number (oneof_of f)
+module _ {P : ℕ → FieldDescriptor → Type 0} (t : List FieldRow) (oneof : (k : ℕ) (f : FieldDescriptor) → P k f → option_seen (field_row t k).oneof ≡ oneof_of f) where
+  plain_is : (k : ℕ) (f : FieldDescriptor) → P k f → row_is_plain (field_row t k) ≡ is_plain (oneof_of f)
+  plain_is k f p = in_none_is (field_row t k).oneof ∙ ap is_plain (oneof k f p)
 
-  at_is : (x : ℕ) {k : ℕ} {f : FieldDescriptor} → P k f → eqb (field_row t k).oneof (suc x) ≡ is_at x (oneof_of f)
-  at_is x {k} {f} p = ap (λ (n : ℕ). eqb n (suc x)) (oneof k f p) ∙ number_at x (oneof_of f)
+  at_is : (x k : ℕ) (f : FieldDescriptor) → P k f → is_in x (field_row t k) ≡ is_at x (oneof_of f)
+  at_is x k f p = in_one_is x (field_row t k).oneof ∙ ap (is_at x) (oneof k f p)
 
-  -- one more, where the test holds
-  one_more : (test : Bool) {k : ℕ} {f : FieldDescriptor} {ks : List ℕ} {fs : List FieldDescriptor} → P k f → Pairwise P ks fs → Pairwise P (choose test (k ∷ ks) ks) (choose test (f ∷ fs) fs)
-  unfolding choose
-  one_more true p ps = cons p ps
-  one_more false p ps = ps
+  pub plain_numbers : (k : ℕ) (fs : List FieldDescriptor) → From P k fs → Pairwise P (numbers_where row_is_plain t (length fs) k) (plain_fields fs)
+  unfolding plain_fields
+  plain_numbers = numbers_pairwise t row_is_plain (λ f. is_plain (oneof_of f)) plain_is plain_fields refl (λ f fs. refl)
 
-  pub plain_numbers : (k : ℕ) (fs : List FieldDescriptor) → From P k fs → Pairwise P (numbers_with t 0 (length fs) k) (plain_fields fs)
-  unfolding numbers_with plain_fields
-  plain_numbers k [] h = nil
-  plain_numbers k (f ∷ fs) h = rw (plain_is h.0) (one_more (is_plain (oneof_of f)) h.0 (plain_numbers (suc k) fs h.1))
+  pub oneof_numbers : (x k : ℕ) (fs : List FieldDescriptor) → From P k fs → Pairwise P (numbers_where (is_in x) t (length fs) k) (fields_at x fs)
+  unfolding fields_at
+  oneof_numbers x = numbers_pairwise t (is_in x) (λ f. is_at x (oneof_of f)) (at_is x) (fields_at x) refl (λ f fs. refl)
 
-  pub oneof_numbers : (x k : ℕ) (fs : List FieldDescriptor) → From P k fs → Pairwise P (numbers_with t (suc x) (length fs) k) (fields_at x fs)
-  unfolding numbers_with fields_at
-  oneof_numbers x k [] h = nil
-  oneof_numbers x k (f ∷ fs) h = rw (at_is x h.0) (one_more (is_at x (oneof_of f)) h.0 (oneof_numbers x (suc k) fs h.1))
+  -- those of message i, whose part p is
+  module _ (messages : List MessageRow) (i : ℕ) (p : Bytes) (rows : From P (message_row messages i).first (decode_message p).fields) where
+    pub plain_members : Pairwise P (members row_is_plain messages t i p) (plain_fields (decode_message p).fields)
+    unfolding decode_message
+    plain_members = rw (← (map_length decode_field (parts 2 (entries p)))) (plain_numbers (message_row messages i).first (decode_message p).fields rows)
+
+    pub oneof_members : (x : ℕ) → Pairwise P (members (is_in x) messages t i p) (fields_at x (decode_message p).fields)
+    unfolding decode_message
+    oneof_members x = rw (← (map_length decode_field (parts 2 (entries p)))) (oneof_numbers x (message_row messages i).first (decode_message p).fields rows)
 
   -- is a field in a oneof?
   pub in_oneofs_is : (k : ℕ) (fs : List FieldDescriptor) → From P k fs → in_oneofs t (length fs) k ≡ any (λ (f : FieldDescriptor). not (is_plain (oneof_of f))) fs
   unfolding in_oneofs any
   in_oneofs_is k [] h = refl
-  in_oneofs_is k (f ∷ fs) h = ap₂ ◌||◌ (ap not (plain_is h.0)) (in_oneofs_is (suc k) fs h.1)
+  in_oneofs_is k (f ∷ fs) h = ap₂ ◌||◌ (ap not (plain_is k f h.0)) (in_oneofs_is (suc k) fs h.1)
 
 -- ---- a oneof is written where a field is in one
 

@@ -3,17 +3,19 @@ use Prim.Native.Nat.{ℕ, zero, suc}
 use Rattle.std.specs.Prelude.{◌≡◌, Bool, true, false, ◌||◌, not, eqb}
 use Rattle.std.proofs.Math.Path.{refl, ap₂}
 use mathlib.Core.List.{List, [], ◌∷◌, ◌++◌}
-use Rattle.base.specs.Lists.{Every, map_length}
+use Rattle.base.specs.Lists.{Every}
 use Rattle.writer.specs.Text.{pick}
 use Rattle.descriptor.specs.Descriptor.{Bytes, Forest, MessageDescriptor, FileDescriptor}
-use Rattle.descriptor.specs.Decode.{entries, parts, decode_field, decode_oneof, decode_message, decode_messages, decode_set}
+use Rattle.descriptor.specs.Decode.{entries, parts, decode_oneof, decode_message, decode_messages, decode_set}
 use Rattle.options.specs.Settings.{Setting}
 use Rattle.extern_paths.specs.ExternPaths.{taken}
 use Rattle.name_rules.specs.Accessors.{text}
 use Rattle.name_rules.specs.FullNames.{◌·◌}
 use Rattle.walks.specs.Walked.{walked}
 use Rattle.path_fits.specs.PathsFit.{MessageFits}
-use Rattle.text_tables.specs.Rows.{message_row}
+use Rattle.text_tables.specs.Rows.{message_row, is_plain}
+use Rattle.text_tables.specs.declared.MessageRow.{MessageRow}
+use Rattle.text_tables.specs.declared.FieldRow.{FieldRow}
 use Rattle.members.specs.Members.{members}
 use Rattle.struct_text.specs.StructText.{struct_head, struct_text}
 use Rattle.message_text.specs.MessageText.{Inner, module_text, message_text, message_texts}
@@ -25,7 +27,7 @@ use Rattle.code_generator.specs.Generate.{has_module, push_mod, append_struct, a
 use Rattle.text_laws.specs.Pairwise.{Pairwise}
 use Rattle.text_laws.specs.Described.{MessageIs, Described}
 use Rattle.text_laws.specs.EnumLaws.{enums_are}
-use Rattle.text_laws.proofs.MemberLaws.{plain_numbers}
+use Rattle.text_laws.proofs.MemberLaws.{plain_members}
 use Rattle.text_laws.proofs.NestedLaws.{Siblings, siblings_fit, module_is}
 use Rattle.text_laws.proofs.FieldLaws.{FieldFits, PlainIs, plain_rows, fields_are}
 use Rattle.text_laws.proofs.OneofLaws.{oneof_texts_are, oneof_field_texts_are}
@@ -34,18 +36,15 @@ pick_not : (test : Bool) (x : Bytes) → pick test [] x ≡ pick (not test) x []
 pick_not true x = refl
 pick_not false x = refl
 
-module _ (rs : List Setting) (set messages t : List ℕ) where
+module _ (rs : List Setting) (set : List ℕ) (messages : List MessageRow) (t : List FieldRow) where
   abbrev ds : List FileDescriptor
   ds = decode_set set
 
   -- the fields in no oneof of message i, whose part p is
   pub plain_of : (full : Bytes) (nested : Forest MessageDescriptor) (i : ℕ) (p : Bytes) → Every (FieldFits full) (decode_message p).fields → MessageIs rs set messages t full (decode_message p) nested i
-      → Pairwise (PlainIs rs set messages t full nested) (members messages t 0 i p) (plain_fields (decode_message p).fields)
-  unfolding decode_message
+      → Pairwise (PlainIs rs set messages t full nested) (members is_plain messages t i p) (plain_fields (decode_message p).fields)
   plain_of full nested i p fit has =
-      rw (← (map_length decode_field (parts 2 (entries p))))
-      (plain_numbers t (λ k f v. v.row.oneof) (message_row messages i).first (decode_message p).fields
-      (plain_rows rs set messages t full nested (message_row messages i).first (decode_message p).fields has.fields fit))
+      plain_members t (λ k f v. v.row.oneof) messages i p (plain_rows rs set messages t full nested (message_row messages i).first (decode_message p).fields has.fields fit)
 
   -- message i, whose part p is, with so many levels below it
   module _ (proto3 : Bool) (scope : Bytes) (left i : ℕ) (p : Bytes) (fit : MessageFits scope (decode_message p))

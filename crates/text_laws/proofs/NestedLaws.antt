@@ -16,6 +16,8 @@ use Rattle.name_rules.specs.Accessors.{text}
 use Rattle.name_rules.specs.FullNames.{◌·◌}
 use Rattle.path_fits.specs.PathsFit.{EnumFits, MessageFits}
 use Rattle.text_tables.specs.Rows.{message_row}
+use Rattle.text_tables.specs.declared.MessageRow.{MessageRow}
+use Rattle.text_tables.specs.declared.FieldRow.{FieldRow}
 use Rattle.members.specs.Members.{name_in, in_oneofs, cut_camel, meets_part, conflict}
 use Rattle.message_text.specs.MessageText.{is_entry, module_for}
 use Rattle.code_generator.specs.Oneofs.{nested_meets, enum_meets, meets, oneof_fields}
@@ -28,7 +30,7 @@ abbrev pub Siblings : (MessageDescriptor → Type 0) → Forest MessageDescripto
 Siblings Q done = Unit {0}
 Siblings Q (node m nested following) = Q m × Siblings Q following
 
-pub siblings_fit : (rs : List Setting) (set messages t : List ℕ) (scope : Bytes) (i : ℕ) (F : Forest MessageDescriptor) → Described rs set messages t scope i F → Siblings (MessageFits scope) F
+pub siblings_fit : (rs : List Setting) (set : List ℕ) (messages : List MessageRow) (t : List FieldRow) (scope : Bytes) (i : ℕ) (F : Forest MessageDescriptor) → Described rs set messages t scope i F → Siblings (MessageFits scope) F
 siblings_fit rs set messages t scope i done h = tt
 siblings_fit rs set messages t scope i (node m nested following) h =
     (h.0.0, siblings_fit rs set messages t scope (message_row messages i).after following h.1.1)
@@ -79,7 +81,7 @@ empty_map : {A B : Type 0} (g : A → B) (xs : List A) → is_empty xs ≡ is_em
 empty_map g [] = refl
 empty_map g (x ∷ xs) = refl
 
-module _ (rs : List Setting) (set messages t : List ℕ) (full : Bytes) (left i : ℕ) (p : Bytes) (s : Siblings (MessageFits full) (decode_messages left (parts 3 (entries p))))
+module _ (rs : List Setting) (set : List ℕ) (messages : List MessageRow) (t : List FieldRow) (full : Bytes) (left i : ℕ) (p : Bytes) (s : Siblings (MessageFits full) (decode_messages left (parts 3 (entries p))))
     (has : MessageIs rs set messages t full (decode_message p) (decode_messages left (parts 3 (entries p))) i) where
   nested_types : (not (eqb left 0) && any (λ (q : Bytes). not (is_entry q)) (parts 3 (entries p))) ≡ has_nested_types (decode_messages left (parts 3 (entries p)))
   unfolding has_nested_types

@@ -6,17 +6,19 @@ use Rattle.std.proofs.Math.Bool.{true, false}
 use Rattle.std.proofs.Math.Option.{Option}
 use mathlib.Core.List.{List, [], ◌∷◌, ◌++◌, map}
 use Rattle.base.specs.Choose.{choose}
-use Rattle.base.specs.Lists.{is_empty, Every, map_length}
+use Rattle.base.specs.Lists.{is_empty, Every}
 use Rattle.writer.specs.Text.{pick}
 use Rattle.descriptor.specs.Descriptor.{Bytes, Forest, FieldDescriptor, MessageDescriptor, FileDescriptor}
-use Rattle.descriptor.specs.Decode.{entries, parts, decode_field, decode_oneof, decode_message, decode_messages, decode_set}
+use Rattle.descriptor.specs.Decode.{entries, parts, decode_oneof, decode_message, decode_messages, decode_set}
 use Rattle.options.specs.Settings.{Setting}
 use Rattle.name_rules.specs.Accessors.{text}
 use Rattle.name_rules.specs.FullNames.{◌·◌}
 use Rattle.context.specs.Context.{can_field_derive_copy, can_field_derive_eq}
 use Rattle.walks.specs.Walked.{walked}
 use Rattle.path_fits.specs.PathsFit.{NameFits, OneofFits, MessageFits}
-use Rattle.text_tables.specs.Rows.{message_row, field_row}
+use Rattle.text_tables.specs.Rows.{message_row, field_row, is_in}
+use Rattle.text_tables.specs.declared.MessageRow.{MessageRow}
+use Rattle.text_tables.specs.declared.FieldRow.{FieldRow}
 use Rattle.members.specs.Members.{name_in, field_at, members, cut_camel}
 use Rattle.oneof_text.specs.OneofText.{oneof_text, oneof_part, oneof_texts}
 use Rattle.oneof_fields.specs.OneofFields.{oneof_of_numbers, oneof_field_text, oneof_field_part, oneof_field_texts}
@@ -24,7 +26,7 @@ use Rattle.code_generator.specs.Piece.{flat}
 use Rattle.code_generator.specs.Oneofs.{fields_at, OneofField, meets, oneofs_from, oneof_fields, oneof_tag, oneof_line, append_oneof_field, append_oneof_fields, append_oneof, append_oneofs}
 use Rattle.text_laws.specs.Pairwise.{Pairwise, pairwise_empty, pairwise_map, pairwise_all}
 use Rattle.text_laws.specs.Described.{MessageIs, from_with}
-use Rattle.text_laws.proofs.MemberLaws.{oneof_numbers}
+use Rattle.text_laws.proofs.MemberLaws.{oneof_members}
 use Rattle.text_laws.proofs.NestedLaws.{Siblings, conflict_is}
 use Rattle.text_laws.proofs.FieldLaws.{FieldFits, plain_rows, VariantIs, variants_are}
 
@@ -59,7 +61,7 @@ any_oneof_line : (d : ℕ) (full message : Bytes) (x : OneofField) → flat (one
 unfolding oneof_line
 any_oneof_line d full message x = refl
 
-module _ (rs : List Setting) (set messages t : List ℕ) (full : Bytes) where
+module _ (rs : List Setting) (set : List ℕ) (messages : List MessageRow) (t : List FieldRow) (full : Bytes) where
   abbrev ds : List FileDescriptor
   ds = decode_set set
 
@@ -86,7 +88,7 @@ module _ (rs : List Setting) (set messages t : List ℕ) (full : Bytes) where
 
 -- ---- the oneofs of message i, whose part p is, with so many levels below it
 
-module _ (rs : List Setting) (set messages t : List ℕ) (scope : Bytes) (d left i : ℕ) (p : Bytes) (fit : MessageFits scope (decode_message p))
+module _ (rs : List Setting) (set : List ℕ) (messages : List MessageRow) (t : List FieldRow) (scope : Bytes) (d left i : ℕ) (p : Bytes) (fit : MessageFits scope (decode_message p))
     (s : Siblings (MessageFits (scope · text (decode_message p).name)) (decode_messages left (parts 3 (entries p))))
     (has : MessageIs rs set messages t (scope · text (decode_message p).name) (decode_message p) (decode_messages left (parts 3 (entries p))) i) where
   abbrev full : Bytes
@@ -101,13 +103,11 @@ module _ (rs : List Setting) (set messages t : List ℕ) (scope : Bytes) (d left
   abbrev Fits : Option Bytes → Type 0
   Fits = OneofFits full m
 
-  variants_of : (x : ℕ) (n : Option Bytes) → Fits n → Pairwise (VariantIs rs set messages t full nested (text n)) (members messages t (suc x) i p) (fields_at x m.fields)
-  unfolding decode_message
+  variants_of : (x : ℕ) (n : Option Bytes) → Fits n → Pairwise (VariantIs rs set messages t full nested (text n)) (members (is_in x) messages t i p) (fields_at x m.fields)
   variants_of x n h =
       let k = (message_row messages i).first in
       let rows = plain_rows rs set messages t full nested k m.fields has.fields fit.fields in
-      rw (← (map_length decode_field (parts 2 (entries p))))
-      (oneof_numbers t (λ k f v. v.plain.row.oneof) x k m.fields (from_with (FieldFits (full · text n)) (λ k f v q. record { plain = v; fits = q }) k m.fields rows h.fields))
+      oneof_members t (λ k f v. v.plain.row.oneof) messages i p (from_with (FieldFits (full · text n)) (λ k f v q. record { plain = v; fits = q }) k m.fields rows h.fields) x
 
   abbrev deeper : Bool
   deeper = not (eqb left 0)

@@ -13,6 +13,8 @@ use Rattle.options.specs.Settings.{Setting}
 use Rattle.name_rules.specs.Accessors.{text}
 use Rattle.name_rules.specs.FullNames.{◌·◌, Entry, set_entries}
 use Rattle.name_rules.specs.WellFormed.{GoodField, GoodMessage}
+use Rattle.text_tables.specs.declared.MessageRow.{MessageRow}
+use Rattle.text_tables.specs.declared.FieldRow.{FieldRow}
 use Rattle.context_laws.specs.At.{At}
 use Rattle.context_laws.specs.At.At.{first, next}
 use Rattle.context_laws.specs.Rows.{first_row}
@@ -50,7 +52,7 @@ in_its_oneof true o i e = both_ways refl (ap is_plain e)
 below : (n : ℕ) (f : FieldDescriptor) → GoodField n f → Below n f
 below n f good i e = (good.in_oneof i (in_its_oneof f.proto3_optional f.oneof_index i e)).0
 
-module _ (rs : List Setting) (set messages t : List ℕ) (says : Says rs set messages t) where
+module _ (rs : List Setting) (set : List ℕ) (messages : List MessageRow) (t : List FieldRow) (says : Says rs set messages t) where
   abbrev es : List Entry
   es = set_entries (decode_set set)
 

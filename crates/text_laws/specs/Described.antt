@@ -5,14 +5,16 @@ use Rattle.base.specs.Choose.{choose}
 use Rattle.base.specs.Lists.{Every}
 use Rattle.descriptor.specs.Descriptor.{Bytes, Forest, done, node, FieldDescriptor, MessageDescriptor}
 use Rattle.descriptor.specs.Decode.{decode_set}
+use Rattle.descriptor.specs.Seen.{option_seen}
 use Rattle.options.specs.Settings.{Setting}
 use Rattle.name_rules.specs.Accessors.{text, is_repeated}
 use Rattle.name_rules.specs.FullNames.{◌·◌}
 use Rattle.context.specs.Context.{has, should_box, can_message_derive_copy, can_field_derive_copy, can_message_derive_eq, can_field_derive_eq}
 use Rattle.path_fits.specs.PathsFit.{MessageFits}
 use Rattle.text_tables.specs.Rows.{message_row, field_row}
+use Rattle.text_tables.specs.declared.MessageRow.{MessageRow}
+use Rattle.text_tables.specs.declared.FieldRow.{FieldRow}
 use Rattle.members.specs.Members.{field_at, map_entry_at}
-use Rattle.table_says.specs.Says.{oneof_number}
 use Rattle.code_generator.specs.MapFields.{map_entry_of}
 use Rattle.code_generator.specs.Oneofs.{oneof_of}
 
@@ -30,11 +32,11 @@ pub from_with : {P R : ℕ → FieldDescriptor → Type 0} (Q : FieldDescriptor 
 from_with Q both k [] h e = tt
 from_with Q both k (f ∷ fs) h e = (both k f h.0 e.0, from_with Q both (suc k) fs h.1 e.1)
 
-module _ (rs : List Setting) (set messages t : List ℕ) where
+module _ (rs : List Setting) (set : List ℕ) (messages : List MessageRow) (t : List FieldRow) where
   -- row k is that of a field f of the message with the full name
   pub record FieldIs (full : Bytes) (nested : Forest MessageDescriptor) (k : ℕ) (f : FieldDescriptor) : Type 0 where
     pub there : field_at set t k ≡ f
-    pub oneof : (field_row t k).oneof ≡ oneof_number (oneof_of f)
+    pub oneof : option_seen (field_row t k).oneof ≡ oneof_of f
     pub copy : (field_row t k).copy ≡ can_field_derive_copy rs (decode_set set) full f
     pub eq : (field_row t k).eq ≡ can_field_derive_eq (decode_set set) full f
     pub boxed : (at : Bytes) → should_box rs (decode_set set) full at f ≡ choose (is_repeated f) false (choose (field_row t k).looped true (has rs 4 (at · text f.name)))

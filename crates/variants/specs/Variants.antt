@@ -5,13 +5,14 @@ use Rattle.options.specs.Settings.{Setting}
 use Rattle.name_rules.specs.Accessors.{text}
 use Rattle.context.specs.Context.{has}
 use Rattle.joined.specs.Joined.{fits, ◌⊙◌}
+use Rattle.text_tables.specs.declared.FieldRow.{FieldRow}
 use Rattle.members.specs.Members.{field_at, boxed_at}
 use Rattle.code_generator.specs.Piece.{Text, nothing, ◌⟫◌, when}
 use Rattle.code_generator.specs.Attributes.{line, append_deprecated, append_field_attributes}
 use Rattle.code_generator.specs.Oneofs.{variant_tag, variant_line}
 
 -- t: the table of fields. full: the message's full name; at: the oneof's
-module _ (rs : List Setting) (set t : List ℕ) where
+module _ (rs : List Setting) (set : List ℕ) (t : List FieldRow) where
   unfoldable pub variant_text : ℕ → Bytes → Bytes → ℕ → Text
   variant_text d full at k =
       append_deprecated d (field_at set t k)

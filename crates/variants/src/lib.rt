@@ -7,17 +7,17 @@ ghost use Rattle.code_generator.specs.Writing.{◌⊳◌};
 ghost use Rattle.code_generator.specs.Oneofs.{variant_tag, variant_line};
 ghost use Rattle.variants.specs.Variants.{variant_text, variant_texts};
 
-use attributes::writing::{append_deprecated, append_field_attributes, put_line};
+use attributes::{append_deprecated, append_field_attributes, put_line};
 use context::Context;
 use descriptor::FieldDescriptor;
-use field_lines::writing::{box_close, box_open};
+use field_lines::{box_close, box_open};
 use ident::text::put_upper_camel;
-use members::of_message::{Oneof, boxed_at, field_at, is_deprecated, setting};
+use members::{Oneof, boxed_at, field_at, is_deprecated, setting};
 use options::{Kind, Options};
-use resolve::writing::{field_type_tag, resolve_type};
+use resolve::{field_type_tag, resolve_type};
 use writer::Text;
 
-/// A variant's tag, from behind `#[prost(` on. full: the message's full name.
+// A variant's tag, from behind `#[prost(` on. full: the message's full name.
 #[tactic(auto, unfolding(code_generator::specs::Oneofs::variant_tag))]
 fn variant_tag(text: &mut Text<'_>, options: &Options<'_>, full: &[u8], field: &FieldDescriptor<'_>)
     ensures { text.new ≡ text.old ⊳ variant_tag options.now full.now field.now }
@@ -28,7 +28,7 @@ fn variant_tag(text: &mut Text<'_>, options: &Options<'_>, full: &[u8], field: &
     text.put(b"\")]\n");
 }
 
-/// The line of a variant; its bytes are `Bytes` where `bytes` holds.
+// The line of a variant; its bytes are `Bytes` where `bytes` holds.
 #[tactic(auto, unfolding(code_generator::specs::Oneofs::variant_line))]
 fn variant_line(
     text: &mut Text<'_>,
@@ -74,6 +74,7 @@ pub fn append_variant(
 }
 
 /// The fields of a oneof, whose full name `path` is. full: the message's.
+#[tactic(auto, unfolding(crate::specs::Variants::variant_texts))]
 pub fn append_variants(
     text: &mut Text<'_>,
     context: &Context<'_>,
@@ -84,9 +85,7 @@ pub fn append_variants(
 )
     ensures { text.new ≡ text.old ⊳ variant_texts context.now.options context.now.set context.now.fields depth full.now path.now (oneof_members context.now.fields oneof.now) }
 {
-    for k in oneof.fields.start..oneof.fields.end {
-        if text_tables::oneof_at(context.fields, k) == oneof.number {
-            append_variant(text, context, depth, full, path, k);
-        }
+    for k in oneof.members(context) {
+        append_variant(text, context, depth, full, path, k);
     }
 }

@@ -1,11 +1,8 @@
-use lib.ListN.{length}
-use mathlib.Core.Path.{◌≡◌}
-use Prim.Native.Nat.{◌<◌}
-use Rattle.options.specs.Settings.{settings}
+use Rattle.std.specs.Prelude.{◌≡◌, ◌<◌, length}
 use Rattle.member_rows.specs.MemberRows.{files_meet, set_meets}
 use Rattle.member_rows.proofs.members_meet.Given as goal
 
-abbrev pub invariant-loop-p : goal.invariant-loop-p
-invariant-loop-p l =
-    (files_meet (settings l.o) (length l.initial.t) l.set l.messages l.fields l.i l.p-iterator ≡ set_meets (settings l.o) (length l.initial.t) l.set l.messages l.fields)
-    × (l.i < 65536) × (length l.t ≡ length l.initial.t)
+abbrev pub invariant-loop-part : goal.invariant-loop-part
+invariant-loop-part l =
+    (files_meet l.context.options (length l.initial.rows) l.context.set l.context.messages l.context.fields l.first l.part-iterator ≡ set_meets l.context.options (length l.initial.rows) l.context.set l.context.messages l.context.fields)
+    × (l.first < 65536) × (length l.rows ≡ length l.initial.rows)

@@ -1,33 +1,31 @@
-use mathlib.Core.Path.{ap, ◌∙◌}
-use borrow.Author.Rules.{rules}
-use Rattle.base.specs.Lists.{all_of}
-use Rattle.writer.specs.Wrote.{named}
-use Rattle.attributes.proofs.Onward.{begun, turned, passed, done}
-use Rattle.descriptor.specs.Descriptor.{FieldDescriptor}
+use Rattle.std.proofs.Common.{◌≡◌, ap, ◌∙◌, sym, []}
+use Rattle.writer.specs.Writing.{◌▻◌}
+use Rattle.name_rows.specs.Spelt.{spelt_by}
+use Rattle.name_rows.specs.Rows.{row}
+use Rattle.context.specs.Given.{Given}
+use Rattle.descriptor.specs.Descriptor.{Bytes, FieldDescriptor}
 use Rattle.name_rules.specs.Accessors.{text}
-use Rattle.members.proofs.MemberLaws.{numbers_end, numbers_found, numbers_skip}
-use Rattle.member_rows.specs.MemberRows.{name_row, field_rows}
+use Rattle.text_tables.specs.Rows.{field_row}
+use Rattle.member_rows.specs.MemberRows.{chosen}
+use Rattle.member_rows.proofs.NameLaws.{fields_on, fields_past, fields_done}
+use Rattle.member_rows.proofs.put_fields.Goals.{then-is_member, else-is_member}
 use Rattle.member_rows.proofs.put_fields.Goals as goal
 
-pub loop-next-init : goal.loop-next-init
-loop-next-init c = begun (search rules)
-
-pub loop-next-preserved-then-row-c : goal.loop-next-preserved-then-row-c
-unfolding field_rows all_of
-loop-next-preserved-then-row-c c =
+pub loop-k-preserved : goal.loop-k-preserved
+loop-k-preserved c =
     let v = c.args in
-    turned c.loop-next.invariant
-    (ap (field_rows v.set.now v.fields.now v.camel) (numbers_found _ _ _ c.loop-next-test.true _ c.field_row-row.ensures _ c.if-row-c.true))
-    (named (ap (name_row v.camel) (c.name.ensures ∙ ap (λ (f : FieldDescriptor). text f.name) c.field_at-f.ensures)) c.put_name-a.ensures)
-
-pub loop-next-preserved : goal.loop-next-preserved
-loop-next-preserved c =
-    let v = c.args in
-    passed c.loop-next.invariant
-    (ap (field_rows v.set.now v.fields.now v.camel) (numbers_skip _ _ _ c.loop-next-test.true _ c.field_row-row.ensures _ c.if-row-c.false))
+    let g = v.context.now in
+    let k = c.loop-k.k in
+    let is : c.is_member.result ≡ chosen v.oneof (field_row g.fields k) = c.is_member.ensures ∙ ap (chosen v.oneof) (c.field_row.ensures ∙ ap (λ (x : Given). field_row x.fields k) c.context.view_is) in
+    elim c.if-is_member.branch [
+      | then-is_member w ↦
+          fields_on v.spelling g.set g.fields (chosen v.oneof) v.fields.end k c.loop-k.text _ c.loop-k.invariant c.loop-k-test.true
+          (sym is ∙ w.if-is_member.true) _
+          (w.text-is ∙ w.put_row.ensures ∙ ap (λ (name : Bytes). c.loop-k.text ▻ row [] (spelt_by v.spelling name)) (w.name.ensures ∙ ap (λ (f : FieldDescriptor). text f.name) w.field_at.ensures))
+      | else-is_member w ↦
+          fields_past v.spelling g.set g.fields (chosen v.oneof) v.fields.end k c.loop-k.text _ c.loop-k.invariant c.loop-k-test.true
+          (sym is ∙ w.if-is_member.false) _ w.text-is
+    ]
 
 pub returns : goal.returns
-unfolding field_rows all_of
-returns c =
-    let v = c.args in
-    done c.loop-next.invariant (ap (field_rows v.set.now v.fields.now v.camel) (numbers_end _ _ _ _ c.loop-next-test.false))
+returns c = fields_done _ _ _ _ _ _ _ _ c.loop-k.invariant c.loop-k-test.false

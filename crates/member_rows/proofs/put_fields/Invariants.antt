@@ -1,11 +1,10 @@
-use Prim.Native.Nat.{◌-◌}
-use Rattle.attributes.proofs.Onward.{Onward}
-use Rattle.members.specs.Members.{numbers_with}
-use Rattle.member_rows.specs.MemberRows.{field_rows}
+use Rattle.std.specs.Prelude.{◌≡◌, ◌-◌}
+use Rattle.writer.specs.Writing.{◌▻◌}
+use Rattle.members.specs.Members.{numbers_where}
+use Rattle.member_rows.specs.MemberRows.{chosen, rows_by}
 use Rattle.member_rows.proofs.put_fields.Given as goal
 
-abbrev pub invariant-loop-next : goal.invariant-loop-next
-invariant-loop-next l = Onward l.initial.t l.at (field_rows l.set l.fields l.camel (numbers_with l.fields l.c (l.last - l.first) l.first)) l.t l.a (field_rows l.set l.fields l.camel (numbers_with l.fields l.c (l.last - l.next) l.next))
-
-abbrev pub decreases-loop-next : goal.decreases-loop-next
-decreases-loop-next l = l.last - l.next
+abbrev pub invariant-loop-k : goal.invariant-loop-k
+invariant-loop-k l =
+    l.text ▻ rows_by l.spelling l.context.set l.context.fields (numbers_where (chosen l.oneof) l.context.fields (l.fn.fields.end - l.k) l.k)
+    ≡ l.fn.text ▻ rows_by l.spelling l.context.set l.context.fields (numbers_where (chosen l.oneof) l.context.fields (l.fn.fields.end - l.fn.fields.start) l.fn.fields.start)

@@ -1,9 +1,11 @@
-use Rattle.member_rows.specs.MemberRows.{oneof_row, oneof_rows, next_index}
+use Rattle.std.specs.Prelude.{◌≡◌}
+use Rattle.std.specs.Iterator.Adapters.{enumerate_source, enumerate_count}
+use Rattle.writer.specs.Writing.{◌▻◌}
 use Rattle.walks.specs.Walked.{walked}
-use Rattle.attributes.proofs.Onward.{Onward}
+use Rattle.member_rows.specs.MemberRows.{oneof_row, next_index, oneof_rows}
 use Rattle.member_rows.proofs.put_oneofs.Given as goal
 
-abbrev pub invariant-loop-x : goal.invariant-loop-x
-invariant-loop-x l =
-    Onward l.initial.t l.at (oneof_rows l.messages l.fields l.i l.p) l.t l.a
-    (walked (oneof_row l.messages l.fields l.i l.p) (next_index l.messages l.fields) l.x-iterator.count l.x-iterator.iter)
+abbrev pub invariant-loop-index : goal.invariant-loop-index
+invariant-loop-index l =
+    l.text ▻ walked (oneof_row l.context.messages l.context.fields l.message.number l.message.part) (next_index l.context.messages l.context.fields) (enumerate_count l.index-iterator) (enumerate_source l.index-iterator)
+    ≡ l.fn.text ▻ oneof_rows l.context.messages l.context.fields l.message.number l.message.part

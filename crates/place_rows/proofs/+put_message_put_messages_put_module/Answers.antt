@@ -1,66 +1,70 @@
-use borrow.Author.Rules.{rules}
-use mathlib.Core.Path.{refl, ap}
-use native.Mathlib.Omega.{arith}
-use Rattle.writer.specs.Wrote.{none, named}
-use Rattle.wire.proofs.RecordsLaws.{places}
-use Rattle.walks.specs.Walked.{going_start, going_end, going_fault, going_skip, going_found}
-use Rattle.joined.specs.Joined.{path_held}
+use Rattle.std.proofs.Common.{ap, ◌∙◌, sym, arith, ◌+◌, ◌-◌, not, eqb, List}
+use Rattle.writer.specs.Writing.{◌▻◌}
+use Rattle.writer.proofs.TextLaws.{put-nothing}
+use Rattle.descriptor.specs.Descriptor.{Bytes}
+use Rattle.descriptor.specs.Decode.{entries, parts}
+use Rattle.context.specs.Given.{Given}
+use Rattle.members.specs.Seen.{MessageSeen}
+use Rattle.extern_paths.specs.ExternPaths.{taken}
+use Rattle.walks.specs.Walked.{walked, written_on, written_all}
+use Rattle.text_tables.specs.Rows.{message_row}
 use Rattle.text_tables.specs.declared.MessageRow.{MessageRow}
-use Rattle.place_rows.specs.PlaceRows.{messages_rows}
+use Rattle.place_rows.specs.PlaceRows.{enum_rows, module_rows, message_rows, messages_rows, number_after}
 use Rattle.place_rows.proofs.RowLaws.{level, rows_of_module, rows_of_entry, rows_of_taken, rows_of_struct, rows_with_module}
 use Rattle.place_rows.proofs.+put_message_put_messages_put_module.Goals as goal
 
-pub put_message-returns-then-entry : goal.put_message-returns-then-entry
-put_message-returns-then-entry t c = named (rows_of_entry _ _ _ _ _ _ _ c.args.p.now _ refl _ c.is_entry-entry.ensures c.if-entry.true) (none (search rules))
+pub put_message-returns-then-is_entry : goal.put_message-returns-then-is_entry
+put_message-returns-then-is_entry t c = rows_of_entry _ _ _ _ _ _ _ _ _ _ c.is_entry.ensures c.if-is_entry.true
 
-pub put_message-slice_bounds-full-end : goal.put_message-slice_bounds-full-end
-put_message-slice_bounds-full-end t c = omega (arith, c.path_in-n.ensures.0)
+pub put_message-returns-then-takes : goal.put_message-returns-then-takes
+put_message-returns-then-takes t c =
+    let asked = c.takes.ensures ∙ ap (λ (x : Given). taken x.options c.as_bytes.result.now) c.context.view_is ∙ ap (taken c.args.context.now.options) (c.as_bytes.ensures ∙ c.new-full.ensures) in
+    rows_of_taken _ _ _ _ _ _ _ _ _ _ c.is_entry.ensures c.if-is_entry.false _ c.name_of-name.ensures _ asked c.if-takes.true
 
-pub put_message-returns-then-taken : goal.put_message-returns-then-taken
-put_message-returns-then-taken t c = named (rows_of_taken _ _ _ _ _ _ _ _ _ c.name_of-name.ensures _ c.is_entry-entry.ensures c.if-entry.false _ (path_held c.path_in-n.new.t c.args.scope.now c.path_in-n.result c.path_in-n.ensures.1 c.name_of-name.ensures) _ c.is_taken-taken.ensures c.if-taken.true) (none (search rules))
+pub put_message-returns-then-module_for : goal.put_message-returns-then-module_for
+put_message-returns-then-module_for t c =
+    let g = c.args.context.now in
+    let asked = c.takes.ensures ∙ ap (λ (x : Given). taken x.options c.as_bytes.result.now) c.context.view_is ∙ ap (taken g.options) (c.as_bytes.ensures ∙ c.new-full.ensures) in
+    let inner = c.put_module.ensures
+    ∙ ap (λ (full : Bytes). c.put_row.new.text ▻ module_rows g.options g.messages g.fields (messages_rows g.options g.messages g.fields c.args.left) c.args.scope.now full (not (eqb c.args.left 0)) c.args.number c.args.part.now) (c.as_bytes-2.ensures ∙ c.new-full.ensures) in
+    rows_with_module _ _ _ _ _ _ _ _ _ _ c.is_entry.ensures c.if-is_entry.false _ c.name_of-name.ensures _ asked c.if-takes.false _ c.put_row.ensures _ c.module_for.ensures c.if-module_for.true _ inner
 
-pub put_message-put_module-requires : goal.put_message-put_module-requires
-put_message-put_module-requires t c = (omega arith, c.requires)
-
-pub put_message-returns-then-module : goal.put_message-returns-then-module
-put_message-returns-then-module t c = rows_with_module _ _ _ _ _ _ _ _ _ c.name_of-name.ensures _ c.is_entry-entry.ensures c.if-entry.false _ (path_held c.path_in-n.new.t c.args.scope.now c.path_in-n.result c.path_in-n.ensures.1 c.name_of-name.ensures) _ c.is_taken-taken.ensures c.if-taken.false c.put_camel_row-a.ensures _ c.module_for-module.ensures c.if-module.true c.put_module.ensures
-
-pub put_message-returns : goal.put_message-returns
-put_message-returns t c = rows_of_struct _ _ _ _ _ _ _ _ _ c.name_of-name.ensures _ c.is_entry-entry.ensures c.if-entry.false _ (path_held c.path_in-n.new.t c.args.scope.now c.path_in-n.result c.path_in-n.ensures.1 c.name_of-name.ensures) _ c.is_taken-taken.ensures c.if-taken.false c.put_camel_row-a.ensures _ c.module_for-module.ensures c.if-module.false
+pub put_message-returns-else-module_for : goal.put_message-returns-else-module_for
+put_message-returns-else-module_for t c =
+    let asked = c.takes.ensures ∙ ap (λ (x : Given). taken x.options c.as_bytes.result.now) c.context.view_is ∙ ap (taken c.args.context.now.options) (c.as_bytes.ensures ∙ c.new-full.ensures) in
+    rows_of_struct _ _ _ _ _ _ _ _ _ _ c.is_entry.ensures c.if-is_entry.false _ c.name_of-name.ensures _ asked c.if-takes.false _ c.put_row.ensures _ c.module_for.ensures c.if-module_for.false
 
 pub put_messages-returns-then-left-eq0 : goal.put_messages-returns-then-left-eq0
 unfolding messages_rows
-put_messages-returns-then-left-eq0 t c = rw c.if-left-eq0.true (none (search rules))
+put_messages-returns-then-left-eq0 t c = rw c.if-left-eq0.true (sym (put-nothing c.args.text.now))
 
-pub put_messages-loop-f-init : goal.put_messages-loop-f-init
-put_messages-loop-f-init t c = (going_start _ _ _ _ _ _ _ (search rules), c.requires.1)
+pub put_messages-loop-part-init : goal.put_messages-loop-part-init
+put_messages-loop-part-init t c =
+    let g = c.args.context.now in (
+      ap (λ (ps : List Bytes). c.args.text.now ▻ walked (message_rows g.options g.messages g.fields (messages_rows g.options g.messages g.fields (c.args.left - 1)) c.args.scope.now (not (eqb (c.args.left - 1) 0))) (number_after g.options g.messages g.fields) c.args.first ps) c.into_iter-part-iterator.ensures.into_iter_gives
+          ∙ ap (λ (l : Bytes). c.args.text.now ▻ l) (level _ _ _ _ _ _ _ c.if-left-eq0.false),
+      c.requires.1,
+    )
 
-pub put_messages-returns-in-End : goal.put_messages-returns-in-End
-put_messages-returns-in-End t c = named (level _ _ _ _ _ _ _ c.if-left-eq0.false) (going_end _ _ _ _ _ _ _ c.loop-f.invariant.0 _ c.read_step.ensures c.in-End.is)
+pub put_messages-loop-part-preserved : goal.put_messages-loop-part-preserved
+put_messages-loop-part-preserved t c =
+    let next = c.from-number.ensures ∙ ap (λ (r : MessageRow). r.after) c.message_row.ensures ∙ ap (λ (x : Given). (message_row x.messages c.loop-part.number).after) c.context.view_is in
+    (written_on _ _ _ _ _ _ c.loop-part.invariant.0 _ _ _ _ c.in-Some.ensures.steps next c.put_message.ensures, omega (arith, c.from-number.ensures, c.message_row.type_inv, c.requires.0))
 
-pub put_messages-returns-in-Fault : goal.put_messages-returns-in-Fault
-put_messages-returns-in-Fault t c = named (level _ _ _ _ _ _ _ c.if-left-eq0.false) (going_fault _ _ _ _ _ _ _ c.loop-f.invariant.0 _ c.read_step.ensures _ c.in-Fault.is)
-
-pub put_messages-put_message-a-requires : goal.put_messages-put_message-a-requires
-put_messages-put_message-a-requires t c = (omega (arith, c.if-left-eq0.false), (omega (arith, c.requires.0, c.if-left-eq0.false), omega (arith, c.loop-f.invariant.1, c.if-left-eq0.false)))
-
-pub put_messages-loop-f-smaller-then-f-number : goal.put_messages-loop-f-smaller-then-f-number
-put_messages-loop-f-smaller-then-f-number t c = search places
-
-pub put_messages-loop-f-preserved-then-f-number : goal.put_messages-loop-f-preserved-then-f-number
-put_messages-loop-f-preserved-then-f-number t c = (going_found _ _ _ _ _ _ _ c.loop-f.invariant.0 _ c.read_step.ensures _ c.in-Found.is c.if-f-number.true c.embedded-p.ensures c.put_message-a.ensures _ (ap (λ (r : MessageRow). r.after) c.message_row-row.ensures.0), omega (arith, c.message_row-row.ensures.2, c.requires.0))
-
-pub put_messages-loop-f-smaller : goal.put_messages-loop-f-smaller
-put_messages-loop-f-smaller t c = search places
-
-pub put_messages-loop-f-preserved : goal.put_messages-loop-f-preserved
-put_messages-loop-f-preserved t c = (going_skip _ _ _ _ _ _ _ c.loop-f.invariant.0 _ c.read_step.ensures _ c.in-Found.is c.if-f-number.false, c.loop-f.invariant.1)
-
-pub put_module-overflow_add-first : goal.put_module-overflow_add-first
-put_module-overflow_add-first t c = omega (arith, c.requires.1)
-
-pub put_module-put_messages-a-requires : goal.put_module-put_messages-a-requires
-put_module-put_messages-a-requires t c = (omega arith, (omega (arith, c.requires.0), omega (arith, c.requires.1)))
+pub put_messages-returns : goal.put_messages-returns
+put_messages-returns t c = written_all _ _ _ _ _ _ c.loop-part.invariant.0 c.in-None.ensures.steps.0
 
 pub put_module-returns : goal.put_module-returns
-put_module-returns t c = rows_of_module _ _ _ _ _ _ _ _ _ c.name_of.ensures _ c.put_snake_row-a.ensures c.put_messages-a.ensures c.put_enums-a.ensures c.put_oneofs.ensures
+put_module-returns t c =
+    let g = c.args.context.now in
+    let left = c.args.left in
+    let t₁ = c.put_row.new.text in
+    let t₂ = c.put_messages.new.text in
+    let nested = c.put_messages.ensures
+    ∙ ap (λ (ps : List Bytes). t₁ ▻ messages_rows g.options g.messages g.fields left c.message.inside.full.now (c.message.inside.number + 1) ps) c.new.ensures.parts
+    ∙ ap (λ (x : MessageSeen). t₁ ▻ messages_rows g.options g.messages g.fields left x.full (x.number + 1) (parts 3 (entries x.part))) c.message.view_is in
+    let enums = c.put_enums.ensures
+    ∙ ap (λ (ps : List Bytes). t₂ ▻ enum_rows c.context.inside.options c.message.inside.full.now ps) c.new-2.ensures.parts
+    ∙ ap (λ (x : MessageSeen). t₂ ▻ enum_rows c.context.inside.options x.full (parts 4 (entries x.part))) c.message.view_is
+    ∙ ap (λ (x : Given). t₂ ▻ enum_rows x.options c.args.message.now.full (parts 4 (entries c.args.message.now.part))) c.context.view_is in
+    rows_of_module _ _ _ _ _ _ _ _ _ _ _ c.name.ensures t₁ t₂ c.put_enums.new.text _ c.put_row.ensures nested enums c.put_oneofs.ensures

@@ -1,29 +1,16 @@
-use mathlib.Core.Path.{refl}
-use borrow.Author.Rules.{rules}
-use Rattle.wire.proofs.RecordsLaws.{places}
-use Rattle.walks.specs.Walked.{going_start, going_end, going_fault, going_skip, going_found}
+use Rattle.std.proofs.Common.{ap, refl, List}
+use Rattle.writer.specs.Writing.{◌▻◌}
+use Rattle.descriptor.specs.Descriptor.{Bytes}
+use Rattle.walks.specs.Walked.{written_on, written_all}
 use Rattle.place_rows.specs.PlaceRows.{enum_rows}
 use Rattle.place_rows.proofs.put_enums.Goals as goal
 
-pub loop-f-init : goal.loop-f-init
-loop-f-init c = going_start _ _ _ _ _ _ _ (search rules)
-
-pub returns-in-End : goal.returns-in-End
+pub loop-part-init : goal.loop-part-init
 unfolding enum_rows
-returns-in-End c = going_end _ _ _ _ _ _ _ c.loop-f.invariant _ c.read_step.ensures c.in-End.is
+loop-part-init c = ap (λ (l : List Bytes). c.args.text.now ▻ enum_rows c.args.options.now c.args.home.now l) c.into_iter-part-iterator.ensures.into_iter_gives
 
-pub returns-in-Fault : goal.returns-in-Fault
-unfolding enum_rows
-returns-in-Fault c = going_fault _ _ _ _ _ _ _ c.loop-f.invariant _ c.read_step.ensures _ c.in-Fault.is
+pub loop-part-preserved : goal.loop-part-preserved
+loop-part-preserved c = written_on _ _ _ _ _ _ c.loop-part.invariant _ _ _ _ c.in-Some.ensures.steps refl c.put_enum.ensures
 
-pub loop-f-smaller-then-f-number : goal.loop-f-smaller-then-f-number
-loop-f-smaller-then-f-number c = search places
-
-pub loop-f-preserved-then-f-number : goal.loop-f-preserved-then-f-number
-loop-f-preserved-then-f-number c = going_found _ _ _ _ _ _ _ c.loop-f.invariant _ c.read_step.ensures _ c.in-Found.is c.if-f-number.true c.embedded.ensures c.put_enum-a.ensures _ refl
-
-pub loop-f-smaller : goal.loop-f-smaller
-loop-f-smaller c = search places
-
-pub loop-f-preserved : goal.loop-f-preserved
-loop-f-preserved c = going_skip _ _ _ _ _ _ _ c.loop-f.invariant _ c.read_step.ensures _ c.in-Found.is c.if-f-number.false
+pub returns : goal.returns
+returns c = written_all _ _ _ _ _ _ c.loop-part.invariant c.in-None.ensures.steps.0

@@ -1,12 +1,8 @@
-use Prim.Native.Nat.{◌-◌}
-use lib.ListN.{length}
-use Rattle.options.specs.Settings.{settings}
-use Rattle.walks.specs.Walked.{Going}
-use Rattle.place_rows.specs.PlaceRows.{enum_row, same_count}
+use Rattle.std.specs.Prelude.{◌≡◌}
+use Rattle.writer.specs.Writing.{◌▻◌}
+use Rattle.walks.specs.Walked.{walked}
+use Rattle.place_rows.specs.PlaceRows.{enum_row, same_count, enum_rows}
 use Rattle.place_rows.proofs.put_enums.Given as goal
 
-abbrev pub invariant-loop-f : goal.invariant-loop-f
-invariant-loop-f l = Going (enum_row (settings l.o) l.home) same_count 0 l.number l.s l.initial.t l.at l.t l.place l.a 0
-
-abbrev pub decreases-loop-f : goal.decreases-loop-f
-decreases-loop-f l = length l.s - l.place
+abbrev pub invariant-loop-part : goal.invariant-loop-part
+invariant-loop-part l = l.text ▻ walked (enum_row l.options l.home) same_count 0 l.part-iterator ≡ l.fn.text ▻ enum_rows l.options l.home l.fn.enums

@@ -1,12 +1,10 @@
-use Prim.Native.Nat.{◌<◌, ◌-◌}
-use lib.ListN.{length}
-use Rattle.options.specs.Settings.{settings}
-use Rattle.walks.specs.Walked.{Going}
-use Rattle.place_rows.specs.PlaceRows.{file_rows, behind_file}
+use Rattle.std.specs.Prelude.{◌≡◌, ◌<◌}
+use Rattle.writer.specs.Writing.{◌▻◌}
+use Rattle.walks.specs.Walked.{walked}
+use Rattle.place_rows.specs.PlaceRows.{file_rows, behind_file, set_rows}
 use Rattle.place_rows.proofs.put_places.Given as goal
 
-abbrev pub invariant-loop-f : goal.invariant-loop-f
-invariant-loop-f l = Going (file_rows (settings l.o) l.messages l.fields) (behind_file (settings l.o) l.messages l.fields) 0 1 l.set l.initial.t l.at l.t l.place l.a l.i × (l.i < 65536)
-
-abbrev pub decreases-loop-f : goal.decreases-loop-f
-decreases-loop-f l = length l.set - l.place
+abbrev pub invariant-loop-part : goal.invariant-loop-part
+invariant-loop-part l =
+    (l.text ▻ walked (file_rows l.context.options l.context.messages l.context.fields) (behind_file l.context.options l.context.messages l.context.fields) l.first l.part-iterator
+    ≡ l.fn.text ▻ set_rows l.context.options l.context.messages l.context.fields l.context.set) × (l.first < 65536)
