@@ -129,8 +129,7 @@ pub fn find<'a>(options: &Options<'a>, ident: &[u8]) -> Option<ExternPath<'a>>
 
 /// Writes what stands for a name that this extern path takes.
 pub fn put_by(text: &mut Text<'_>, by: &ExternPath<'_>, ident: &[u8])
-    requires { is_tail by.now.tail.now ≡ true }
-    ensures { text.new ≡ text.old ▻ extern_text (resolve_by (extern_seen by.now) ident.now) }
+    ensures { is_tail by.now.tail.now ≡ true → text.new ≡ text.old ▻ extern_text (resolve_by (extern_seen by.now) ident.now) }
 {
     if by.path == ident {
         text.put(by.value);

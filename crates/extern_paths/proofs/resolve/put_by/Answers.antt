@@ -5,9 +5,9 @@ use Rattle.extern_paths.proofs.ByLaws.{by_itself, by_prefix}
 use Rattle.extern_paths.proofs.resolve.put_by.Goals as goal
 
 pub returns-then-eq : goal.returns-then-eq
-returns-then-eq c = appended _ _ _ _ _ c.put.ensures c.put-then-eq.ensures ∙ ap (λ (p : List ℕ). c.args.text.now ▻ p) (by_itself _ _ _ _ c.eq.ensures c.if-eq.true)
+returns-then-eq c = λ tail. appended _ _ _ _ _ c.put.ensures c.put-then-eq.ensures ∙ ap (λ (p : List ℕ). c.args.text.now ▻ p) (by_itself _ _ _ _ c.eq.ensures c.if-eq.true)
 
 pub returns-else-eq : goal.returns-else-eq
-returns-else-eq c =
-    appended _ _ _ _ _ (rw c.requires at c.put_rust_path.ensures) c.put_behind.ensures
+returns-else-eq c = λ tail.
+    appended _ _ _ _ _ (rw tail at c.put_rust_path.ensures) c.put_behind.ensures
     ∙ ap (λ (p : List ℕ). c.args.text.now ▻ p) (by_prefix _ _ _ _ c.eq.ensures c.if-eq.false)
