@@ -74,12 +74,12 @@ none_fails p (x ∷ xs) h = go (p x) h (none_fails p xs)
     go true h others = others (omega arith)
     go false h others = absurd (omega arith)
 
-module _ {A : Type 0} (P : A → Type 0) where
-  pub all_every : (p : A → Bool) → ((x : A) → p x ≡ true → P x) → (xs : List A) → all p xs ≡ true → Every P xs
-  unfolding all
-  all_every p f [] h = tt
-  all_every p f (x ∷ xs) h = (f x (and_left (p x) (all p xs) h), all_every p f xs (and_right (p x) (all p xs) h))
+pub all_every : {A : Type 0} (P : A → Type 0) (p : A → Bool) → ((x : A) → p x ≡ true → P x) → (xs : List A) → all p xs ≡ true → Every P xs
+unfolding all
+all_every P p f [] h = tt
+all_every P p f (x ∷ xs) h = (f x (and_left (p x) (all p xs) h), all_every P p f xs (and_right (p x) (all p xs) h))
 
+module _ {ℓ} {A : Type ℓ} (P : A → Type 0) where
   pub every_append : (xs ys : List A) → Every P xs → Every P ys → Every P (xs ++ ys)
   every_append [] ys p q = q
   every_append (x ∷ xs) ys p q = (p.0, every_append xs ys p.1 q)

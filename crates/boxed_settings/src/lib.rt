@@ -2,13 +2,13 @@
 #![tactic(auto)]
 
 ghost use Rattle.std.specs.Prelude.{◌≡◌};
-ghost use Rattle.writer.specs.Wrote.{Wrote};
+ghost use Rattle.writer.specs.Draft.{Filled};
 ghost use Rattle.writer.specs.Writing.{◌▻◌};
 ghost use Rattle.descriptor.specs.Decode.{entries, parts};
 ghost use Rattle.boxed_settings.specs.Flags.{flag, field_flag, field_flags, messages_flags, file_flags, set_flags};
 
 use descriptor::field_number::{FILE_MESSAGE_TYPE, MESSAGE_FIELD, MESSAGE_NESTED_TYPE, SET_FILE};
-use joined::{FullName, name_of};
+use joined::{Name, name_of};
 use options::{Kind, Options};
 use parts::Parts;
 use writer::Text;
@@ -17,7 +17,7 @@ use writer::Text;
 fn put_field(text: &mut Text<'_>, options: &Options<'_>, full: &[u8], field: &[u8])
     ensures { text.new ≡ text.old ▻ field_flag options.now full.now 0 field.now }
 {
-    let path = FullName::new(full, name_of(field));
+    let path = Name::new(full, name_of(field));
     let boxed = path::get_first(options, Kind::Boxed, path.as_bytes()).is_some();
     text.put_byte(u8::from(boxed));
 }
@@ -48,7 +48,7 @@ fn put_messages(
         return;
     }
     for message in Parts::new(part, number) {
-        let path = FullName::new(scope, name_of(message));
+        let path = Name::new(scope, name_of(message));
         let full = path.as_bytes();
         put_fields(text, options, full, message);
         put_messages(text, options, full, message, MESSAGE_NESTED_TYPE, left - 1);
@@ -59,7 +59,7 @@ fn put_messages(
 fn put_file(text: &mut Text<'_>, options: &Options<'_>, file: &[u8])
     ensures { text.new ≡ text.old ▻ file_flags options.now 0 file.now }
 {
-    let scope = FullName::package(file);
+    let scope = Name::package(file);
     put_messages(text, options, scope.as_bytes(), file, FILE_MESSAGE_TYPE, 16);
 }
 
@@ -73,11 +73,12 @@ fn put_files(text: &mut Text<'_>, options: &Options<'_>, set: &[u8])
     }
 }
 
-/// The fields of a set in declaration order.
+/// The fields of a set in declaration order, in a buffer, as far as it goes; how many there are.
+// Bytes of 1 and 0, and no truth values: a `Text` writes them, and counts what has no room.
 pub fn boxed_settings(bytes: &mut [u8], options: &Options<'_>, set: &[u8]) -> usize
-    ensures { Wrote bytes.old 0 (set_flags options.now set.now) bytes.new result }
+    ensures { Filled bytes.old (set_flags options.now set.now) bytes.new result }
 {
     let mut text = Text::new(bytes);
     put_files(&mut text, options, set);
-    text.next(0)
+    text.length
 }

@@ -5,11 +5,10 @@ use Rattle.std.specs.List.{list_all}
 use Rattle.std.proofs.Math.Decide.{dec_lt}
 use Rattle.base.specs.Choose.{choose}
 use Rattle.base.specs.Steps.{Run, ended, broken, ◌then◌, whole, items}
-use Rattle.c_escaping.specs.Unescape.{unescape_at, unescape_from}
+use Rattle.c_escaping.specs.Unescape.{Byte, Fault, unescape_at, unescape_from}
 use Rattle.c_escaping.specs.Unescaping.{unescape_end, unescape_fault, unescape_next}
 use Rattle.c_escaping.specs.Results.{results}
 use Rattle.c_escaping.specs.declared.bytes.BadEscape.{BadEscape}
-use Rattle.c_escaping.specs.declared.Unescaped.TheVariants.{Byte, Fault}
 
 pub no_bytes : (s : List ℕ) (i : ℕ) → length s ≤ i → results (unescape_from s i) ≡ []
 no_bytes s i h = ap results (unescape_end s i h)

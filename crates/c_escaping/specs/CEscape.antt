@@ -15,9 +15,8 @@ use Rattle.utf8.specs.Decoding.{range}
 use Rattle.literal.specs.Escape.{escape}
 use Rattle.literal.specs.EscapeCases.{escape_case}
 use Rattle.literal.specs.Reading.{Byte as IsByte}
-use Rattle.c_escaping.specs.Unescape.{byte_of, letter, is_octal, octal_at, escape_at, unescape_at, step_of, unescape_c_escape_string}
+use Rattle.c_escaping.specs.Unescape.{byte_of, letter, is_octal, octal_at, escape_at, unescape_at, Byte, step_of, unescape_c_escape_string}
 use Rattle.c_escaping.specs.Unescaping.{forward}
-use Rattle.c_escaping.specs.declared.Unescaped.TheVariants.{Byte}
 
 -- three octal digits
 unfoldable pub octal_escape : ℕ → List ℕ

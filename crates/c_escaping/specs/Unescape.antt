@@ -1,12 +1,20 @@
 -- c_escaping.rs, `unescape_c_escape_string`, with document 01's two refusals: `\x` takes exactly two hex digits, and an octal value
 -- above 255 is none. Past the end a byte is read as 0, which is no digit and no letter of an escape. Assumes nothing.
-use Rattle.std.specs.Prelude.{Bool, true, List, ℕ, ◌+◌, ◌-◌, ◌*◌, leb, ltb, eqb, length, get_or}
-use Rattle.std.proofs.Math.Option.{Option, some, none}
+use Rattle.std.specs.Prelude.{Bool, true, List, ℕ, ◌+◌, ◌-◌, ◌*◌, Option, Some, None, leb, ltb, eqb, length, get_or}
+use Rattle.std.proofs.Math.Option.{Option as Possibly, some, none}
 use Rattle.base.specs.Choose.{choose}
 use Rattle.base.specs.Steps.{Step, item, fault, Run, run, whole, items}
 use Rattle.utf8.specs.Utf8.{between}
-use Rattle.c_escaping.specs.declared.Unescaped.{Unescaped}
-use Rattle.c_escaping.specs.declared.Unescaped.TheVariants.{Byte, Fault}
+
+-- what stands at a place: a byte with the place behind it, or none
+abbrev pub Unescaped : Type 0
+Unescaped = Option (ℕ × ℕ)
+
+abbrev pub Byte : ℕ → ℕ → Unescaped
+Byte x next = Some (x, next)
+
+abbrev pub Fault : Unescaped
+Fault = None
 
 -- a value that fits a byte
 unfoldable pub byte_of : ℕ → ℕ → Unescaped
@@ -65,8 +73,8 @@ unescape_at s p =
     (choose (eqb (get_or s p 0) 92) (escape_at s (p + 1)) (Byte (get_or s p 0) (p + 1)))
 
 abbrev pub step_of : Unescaped → Step
-step_of (Byte x next) = item x next
-step_of Fault = fault
+step_of (Some y) = item y.0 y.1
+step_of None = fault
 
 -- the bytes of s from the place p on
 abbrev pub unescape_from : List ℕ → ℕ → Run
@@ -80,5 +88,5 @@ unescapes s = whole (unescape_from s 0)
 abbrev pub unescaped : List ℕ → List ℕ
 unescaped s = items (unescape_from s 0)
 
-abbrev pub unescape_c_escape_string : List ℕ → Option (List ℕ)
+abbrev pub unescape_c_escape_string : List ℕ → Possibly (List ℕ)
 unescape_c_escape_string s = choose (unescapes s) (some (unescaped s)) none

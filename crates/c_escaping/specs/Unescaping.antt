@@ -1,5 +1,5 @@
 -- The pass over a default that is unescaped: each step leads on and gives a byte. Assumes nothing.
-use Rattle.std.specs.Prelude.{◌≡◌, List, [], ◌∷◌, ℕ, zero, suc, ◌+◌, ◌≤◌, ◌<◌, leb, ltb, eqb, length, get_or}
+use Rattle.std.specs.Prelude.{◌≡◌, List, [], ◌∷◌, Some, None, ℕ, zero, suc, ◌+◌, ◌≤◌, ◌<◌, leb, ltb, eqb, length, get_or}
 use Rattle.std.proofs.Common.{sym, ap, ◌∙◌}
 use native.Mathlib.Omega.{arith}
 use borrow.Author.Tests.{ltb-true}
@@ -7,9 +7,7 @@ use Rattle.base.specs.Choose.{choose_case}
 use Rattle.base.specs.Each.{All}
 use Rattle.base.specs.Steps.{item, ended, broken, ◌then◌, items, Forward, run_end, run_fault, run_item, run_ind}
 use Rattle.literal.specs.Reading.{Byte as IsByte}
-use Rattle.c_escaping.specs.Unescape.{byte_of, letter, is_octal, octal_at, is_hex, hex_at, escape_at, unescape_at, step_of, unescape_from, unescaped}
-use Rattle.c_escaping.specs.declared.Unescaped.{Unescaped}
-use Rattle.c_escaping.specs.declared.Unescaped.TheVariants.{Byte, Fault}
+use Rattle.c_escaping.specs.Unescape.{Unescaped, Byte, Fault, byte_of, letter, is_octal, octal_at, is_hex, hex_at, escape_at, unescape_at, step_of, unescape_from, unescaped}
 
 -- ---- what a step gives
 -- x fits a byte if all of s do, and the next place lies behind p
@@ -18,8 +16,8 @@ pub record Good (s : List ℕ) (p x next : ℕ) : Type 0 where
   pub forward : p < next
 
 abbrev Fine : List ℕ → ℕ → Unescaped → Type 0
-Fine s p Fault = Unit
-Fine s p (Byte x next) = Good s p x next
+Fine s p None = Unit
+Fine s p (Some y) = Good s p y.0 y.1
 
 byte_in : (s : List ℕ) (p : ℕ) → All IsByte s → get_or s p 0 < 256
 byte_in [] p h = omega arith
@@ -81,8 +79,8 @@ step_byte : (s : List ℕ) (p x next : ℕ) → step_of (unescape_at s p) ≡ it
 step_byte s p x next = go (unescape_at s p) (fine s p)
   where
     go : (d : Unescaped) → Fine s p d → step_of d ≡ item x next → Good s p x next
-    go Fault f e = let z : ◌≡◌ {A = ℕ} 0 1 = cc in absurd (omega arith)
-    go (Byte y n) f e = let a : y ≡ x = cc in let b : n ≡ next = cc in rw (a, b) at f
+    go None f e = let z : ◌≡◌ {A = ℕ} 0 1 = cc in absurd (omega arith)
+    go (Some y) f e = let a : y.0 ≡ x = cc in let b : y.1 ≡ next = cc in rw (a, b) at f
 
 -- ---- laws of the pass
 pub forward : (s : List ℕ) → Forward (λ k. step_of (unescape_at s k))

@@ -4,7 +4,6 @@ ghost use Rattle.std.specs.Prelude.{◌≡◌};
 ghost use Rattle.std.specs.Iterator.{YieldsFirst, item_count};
 ghost use Rattle.c_escaping.specs.Results.{unescape_results};
 
-use crate::Unescaped;
 use std::marker::Model;
 
 /// What stands at a place is no escape.
@@ -51,11 +50,11 @@ impl<'a> Iterator for Unescape<'a> {
             return None;
         }
         match crate::unescape_at(self.text, self.at) {
-            Unescaped::Byte(byte, next) => {
+            Some((byte, next)) => {
                 self.at = next;
                 Some(Ok(byte))
             }
-            Unescaped::Fault => {
+            None => {
                 self.at = self.text.len();
                 Some(Err(BadEscape))
             }

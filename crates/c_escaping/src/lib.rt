@@ -11,43 +11,35 @@ mod bytes;
 pub use bytes::{BadEscape, Unescape};
 use writer::Text;
 
-/// What stands at a place: a byte with the place behind it, or none.
-// An enum as UTF-8's step is one: the definition of a step is stated by it. `Unescape` gives the bytes as results.
-#[derive(Clone, Copy, PartialEq, Eq)]
-pub enum Unescaped {
-    Byte(u8, usize),
-    Fault,
-}
-
-/// A value that fits a byte.
+/// A value that fits a byte, with the place behind it.
 #[tactic(auto, unfolding(crate::specs::Unescape::byte_of, base::specs::Choose::choose))]
-fn byte_of(v: u32, next: usize) -> Unescaped
+fn byte_of(v: u32, next: usize) -> Option<(u8, usize)>
     ensures { result ≡ byte_of v next }
 {
     match u8::try_from(v) {
-        Ok(x) => Unescaped::Byte(x, next),
-        Err(_) => Unescaped::Fault,
+        Ok(x) => Some((x, next)),
+        Err(_) => None,
     }
 }
 
-/// The byte that an escape of one letter stands for.
+/// The byte that an escape of one letter stands for, with the place behind it.
 // Its letters are of C's escapes. Those of Rust's, which literal's `form_of` writes, are others.
 #[tactic(auto, unfolding(crate::specs::Unescape::letter, base::specs::Choose::choose))]
-fn letter(c: u8, next: usize) -> Unescaped
+fn letter(c: u8, next: usize) -> Option<(u8, usize)>
     ensures { result ≡ letter c next }
 {
     let byte = match c {
         b'a' => 0x07,
         b'b' => 0x08,
         b'f' => 0x0C,
-        b'n' => 0x0A,
-        b'r' => 0x0D,
-        b't' => 0x09,
+        b'n' => b'\n',
+        b'r' => b'\r',
+        b't' => b'\t',
         b'v' => 0x0B,
         b'\\' | b'?' | b'\'' | b'"' => c,
-        _ => return Unescaped::Fault,
+        _ => return None,
     };
-    Unescaped::Byte(byte, next)
+    Some((byte, next))
 }
 
 /// Is it an octal digit?
@@ -65,9 +57,9 @@ fn octal_value(c: u8) -> u32
     u32::from(c.saturating_sub(b'0'))
 }
 
-/// One to three octal digits.
+/// One to three octal digits, by places, as the step's definition is.
 #[tactic(auto, unfolding(crate::specs::Unescape::octal_at, base::specs::Choose::choose))]
-fn octal_at(s: &[u8], p: usize) -> Unescaped
+fn octal_at(s: &[u8], p: usize) -> Option<(u8, usize)>
     requires { p ≤ length s.now }
     ensures { result ≡ octal_at s.now p }
 {
@@ -104,9 +96,9 @@ fn hex_value(c: u8) -> u8
     }
 }
 
-/// Two hexadecimal digits.
+/// Two hexadecimal digits, by places, as the step's definition is.
 #[tactic(auto, unfolding(crate::specs::Unescape::hex_at, base::specs::Choose::choose))]
-fn hex_at(s: &[u8], p: usize) -> Unescaped
+fn hex_at(s: &[u8], p: usize) -> Option<(u8, usize)>
     requires { p ≤ length s.now + 1 }
     ensures { result ≡ hex_at s.now p }
 {
@@ -118,13 +110,13 @@ fn hex_at(s: &[u8], p: usize) -> Unescaped
             p + 2,
         )
     } else {
-        Unescaped::Fault
+        None
     }
 }
 
-/// An escape whose `\` stands before `p`.
+/// An escape whose `\` stands before `p`; by places, as the step's definition is.
 #[tactic(auto, unfolding(crate::specs::Unescape::escape_at, base::specs::Choose::choose))]
-fn escape_at(s: &[u8], p: usize) -> Unescaped
+fn escape_at(s: &[u8], p: usize) -> Option<(u8, usize)>
     requires { p ≤ length s.now }
     ensures { result ≡ escape_at s.now p }
 {
@@ -138,31 +130,25 @@ fn escape_at(s: &[u8], p: usize) -> Unescaped
     }
 }
 
-/// The byte that stands at `p`, as it is or as an escape.
+/// The byte that stands at `p`, as it is or as an escape, with the place behind it; by places, as the step's definition is.
 #[tactic(auto, unfolding(crate::specs::Unescape::unescape_at, base::specs::Choose::choose))]
-pub fn unescape_at(s: &[u8], p: usize) -> Unescaped
+pub fn unescape_at(s: &[u8], p: usize) -> Option<(u8, usize)>
     ensures { result ≡ unescape_at s.now p }
 {
     if p >= s.len() {
-        return Unescaped::Fault;
+        return None;
     }
     match s[p] {
         b'\\' => escape_at(s, p + 1),
-        c => Unescaped::Byte(c, p + 1),
+        c => Some((c, p + 1)),
     }
 }
 
 /// Whether `s` unescapes, else refusal 9.
-#[tactic(auto, using(crate::proofs::ResultLaws::all_ok))]
 pub fn unescapes(s: &[u8]) -> bool
     ensures { result ≡ unescapes s.now }
 {
-    for byte in Unescape::new(s) {
-        if byte.is_err() {
-            return false;
-        }
-    }
-    true
+    Unescape::new(s).all(|byte| byte.is_ok())
 }
 
 /// The bytes of `s`, as a byte string literal has them that stands in a literal; where `s` doesn't unescape, those before
@@ -170,8 +156,8 @@ pub fn unescapes(s: &[u8]) -> bool
 pub fn escape_unescaped(text: &mut Text, s: &[u8])
     ensures { text.new ≡ text.old ▻ escape_bytes (unescaped s.now) }
 {
-    for byte in Unescape::new(s) {
-        let Ok(byte) = byte else {
+    for unescaped in Unescape::new(s) {
+        let Ok(byte) = unescaped else {
             return;
         };
         literal::escape_byte(text, byte);

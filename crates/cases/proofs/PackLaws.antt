@@ -1,13 +1,10 @@
 -- The cases of a pack are its records, one after the other.
 use Rattle.std.proofs.Common.{◌≡◌, refl, ap, ◌∙◌, ℕ, zero, suc, ◌+◌, ◌-◌, ◌≤◌, List, [], ◌∷◌, length, map, Result, Err, arith}
 use Rattle.std.proofs.lemmas.List.{length-map}
-use Rattle.wire.specs.Step.{step_at}
+use Rattle.wire.specs.Step.{Record, Step, End, Fault, Found, step_at}
 use Rattle.wire.specs.Records.{on_step, scan, records}
 use Rattle.wire.specs.Contents.{field_of}
 use Rattle.wire.specs.Message.{records_at}
-use Rattle.wire.specs.declared.Record.{Record}
-use Rattle.wire.specs.declared.Step.{Step}
-use Rattle.wire.specs.declared.Step.TheVariants.{End, Fault, Found}
 use Rattle.wire.proofs.MessageLaws.{records_bound}
 use Rattle.wire.proofs.SameRecords.{listed, same_records}
 use Rattle.cases.specs.Seen.{SeenCase, case_in, case_of}

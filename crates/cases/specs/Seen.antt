@@ -3,8 +3,7 @@ use Rattle.std.specs.Prelude.{ℕ, List, Result, Ok, Err}
 use Rattle.wire.specs.Contents.{value_of}
 use Rattle.wire.specs.Message.{Entry}
 use Rattle.wire.specs.declared.records.record.Fault.{Fault as FaultAt}
-use Rattle.wire.specs.declared.Step.{Step}
-use Rattle.wire.specs.declared.Step.TheVariants.{End, Fault, Found}
+use Rattle.wire.specs.Step.{Step, End, Fault, Found}
 use Rattle.descriptor.specs.Decode.{bytes_in}
 
 -- a field's number, and its bytes; a value of another wire type has none

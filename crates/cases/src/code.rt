@@ -10,5 +10,6 @@ pub fn code_of(number: u32, place: usize) -> Option<u64>
     if number > 15 || place > 65535 {
         return None;
     }
+    // a cast: a `u64` has no `From` of a `usize`
     Some(place as u64 * 16 + u64::from(number) + 1)
 }

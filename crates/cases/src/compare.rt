@@ -1,8 +1,10 @@
 //! The comparison of answers with those recorded.
-ghost use Rattle.std.specs.Prelude.{◌≡◌, IfOk, Option, None, Some};
+ghost use Rattle.std.specs.Prelude.{◌≡◌, ◌-◌, ◌^◌, IfOk, Option, None, Some, length, min};
 ghost use Rattle.std.specs.Iterator.{Drains, IsFinite};
 ghost use Rattle.cases.specs.Compared.{Compared};
+ghost use Rattle.cases.specs.Pack.{cases_in};
 
+use crate::pack::{Case, Pack};
 use crate::tally::Tally;
 use std::fmt::Display;
 use std::io;
@@ -34,4 +36,19 @@ pub fn compare_all<
         }
     }
     Ok(tally)
+}
+
+/// Compares the cases of a pack, and prints the index of each that `holds` doesn't hold of, or that can't be read.
+pub fn compare_pack<W: Write, F: Fn(Case<'_>) -> bool + Drop>(
+    out: &mut W,
+    pack: &[u8],
+    holds: F,
+) -> io::Result<Tally>
+    requires callable { F.IsAlwaysCallable holds }
+    ensures { IfOk result (λ t. t.compared ≡ min (length (cases_in pack.now)) (2 ^ 64 - 1)) }
+{
+    let cases = Pack::new(pack).enumerate();
+    compare_all(out, cases, |(index, case)| {
+        (!matches!(case, Ok(case) if holds(case))).then_some(index)
+    })
 }

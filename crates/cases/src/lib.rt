@@ -7,7 +7,7 @@ pub mod pack;
 pub mod tally;
 
 pub use code::code_of;
-pub use compare::compare_all;
+pub use compare::{compare_all, compare_pack};
 pub use pack::{Case, Pack};
 pub use tally::Tally;
 pub use wire::records::Fault;

@@ -3,9 +3,7 @@ use Rattle.std.specs.Prelude.{ℕ, suc, Bool, true, false, not, ◌||◌, List, 
 use Rattle.std.proofs.Math.Option.{Option, some, none}
 use Rattle.base.specs.Bytes.{b}
 use Rattle.base.specs.Lists.{is_empty}
-use Rattle.syntax.specs.Syntax.{syntax_of}
-use Rattle.syntax.specs.declared.Syntax.{Syntax}
-use Rattle.syntax.specs.declared.Syntax.TheVariants.{Proto2, Proto3, Unknown}
+use Rattle.syntax.specs.Syntax.{Syntax, Proto2, Proto3, Unknown, syntax_of}
 use Rattle.descriptor.specs.Descriptor.{Bytes, Forest, done, node, FieldDescriptor, MessageDescriptor, FileDescriptor}
 use Rattle.options.specs.Settings.{Setting}
 use Rattle.extern_paths.specs.ExternPaths.{taken}

@@ -11,6 +11,7 @@ pub enum MapType {
     BTreeMap,
 }
 
+// Each type has its own two words, as in collections.rs: a trait over both types would add a declaration and leave both matches.
 impl MapType {
     /// The word for the map type in a field's tag.
     pub fn annotation(self) -> &'static [u8]

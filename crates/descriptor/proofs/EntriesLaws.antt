@@ -10,8 +10,7 @@ use Rattle.wire.specs.Contents.{field_of, fields_of, also, contents}
 use Rattle.wire.specs.Message.{records_at, fields_in}
 use Rattle.wire.proofs.EncodingTheorems.{complete}
 use Rattle.wire.proofs.SameRecords.{listed, same_records}
-use Rattle.wire.specs.declared.Step.{Step}
-use Rattle.wire.specs.declared.Step.TheVariants.{End, Fault, Found}
+use Rattle.wire.specs.Step.{Step, End, Fault, Found}
 use Rattle.descriptor.specs.Decode.{entries, entries_of}
 
 by_rest : (f : Field) (o : Option (List Field)) (es fs : List Field) → ((gs : List Field) → o ≡ some gs → es ≡ gs) → also f o ≡ some fs → f ∷ es ≡ fs

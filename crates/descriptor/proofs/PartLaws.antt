@@ -13,7 +13,7 @@ use Rattle.base.specs.Choose.{choose, choose_case}
 use Rattle.wire.specs.Records.{part}
 use Rattle.wire.specs.Encoding.{Value}
 use Rattle.wire.specs.Contents.{payload_of, value_of}
-use Rattle.wire.specs.declared.Record.{Record}
+use Rattle.wire.specs.Step.{Record}
 use Rattle.descriptor.specs.Decode.{bytes_in}
 
 -- a part of a part

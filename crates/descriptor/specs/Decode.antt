@@ -7,8 +7,7 @@ use Rattle.base.specs.Choose.{choose}
 use Rattle.wire.specs.Encoding.{Field, Value, varint_value, i64_value, len_value, i32_value}
 use Rattle.wire.specs.Contents.{field_of}
 use Rattle.wire.specs.Records.{records}
-use Rattle.wire.specs.declared.Step.{Step}
-use Rattle.wire.specs.declared.Step.TheVariants.{End, Fault, Found}
+use Rattle.wire.specs.Step.{Step, End, Fault, Found}
 use Rattle.descriptor.specs.Descriptor.{Forest, done, node, Bytes, FieldOptions, FieldDescriptor, ValueDescriptor, EnumDescriptor, MessageDescriptor, FileDescriptor}
 
 -- the fields of a message, before its first fault

@@ -1,6 +1,5 @@
 //! The descriptor of a field.
 ghost use Rattle.std.specs.Prelude.{◌≡◌};
-ghost use Rattle.field_types.specs.Types.{sort_of};
 ghost use Rattle.descriptor.specs.Accessors.{text, number, label, type, is_repeated, is_message, is_group, is_enum};
 ghost use Rattle.descriptor.specs.Decode.{decode_field};
 ghost use Rattle.descriptor.specs.Steps.{options_step, field_step};
@@ -144,6 +143,7 @@ impl<'a> FieldDescriptor<'a> {
     pub fn new(part: &'a [u8]) -> Self
         ensures { result ≡ decode_field part.now }
     {
+        // the generic function is `described`; each type says by its own `new` what its bytes decode to
         described(part)
     }
 
@@ -182,22 +182,13 @@ impl<'a> FieldDescriptor<'a> {
         self.kind.unwrap_or(TYPE_DOUBLE)
     }
 
-    /// The letter of the type's sort, and 0 where that is no type.
-    pub fn sort(&self) -> u8
-        ensures { result ≡ sort_of (type self.now) }
-    {
-        match field_types::sort_of(self.kind()) {
-            Some(sort) => sort.into(),
-            None => 0,
-        }
-    }
-
     pub fn is_repeated(&self) -> bool
         ensures { result ≡ is_repeated self.now }
     {
         self.label() == LABEL_REPEATED
     }
 
+    // One for each type that is asked for by name: with the type as a parameter each call would name it.
     pub fn is_message(&self) -> bool
         ensures { result ≡ is_message self.now }
     {

@@ -32,6 +32,7 @@ fn varint_in(value: Value<'_>) -> u64
 pub fn number_in(value: Value<'_>) -> u32
     ensures { result ≡ number_in (value_seen value.entry) % 2 ^ 32 }
 {
+    // a cast: below 2^32, and a `u32` has no `From` of a `u64`
     (varint_in(value) % (1 << 32)) as u32
 }
 

@@ -3,7 +3,6 @@
 //! differs is printed.
 #![tactic(auto)]
 
-use c_escaping::Unescaped;
 use std::alloc::Global;
 use std::{fs, io};
 use writer::Text;
@@ -12,7 +11,7 @@ use writer::Text;
 fn stands_for(default: &[u8], bytes: &[u8]) -> bool {
     let mut at = 0;
     for byte in bytes {
-        let Unescaped::Byte(found, next) = c_escaping::unescape_at(default, at) else {
+        let Some((found, next)) = c_escaping::unescape_at(default, at) else {
             return false;
         };
         if found != *byte {

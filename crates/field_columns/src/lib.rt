@@ -12,13 +12,13 @@ use message_graph::{Index, MESSAGES};
 // The most rows that a table has.
 const MOST_ROWS: usize = 65535;
 
-// The number of the message that a row with this `up` stands in; 0 for a number that no message can have.
+// The number of the message that a row with this `up` (see index's `Row`) stands in; 0 for a number that no message can have.
 fn owner_of(up: u16) -> Index
     ensures { result ≡ owner_of up }
 {
     let i = usize::from(up).saturating_sub(1);
     if i < MESSAGES {
-        // No From: an Index holds each number below MESSAGES.
+        // a cast: an `Index` holds each number below `MESSAGES`, by which the definition cuts it
         return i as Index;
     }
     0

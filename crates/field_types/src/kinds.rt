@@ -132,6 +132,7 @@ impl Type {
     }
 
     /// The word of this type in a field's tag. An enum's tag has none: it names the enum.
+    // This and `rust_word` are two tables, as their definitions are.
     #[tactic(auto, unfolding(crate::specs::Types::tag_word))]
     pub fn tag_word(self) -> &'static [u8]
         ensures { result.now ≡ tag_word (number self) }

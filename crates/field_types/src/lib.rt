@@ -34,6 +34,7 @@ pub fn can_pack(k: u32) -> bool
 }
 
 /// The word of the tag of the type `k`, and nothing where that is no type.
+// A table of its own, like those around it: what they share is the match on a type or none.
 #[tactic(auto, unfolding(crate::specs::Types::tag_word))]
 pub fn tag_word(k: u32) -> &'static [u8]
     ensures { result.now ≡ tag_word k }

@@ -8,3 +8,4 @@ pub mod Stripped
 pub mod Sizes
 pub mod Written
 pub mod Table
+pub mod ConvertLaws

@@ -16,7 +16,10 @@ pub enum Addition {
     Leading,
 }
 
-/// The listed words. The first 47 gain `r#`, and the others a trailing `_`.
+/// How many of the listed words gain `r#`: the first ones.
+const RAW_WORDS: usize = 47;
+
+/// The listed words. The others gain a trailing `_`.
 static WORDS: [&[u8]; 53] = [
     b"as",
     b"break",
@@ -74,7 +77,9 @@ static WORDS: [&[u8]; 53] = [
 ];
 
 /// A name's first byte, middle byte and length leave one listed word that it can be: that word's number, and 53 or more
-/// for none. One comparison in place of 53, in what the text call does for each name.
+/// for none.
+// Bytes looked up by hand: one comparison in place of 53 for each name that the text call writes (docs/PERFORMANCE.md,
+// "listed words by number").
 static NUMBERS: [u8; 111] =
     *b"\x35\x0c\x37\x2d\x39\x3a\x2b\x3c\x1a\x36\x24\x38\x14\x04\x3b\x3c\x35\x36\x37\x15\x32\x3a\x33\x0b\x35\x27\x1b\x16\x39\x05\x3b\x3c\x18\x11\x03\x0e\x2c\x2e\x3b\x3c\x35\x1e\x21\x38\x39\x3a\x10\x3c\x35\x0a\x37\x38\x39\x3a\x00\x3c\x31\x20\x37\x02\x39\x3a\x3b\x3c\x25\x1c\x34\x22\x39\x29\x09\x3c\x35\x36\x37\x38\x1f\x28\x12\x3c\x35\x2f\x37\x01\x39\x3a\x0d\x3c\x06\x07\x37\x13\x39\x30\x3b\x2a\x0f\x1d\x26\x17\x39\x3a\x08\x19\x23\x36\x37\x38\x39\x3a\x3b";
 
@@ -121,7 +126,7 @@ impl Addition {
         ensures { result ≡ addition name.now }
     {
         match word_number(name) {
-            Some(number) if number < 47 => Addition::Raw,
+            Some(number) if number < RAW_WORDS => Addition::Raw,
             Some(_) => Addition::Trailing,
             None if matches!(name, [byte, ..] if byte.is_ascii_digit()) => Addition::Leading,
             None => Addition::Nothing,

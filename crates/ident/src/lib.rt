@@ -2,19 +2,26 @@
 #![tactic(auto)]
 
 ghost use Rattle.std.specs.Prelude.{◌≡◌};
-ghost use Rattle.ident.specs.Convert.{convertible, spellings, convert};
+ghost use Rattle.ident.specs.Convert.{convertible, spellings, answered, convert};
 
 mod keywords;
 pub mod names;
 mod prefix;
 pub mod text;
 
+/// The most bytes of a name that the convert call takes.
+pub const MAX_NAME: usize = 64;
+
+/// The most bytes of the snake name of such a name.
+pub const MAX_SNAKE: usize = 106;
+
 /// The two names of a name, zeros behind them, and their lengths.
+// Bytes with a length, twice: the convert call of the C interface gives them so.
 #[derive(Drop)]
 pub struct Spellings {
-    pub snake: [u8; 106],
+    pub snake: [u8; MAX_SNAKE],
     pub snakelen: usize,
-    pub camel: [u8; 64],
+    pub camel: [u8; MAX_NAME],
     pub camellen: usize,
 }
 
@@ -27,7 +34,7 @@ pub struct NotConvertible;
 fn convertible(name: &[u8]) -> bool
     ensures { result ≡ convertible name.now }
 {
-    names::is_name(name) && name.len() <= 64 && names::has_word(name)
+    names::is_name(name) && name.len() <= MAX_NAME && names::has_word(name)
 }
 
 /// Both names of one name.
@@ -38,9 +45,9 @@ pub fn convert_name(name: &[u8]) -> Result<Spellings, NotConvertible>
     if !convertible(name) {
         return Err(NotConvertible);
     }
-    let mut snake = [0u8; 106];
+    let mut snake = [0u8; MAX_SNAKE];
     let snakelen = text::fill_snake(&mut snake, name);
-    let mut camel = [0u8; 64];
+    let mut camel = [0u8; MAX_NAME];
     let camellen = text::fill_upper_camel(&mut camel, name);
     Ok(Spellings {
         snake,
@@ -56,37 +63,47 @@ pub fn convert_name(name: &[u8]) -> Result<Spellings, NotConvertible>
 pub struct Converted {
     pub number: u8,
     pub place: usize,
-    pub snake: [u8; 106],
+    pub snake: [u8; MAX_SNAKE],
     pub snakelen: usize,
-    pub camel: [u8; 64],
+    pub camel: [u8; MAX_NAME],
     pub camellen: usize,
 }
 
+/// Refusal 6 at place 0 where the name is not converted.
+impl From<Result<Spellings, NotConvertible>> for Converted {
+    ghost from_gives = { λ answer r. r ≡ answered answer };
+
+    #[tactic(auto, unfolding(crate::specs::Convert::answered, crate::specs::Convert::refused, crate::specs::Convert::padded))]
+    fn from(answer: Result<Spellings, NotConvertible>) -> Converted {
+        match answer {
+            Ok(spelt) => {
+                let snake = spelt.snake;
+                let camel = spelt.camel;
+                Converted {
+                    number: 0,
+                    place: 0,
+                    snake,
+                    snakelen: spelt.snakelen,
+                    camel,
+                    camellen: spelt.camellen,
+                }
+            }
+            Err(NotConvertible) => Converted {
+                number: 6,
+                place: 0,
+                snake: [0; MAX_SNAKE],
+                snakelen: 0,
+                camel: [0; MAX_NAME],
+                camellen: 0,
+            },
+        }
+    }
+}
+
 /// The same as the convert call's numbers: refusal 6 at place 0.
-#[tactic(auto, unfolding(crate::specs::Convert::spellings, crate::specs::Convert::convert, crate::specs::Convert::converted, crate::specs::Convert::refused, crate::specs::Convert::spelt, crate::specs::Convert::padded, base::specs::Choose::choose))]
+#[tactic(auto, using(crate::proofs::ConvertLaws::answered_convert))]
 pub fn convert(name: &[u8]) -> Converted
     ensures { result ≡ convert name.now }
 {
-    match convert_name(name) {
-        Ok(spelt) => {
-            let snake = spelt.snake;
-            let camel = spelt.camel;
-            Converted {
-                number: 0,
-                place: 0,
-                snake,
-                snakelen: spelt.snakelen,
-                camel,
-                camellen: spelt.camellen,
-            }
-        }
-        Err(NotConvertible) => Converted {
-            number: 6,
-            place: 0,
-            snake: [0; 106],
-            snakelen: 0,
-            camel: [0; 64],
-            camellen: 0,
-        },
-    }
+    Converted::from(convert_name(name))
 }

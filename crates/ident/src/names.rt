@@ -32,10 +32,7 @@ fn are_name_parts(bytes: &[u8]) -> bool
 pub fn is_name(s: &[u8]) -> bool
     ensures { result ≡ is_name s.now }
 {
-    match s.split_first() {
-        Some((&first, rest)) => is_name_start(first) && are_name_parts(rest),
-        None => false,
-    }
+    s.split_first().is_some_and(|(&first, rest)| is_name_start(first) && are_name_parts(rest))
 }
 
 fn any_alphanumeric(bytes: &[u8]) -> bool

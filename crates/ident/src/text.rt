@@ -5,7 +5,7 @@ ghost use Rattle.writer.specs.Writing.{◌▻◌};
 ghost use Rattle.ident.specs.Ident.{addition, is_trailing, sanitize_identifier, to_snake, to_upper_camel, strip_enum_prefix};
 
 use crate::keywords::{Addition, begins_kept};
-use crate::prefix;
+use crate::{MAX_SNAKE, prefix};
 use heck::Cased;
 use writer::Text;
 
@@ -42,14 +42,14 @@ fn put_long_name(text: &mut Text<'_>, name: Cased<'_>)
     added.put_behind(text);
 }
 
-/// The same, spelt once where it has at most 106 bytes, as a name of 64 bytes has.
+/// The same, spelt once where it has at most `MAX_SNAKE` bytes.
 #[tactic(auto, using(crate::proofs::AdditionLaws::whole_name))]
 fn put_name(text: &mut Text<'_>, name: Cased<'_>)
     ensures { text.new ≡ text.old ▻ sanitize_identifier name.entry }
 {
-    let mut spelt = [0u8; 106];
+    let mut spelt = [0u8; MAX_SNAKE];
     let length = name.again().fill(&mut spelt);
-    if length <= 106 {
+    if length <= MAX_SNAKE {
         put_sanitized(text, &spelt[..length]);
     } else {
         put_long_name(text, name);
@@ -57,6 +57,7 @@ fn put_name(text: &mut Text<'_>, name: Cased<'_>)
 }
 
 /// The snake name of a field or module.
+// A function for each case, as heck has them: a case as a parameter would stand at each call.
 #[tactic(auto, unfolding(crate::specs::Ident::to_snake))]
 pub fn put_snake(text: &mut Text<'_>, name: &[u8])
     ensures { text.new ≡ text.old ▻ to_snake name.now }
@@ -86,10 +87,9 @@ fn is_kept(name: &Cased<'_>) -> bool
     ensures { result ≡ is_trailing (addition name.now) }
 {
     // Few names begin as one that does.
-    match name.again().next() {
-        Some(first) => begins_kept(first) && addition_to(name.again()) == Addition::Trailing,
-        None => false,
-    }
+    let first = name.again().next();
+    matches!(first, Some(byte) if begins_kept(byte)
+        && addition_to(name.again()) == Addition::Trailing)
 }
 
 /// The camel name of an enum's value, without the enum's own written name in front.
@@ -107,6 +107,7 @@ pub fn put_variant(text: &mut Text<'_>, prefix: &[u8], name: &[u8])
 }
 
 /// The snake name, as far as the buffer goes, and its length.
+// A text is begun, written and measured: over a closure that is no shorter.
 pub fn fill_snake(buffer: &mut [u8], name: &[u8]) -> usize
     ensures { Filled buffer.old (to_snake name.now) buffer.new result }
 {

@@ -31,6 +31,7 @@ fn fill_stripped(buffer: &mut [u8], prefix: &[u8], name: &[u8]) -> usize {
 
 /// Does the convert call give these two names, where it takes the name?
 fn is_converted(name: &[u8], snake: &[u8], camel: &[u8]) -> bool {
+    // the call itself, whose answer has a number and lengths, as the C interface
     let converted = ident::convert(name);
     converted.number != 0
         || converted.snake.get(..converted.snakelen) == Some(snake)

@@ -11,9 +11,7 @@ use Rattle.base.specs.Choose.{choose, choose_case}
 use Rattle.wire.specs.Records.{records, pass, over, part}
 use Rattle.wire.specs.Contents.{field_of, value_of, payload_of}
 use Rattle.wire.proofs.RecordsLaws.{In, AllIn, records_in}
-use Rattle.wire.specs.declared.Record.{Record}
-use Rattle.wire.specs.declared.Step.{Step}
-use Rattle.wire.specs.declared.Step.TheVariants.{End, Fault, Found}
+use Rattle.wire.specs.Step.{Record, Step, End, Fault, Found}
 use Rattle.descriptor.specs.Descriptor.{Bytes, Forest, done, node, MessageDescriptor, preorder}
 use Rattle.descriptor.specs.Decode.{entries, entries_of, bytes_in, parts, decode_message, decode_messages}
 use Rattle.base.specs.Lists.{all_of}

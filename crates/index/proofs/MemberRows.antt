@@ -9,8 +9,7 @@ use borrow.Author.Tests.{le-ltb}
 use Rattle.base.specs.Choose.{choose, choose_case}
 use Rattle.base.specs.Lists.{all_of, map_length}
 use Rattle.wire.specs.Records.{records, pass, over}
-use Rattle.wire.specs.declared.Step.{Step}
-use Rattle.wire.specs.declared.Step.TheVariants.{End, Fault, Found}
+use Rattle.wire.specs.Step.{Step, End, Fault, Found}
 use Rattle.descriptor.specs.Descriptor.{Bytes, Forest, done, node, preorder}
 use Rattle.descriptor.specs.Decode.{entries, parts}
 use Rattle.index.specs.Tree.{Place, forest_record, forest_in, size, rows, row_at, row_bytes, member_forest, members}

@@ -9,14 +9,11 @@ use lib.Dec.{eqb}
 use borrow.Author.Tests.{eqb-true}
 use Rattle.base.specs.Choose.{choose, choose_case}
 use Rattle.base.specs.Lists.{all_of}
-use Rattle.wire.specs.Step.{step_at}
+use Rattle.wire.specs.Step.{Record, Step, End, Fault, Found, step_at}
 use Rattle.wire.specs.Records.{on_step, scan, records, part}
 use Rattle.wire.specs.Encoding.{Field}
 use Rattle.wire.specs.Contents.{field_of, value_of}
 use Rattle.wire.proofs.StepLaws.{Lies, lies}
-use Rattle.wire.specs.declared.Record.{Record}
-use Rattle.wire.specs.declared.Step.{Step}
-use Rattle.wire.specs.declared.Step.TheVariants.{End, Fault, Found}
 use Rattle.descriptor.specs.Descriptor.{Bytes, preorder}
 use Rattle.descriptor.specs.Decode.{entries, entries_of, bytes_in, parts}
 use Rattle.index.specs.Places.{end_in, inside}

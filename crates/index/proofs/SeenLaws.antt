@@ -12,9 +12,7 @@ use Rattle.wire.specs.Contents.{field_of, value_of}
 use Rattle.wire.specs.Message.{Entry, records_at}
 use Rattle.wire.proofs.RecordsLaws.{In, AllIn, records_in}
 use Rattle.wire.proofs.SameRecords.{listed, same_records}
-use Rattle.wire.specs.declared.Record.{Record}
-use Rattle.wire.specs.declared.Step.{Step}
-use Rattle.wire.specs.declared.Step.TheVariants.{End, Fault, Found}
+use Rattle.wire.specs.Step.{Record, Step, End, Fault, Found}
 use Rattle.wire.specs.declared.records.record.Fault.{Fault as FaultAt}
 use Rattle.descriptor.specs.Descriptor.{Bytes, Forest, done, node}
 use Rattle.descriptor.specs.Decode.{bytes_in}

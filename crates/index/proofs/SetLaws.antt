@@ -10,8 +10,7 @@ use lib.Dec.{eqb, ltb}
 use Rattle.base.specs.Choose.{choose, choose_case}
 use Rattle.base.specs.Lists.{all_of, map_length}
 use Rattle.wire.specs.Records.{records, pass, over}
-use Rattle.wire.specs.declared.Step.{Step}
-use Rattle.wire.specs.declared.Step.TheVariants.{End, Fault, Found}
+use Rattle.wire.specs.Step.{Step, End, Fault, Found}
 use Rattle.descriptor.specs.Descriptor.{Bytes, Forest, preorder, FieldDescriptor, EnumDescriptor, MessageDescriptor, FileDescriptor}
 use Rattle.descriptor.specs.Decode.{entries, parts, decode_field, decode_enum, decode_oneof, decode_message, decode_file, decode_set}
 use Rattle.descriptor.specs.Limits.{messages_in, enums_in}

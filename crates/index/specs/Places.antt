@@ -2,7 +2,7 @@
 use Rattle.std.specs.Prelude.{ℕ, ◌-◌, List, eqb}
 use Rattle.base.specs.Choose.{choose}
 use Rattle.wire.specs.Records.{part}
-use Rattle.wire.specs.declared.Record.{Record}
+use Rattle.wire.specs.Step.{Record}
 
 -- where the bytes of an embedded message end: one of another wire type has none
 unfoldable pub end_in : Record → ℕ

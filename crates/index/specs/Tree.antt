@@ -2,7 +2,7 @@
 use Rattle.std.specs.Prelude.{ℕ, zero, suc, ◌+◌, ◌-◌, ◌≡◌, List, [], ◌∷◌, ◌++◌, length, get_or, set, eqb, ltb}
 use Rattle.base.specs.Choose.{choose}
 use Rattle.wire.specs.Records.{over, part}
-use Rattle.wire.specs.declared.Record.{Record}
+use Rattle.wire.specs.Step.{Record}
 use Rattle.descriptor.specs.Descriptor.{Forest, done, node}
 use Rattle.index.specs.Places.{end_in, inside}
 use Rattle.index.specs.declared.Row.{Row}

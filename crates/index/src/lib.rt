@@ -4,8 +4,8 @@
 ghost use Rattle.std.specs.Prelude.{◌≡◌, ◌+◌, ◌<◌, ◌≤◌, length};
 ghost use Rattle.index.specs.Tree.{forest_in, put, Indexed, file_forests, IndexedFiles, row_at, row_bytes, Holds, all_members};
 
+use descriptor::bytes_in;
 use descriptor::field_number::{MESSAGE_NESTED_TYPE, SET_FILE};
-use parts::value_bytes;
 use wire::records::Records;
 
 /// A declaration of a set.
@@ -18,6 +18,7 @@ pub struct Row {
     /// The index of its file.
     pub file: u16,
     /// What it stands in: 0, or one more than the row of the message around it.
+    // No `Option`: `rows` is defined by this number, and a message's fields are found by comparing it with the message's.
     pub up: u16,
     /// The row behind those nested in it.
     pub after: u16,
@@ -57,7 +58,8 @@ fn put_row(rows: &mut [Row], i: usize, row: Row)
 }
 
 // The rows of the embedded messages with this field number of a part that starts at `base` of the set, and of those nested
-// in them, from row `i` on.
+// in them, from row `i` on. `file` and `up` are as in `Row`.
+// A table and its next row go in and out, as the definition `Indexed` has them: a struct of both would be lent to each level.
 fn index_in(
     part: &[u8],
     base: usize,
@@ -80,7 +82,7 @@ fn index_in(
         if let Ok(record) = record
             && record.number == number
         {
-            let bytes = value_bytes(record.value);
+            let bytes = bytes_in(record.value);
             let end = record.start + bytes.len();
             let inner = next + 1;
             let after = index_in(
@@ -114,7 +116,7 @@ pub fn index_files(set: &[u8], number: u64, left: usize, rows: &mut [Row]) -> us
         if let Ok(record) = record
             && record.number == SET_FILE
         {
-            let bytes = value_bytes(record.value);
+            let bytes = bytes_in(record.value);
             next = index_in(bytes, record.start, number, left, file, 0, rows, next);
             file += 1;
         }
@@ -123,6 +125,7 @@ pub fn index_files(set: &[u8], number: u64, left: usize, rows: &mut [Row]) -> us
 }
 
 /// Row `i` of a table.
+// One chain of std's functions, as for each table: a function over all would take the row past the end too, and say no less.
 pub fn row_of(rows: &[Row], i: usize) -> Row
     ensures { result ≡ row_at rows.now i }
 {

@@ -8,6 +8,16 @@ ghost use Rattle.known_fields.specs.Check.{levels_for, inner, admits, meet, chec
 
 use wire::records::{Fault, Records, Value};
 
+/// The numbers of known fields are below this.
+const NUMBERS: usize = 18;
+
+/// How many levels of messages of a set are read.
+const LEVELS: usize = 21;
+
+/// A message of the set is read where so many levels are left: its own, and those of its enums, their values and the
+/// values' options.
+const MESSAGE_LEVELS: usize = 4;
+
 /// A message of descriptor.proto that is read.
 #[derive(Clone, Copy)]
 enum Message {
@@ -44,6 +54,7 @@ impl Message {
     fn class(self, number: u64) -> Class
         ensures { result ≡ class self number }
     {
+        // document 01's table of known fields, by its numbers
         match (self, number) {
             (Message::FileDescriptorSet, 1) => Class::Repeated(Message::FileDescriptorProto),
             (Message::FileDescriptorProto, 2 | 12) => Class::Bytes,
@@ -77,7 +88,7 @@ impl Message {
         ensures { result ≡ levels_for self }
     {
         match self {
-            Message::DescriptorProto => 4,
+            Message::DescriptorProto => MESSAGE_LEVELS,
             _ => 1,
         }
     }
@@ -112,10 +123,10 @@ impl Class {
     }
 }
 
-/// The field numbers that were met, of those below 18.
+/// The field numbers that were met, of those below `NUMBERS`.
 #[derive(Clone, Copy)]
 struct Met {
-    marks: [bool; 18],
+    marks: [bool; NUMBERS],
 }
 
 impl Met {
@@ -125,6 +136,7 @@ impl Met {
         ensures before { result ≡ get_or self.old.marks number false }
         ensures met { self.new ≡ meet number self.old }
     {
+        // a cast: a `usize` has no `From` of a `u64`
         let at = number as usize;
         if at >= self.marks.len() {
             return false;
@@ -145,7 +157,9 @@ fn check_message(part: &[u8], at: usize, message: Message, levels: usize) -> Res
         return Ok(());
     }
     let left = levels - 1;
-    let mut met = Met { marks: [false; 18] };
+    let mut met = Met {
+        marks: [false; NUMBERS],
+    };
     for record in Records::new(part, at) {
         let record = record?;
         let class = message.class(record.number);
@@ -167,5 +181,5 @@ fn check_message(part: &[u8], at: usize, message: Message, levels: usize) -> Res
 pub fn check_set(set: &[u8]) -> Result<(), Fault>
     ensures { result ≡ check_set set.now }
 {
-    check_message(set, 0, Message::FileDescriptorSet, 21)
+    check_message(set, 0, Message::FileDescriptorSet, LEVELS)
 }

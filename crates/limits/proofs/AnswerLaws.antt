@@ -4,6 +4,7 @@ use Rattle.std.specs.Prelude.{Bool, true, false, cond, List, [], ◌∷◌, eqb,
 use Rattle.std.specs.List.{find}
 use Rattle.base.specs.Choose.{choose, then_lt, else_lt}
 use Rattle.base.specs.declared.refusal.Refusal.{Refusal}
+use Rattle.base.specs.declared.refusal.Refusal.TheVariants as refusals
 use Rattle.base.proofs.RefusalLaws.{not_refused, chosen, other}
 use Rattle.wire.specs.declared.records.record.Fault.{Fault}
 use Rattle.descriptor.specs.Descriptor.{Bytes}
@@ -12,7 +13,9 @@ use Rattle.descriptor.specs.Limits.{max_set, max_files, limit_passed}
 use Rattle.known_fields.specs.Check.{check_set}
 use Rattle.limits.specs.declared.limit.Limit.{Limit}
 use Rattle.limits.specs.declared.limit.Limit.TheVariants as limits
-use Rattle.limits.specs.Answer.{readable, read_set}
+use Rattle.limits.specs.declared.limit.Passed.{Passed}
+use Rattle.limits.specs.declared.limit.Passed.TheVariants as passed
+use Rattle.limits.specs.Answer.{passed_number, number_or_none, readable, read_set}
 use Rattle.limits.specs.Weights.{passes, limit_number, all_limits}
 use Rattle.limits.proofs.LimitLaws.{limit_is}
 
@@ -59,14 +62,44 @@ module _ (s : Bytes) where
           (n_is ∙ ap number_or is
           ∙ sym (lowest (passes limits.Messages s) (passes limits.Fields s) (passes limits.Enums s) (passes limits.Values s) (passes limits.Nesting s) (passes limits.Names s) (passes limits.FullNames s) (passes limits.Defaults s)))))
 
-      pub passed_some : (n : ℕ) (limit : Limit) (r : Option Limit) → r ≡ find (λ limit. passes limit s) all_limits → r ≡ Some limit → n ≡ limit_number limit → n ≡ limit_passed s
-      passed_some n limit r is some n_is = found n r is (rw some n_is)
+      pub passed_some : (limit : Limit) → Some limit ≡ find (λ limit. passes limit s) all_limits → limit_number limit ≡ limit_passed s
+      passed_some limit is = found (limit_number limit) (Some limit) is refl
 
-      pub passed_none : (r : Option Limit) → r ≡ find (λ limit. passes limit s) all_limits → r ≡ None → 0 ≡ limit_passed s
-      passed_none r is none = found 0 r is (rw none)
+      pub passed_none : None ≡ find (λ limit. passes limit s) all_limits → 0 ≡ limit_passed s
+      passed_none is = found 0 None is refl
 
       pub none_passes : ((limit : Limit) → passes limit s ≡ false) → 0 ≡ limit_passed s
       none_passes none = found 0 None (sym (none_found (λ limit. passes limit s) none all_limits)) refl
+
+-- ---- a limit's number is not 0
+abbrev limited : ℕ → Result Unit Refusal
+limited n = Err (refusals.Limit n)
+
+abbrev judgement : ℕ → Result Unit Refusal
+judgement n = choose (eqb n 0) (Ok tt) (limited n)
+
+limit_answer : (p : Passed) → limited (passed_number p) ≡ judgement (passed_number p)
+unfolding choose limit_number
+limit_answer passed.Bytes = refl
+limit_answer passed.Files = refl
+limit_answer (passed.Declarations limits.Messages) = refl
+limit_answer (passed.Declarations limits.Fields) = refl
+limit_answer (passed.Declarations limits.Enums) = refl
+limit_answer (passed.Declarations limits.Values) = refl
+limit_answer (passed.Declarations limits.Nesting) = refl
+limit_answer (passed.Declarations limits.Names) = refl
+limit_answer (passed.Declarations limits.FullNames) = refl
+limit_answer (passed.Declarations limits.Defaults) = refl
+
+module _ (s : Bytes) where
+  pub refused : (p : Passed) → number_or_none (Some p) ≡ limit_passed s → limited (passed_number p) ≡ judgement (limit_passed s)
+  refused p is = rw (← is) (limit_answer p)
+
+  pub accepted : number_or_none None ≡ limit_passed s → Ok tt ≡ judgement (limit_passed s)
+  unfolding choose
+  accepted is = rw (← is) refl
+
+pub ruleset judged = (refused, accepted)
 
 pub ruleset answers = (passed_1, passed_2, passed_some, passed_none, none_passes)
 

@@ -12,13 +12,10 @@ use Rattle.base.specs.Lists.{all_of, map_length}
 use Rattle.wire.specs.Encoding.{Field}
 use Rattle.wire.specs.Contents.{field_of, value_of}
 use Rattle.wire.specs.Records.{on_step, scan, records, part}
-use Rattle.wire.specs.Step.{step_at, payload, sized, scalar, delimited}
+use Rattle.wire.specs.Step.{Record, Step, End, Fault, Found, step_at, payload, sized, scalar, delimited}
 use Rattle.wire.specs.Varint.{Varint, varint, on_varint}
 use Rattle.wire.proofs.StepLaws.{Lies, lies}
 use Rattle.wire.proofs.VarintLaws.{Known, known_varint}
-use Rattle.wire.specs.declared.Record.{Record}
-use Rattle.wire.specs.declared.Step.{Step}
-use Rattle.wire.specs.declared.Step.TheVariants.{End, Fault, Found}
 use Rattle.descriptor.specs.Descriptor.{Bytes, preorder, MessageDescriptor, FileDescriptor}
 use Rattle.descriptor.specs.Decode.{entries, entries_of, bytes_in, parts, decode_field, decode_enum, decode_message, decode_messages, decode_file, decode_set}
 use Rattle.descriptor.specs.Limits.{messages_in, fields_in, enums_in}

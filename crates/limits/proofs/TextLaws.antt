@@ -1,13 +1,14 @@
 -- The last string with a field number; the segments of a package. Assumes nothing.
 use mathlib.Core.Path.{◌≡◌, refl, ap, ◌∙◌}
 use mathlib.Core.Bool.{Bool, true, false}
-use mathlib.Core.List.{List, [], ◌∷◌}
-use mathlib.Core.Option.{Option, none, some}
+use mathlib.Core.List.{List, [], ◌∷◌, map}
+use mathlib.Core.Option.{Option as Possibly, none, some}
 use Prim.Native.Nat.{ℕ}
 use lib.ListN.{length}
 use lib.Dec.{ltb, eqb}
-use Rattle.std.specs.Prelude.{cond}
-use Rattle.std.specs.List.{list_any, slice_split, onto_first}
+use Rattle.std.specs.Prelude.{cond, Option, Some, None}
+use Rattle.std.specs.List.{list_any, slice_split, onto_first, last_or}
+use Rattle.std.specs.Option.{UnwrapsOrElse}
 use Rattle.base.specs.Choose.{choose}
 use Rattle.base.specs.Lists.{any}
 use Rattle.wire.specs.Encoding.{Field, Value}
@@ -20,12 +21,12 @@ unfoldable pub bytes_of_fields : ℕ → List Field → Bytes → Bytes
 bytes_of_fields n [] b = b
 bytes_of_fields n (f ∷ fs) b = bytes_of_fields n fs (choose (eqb f.number n) (bytes_in f.value) b)
 
-chosen : (t : Bool) (x : Value) (v : Option Value) → choose t (bytes_in x) (bytes_or_none (text v)) ≡ bytes_or_none (text (choose t (some x) v))
+chosen : (t : Bool) (x : Value) (v : Possibly Value) → choose t (bytes_in x) (bytes_or_none (text v)) ≡ bytes_or_none (text (choose t (some x) v))
 unfolding choose
 chosen true x v = refl
 chosen false x v = refl
 
-last_bytes : (n : ℕ) (fs : List Field) (v : Option Value) → bytes_of_fields n fs (bytes_or_none (text v)) ≡ bytes_or_none (text (last_from n fs v))
+last_bytes : (n : ℕ) (fs : List Field) (v : Possibly Value) → bytes_of_fields n fs (bytes_or_none (text v)) ≡ bytes_or_none (text (last_from n fs v))
 unfolding bytes_of_fields last_from
 last_bytes n [] v = refl
 last_bytes n (f ∷ fs) v =
@@ -48,6 +49,23 @@ last_part n (f ∷ fs) b =
 
 pub last_text : (n : ℕ) (s : Bytes) → last_of [] (parts n (entries s)) ≡ text_bytes n s
 last_text n s = last_part n (entries s) [] ∙ bytes_all n s
+
+-- the last of some strings that an iterator gives, by what they are seen as
+module _ {A : Type 0} (seen : A → Bytes) (Empty : A → Type 0) (empty : (x : A) → Empty x → seen x ≡ []) where
+  abbrev seen_or_none : Option A → Bytes
+  seen_or_none None = []
+  seen_or_none (Some x) = seen x
+
+  last_seen : (o : Option A) (xs : List A) → seen_or_none (last_or o xs) ≡ last_of (seen_or_none o) (map seen xs)
+  last_seen o [] = refl
+  last_seen o (x ∷ xs) = last_seen (Some x) xs
+
+  unwrapped : (o : Option A) (r : A) → UnwrapsOrElse o Empty r → seen r ≡ seen_or_none o
+  unwrapped None r is = empty r is
+  unwrapped (Some x) r is = ap seen is
+
+  pub last_is : (o : Option A) (xs : List A) (r : A) → o ≡ last_or None xs → UnwrapsOrElse o Empty r → seen r ≡ last_of [] (map seen xs)
+  last_is o xs r o_is is = unwrapped o r is ∙ ap seen_or_none o_is ∙ last_seen None xs
 
 -- ---- segments
 onto_is : (c : ℕ) (ss : List Bytes) → onto_first c ss ≡ on_first c ss

@@ -3,7 +3,7 @@
 
 ghost use Rattle.std.specs.Prelude.{◌≡◌, ◌+◌, ◌*◌, ◌≤◌, false, length, IsTrue, IfSome};
 ghost use Rattle.descriptor.specs.Limits.{limit_passed};
-ghost use Rattle.limits.specs.Answer.{read_set};
+ghost use Rattle.limits.specs.Answer.{number_or_none, read_set};
 ghost use Rattle.limits.specs.Fits.{Held};
 ghost use Rattle.limits.specs.Weights.{tally, passes, all_limits};
 ghost use Rattle.std.specs.List.{find};
@@ -11,12 +11,12 @@ ghost use Rattle.std.specs.List.{find};
 use base::refusal::Refusal;
 use descriptor::bytes_in;
 use descriptor::field_number::{NAME, SET_FILE};
-use limit::{LIMITS, Limit, MAX_FILES, MAX_SET};
+use limit::{LIMITS, Limit, MAX_FILES, MAX_SET, Passed};
 use sort::Sort;
 use totals::Totals;
 use wire::records::Records;
 
-mod limit;
+pub mod limit;
 mod sort;
 mod strings;
 mod totals;
@@ -26,6 +26,8 @@ pub const SHORT: usize = 300;
 
 /// The declarations that count for a limit, in the bytes of a message of a sort with levels left. Around them stands a
 /// full name of a length.
+// The length and the bytes each by itself, here and in `Sort`: the bound on the length falls with the levels left, so a
+// struct of both would have the levels too, and be made anew for each declaration.
 #[tactic(auto, using(crate::proofs::WalkLaws::tallies))]
 fn count_below(part: &[u8], limit: Limit, sort: Sort, around: usize, left: usize) -> usize
     requires { (length part.now ≤ 32768) × (around + left * 32769 ≤ 655380) }
@@ -105,39 +107,38 @@ fn first_passed(set: &[u8]) -> Option<Limit>
     LIMITS.iter().copied().find(|&limit| passes(set, limit))
 }
 
-/// The lowest limit that a set passes, of those that document 01 numbers 1 to 10; 0 where none is passed.
-// 0 in place of an `Option`: the definition is a number, and 0 where no limit is passed. Document 01's table has no 0: of it
-// `read_set` makes that the set is accepted.
+/// The lowest limit that a set passes.
 #[tactic(auto, using(crate::proofs::AnswerLaws::answers))]
-pub fn limit_passed(set: &[u8]) -> usize
-    ensures { result ≡ limit_passed set.now }
+pub fn limit_passed(set: &[u8]) -> Option<Passed>
+    ensures { number_or_none result ≡ limit_passed set.now }
 {
     if set.len() > MAX_SET {
-        return 1;
+        return Some(Passed::Bytes);
     }
     if parts::count_parts(set, SET_FILE) > MAX_FILES {
-        return 2;
+        return Some(Passed::Files);
     }
     if passes_none(set) {
-        return 0;
+        return None;
     }
-    match first_passed(set) {
-        Some(limit) => limit.number(),
-        None => 0,
-    }
+    Some(Passed::Declarations(first_passed(set)?))
 }
 
 /// Can a set be read, and does it pass no limit? Limit 1 comes before refusal 3, the other limits after it.
-#[tactic(auto, unfolding(crate::specs::Answer::read_set, base::specs::Choose::choose, descriptor::specs::Limits::passes_1))]
+#[tactic(auto, using(crate::proofs::AnswerLaws::judged), unfolding(crate::specs::Answer::read_set, base::specs::Choose::choose, descriptor::specs::Limits::passes_1))]
 pub fn read_set(set: &[u8]) -> Result<(), Refusal>
     ensures { result ≡ read_set set.now }
 {
     if set.len() > MAX_SET {
-        return Err(Refusal::Limit { limit: 1 });
+        return Err(Refusal::Limit {
+            limit: Passed::Bytes.number(),
+        });
     }
     known_fields::check_set(set).map_err(|fault| Refusal::Unreadable { offset: fault.key })?;
     match limit_passed(set) {
-        0 => Ok(()),
-        limit => Err(Refusal::Limit { limit }),
+        None => Ok(()),
+        Some(limit) => Err(Refusal::Limit {
+            limit: limit.number(),
+        }),
     }
 }

@@ -1,5 +1,6 @@
 //! Document 01's limits of a set.
 ghost use Rattle.std.specs.Prelude.{◌≡◌};
+ghost use Rattle.limits.specs.Answer.{passed_number};
 ghost use Rattle.limits.specs.Weights.{most, limit_number};
 
 pub const MAX_SET: usize = 32768;
@@ -23,16 +24,16 @@ pub const MAX_DEFAULT: usize = 255;
 /// A limit of the declarations of a set: 3 to 10 of document 01's list, in its order.
 #[derive(Clone, Copy)]
 pub enum Limit {
-    Messages,
-    Fields,
-    Enums,
+    Messages = 3,
+    Fields = 4,
+    Enums = 5,
     /// The values of an enum.
-    Values,
+    Values = 6,
     /// Messages in messages.
-    Nesting,
-    Names,
-    FullNames,
-    Defaults,
+    Nesting = 7,
+    Names = 8,
+    FullNames = 9,
+    Defaults = 10,
 }
 
 /// All of them, the lowest first.
@@ -49,20 +50,12 @@ pub const LIMITS: [Limit; 8] = [
 
 impl Limit {
     /// Its number in document 01's list.
+    // A cast: that number is the variant's own.
     #[tactic(auto, unfolding(crate::specs::Weights::limit_number))]
     pub fn number(self) -> usize
         ensures { result ≡ limit_number self }
     {
-        match self {
-            Limit::Messages => 3,
-            Limit::Fields => 4,
-            Limit::Enums => 5,
-            Limit::Values => 6,
-            Limit::Nesting => 7,
-            Limit::Names => 8,
-            Limit::FullNames => 9,
-            Limit::Defaults => 10,
-        }
+        self as usize
     }
 
     /// How many declarations may count for it; of one that each has to keep, none.
@@ -75,6 +68,30 @@ impl Limit {
             Limit::Fields => MAX_FIELDS,
             Limit::Enums => MAX_ENUMS,
             _ => 0,
+        }
+    }
+}
+
+/// A limit that a set passes.
+#[derive(Clone, Copy)]
+pub enum Passed {
+    /// Limit 1: its bytes.
+    Bytes,
+    /// Limit 2: its files.
+    Files,
+    /// Limits 3 to 10: its declarations.
+    Declarations(Limit),
+}
+
+impl Passed {
+    /// Its number in document 01's list.
+    pub fn number(self) -> usize
+        ensures { result ≡ passed_number self }
+    {
+        match self {
+            Passed::Bytes => 1,
+            Passed::Files => 2,
+            Passed::Declarations(limit) => limit.number(),
         }
     }
 }

@@ -6,16 +6,11 @@ use crate::limit::MAX_NAME;
 use parts::Parts;
 
 /// The bytes of a string by its field number: of several the last counts, without one there are none.
-#[tactic(auto, using(crate::proofs::TextLaws::last_text, crate::proofs::FitLaws::text_small))]
 pub fn text(part: &[u8], number: u64) -> &[u8]
     ensures text { result.now ≡ text_bytes number part.now }
     ensures bound { length result.now ≤ length part.now }
 {
-    let mut text: &[u8] = &[];
-    for found in Parts::new(part, number) {
-        text = found;
-    }
-    text
+    Parts::new(part, number).last().unwrap_or_default()
 }
 
 /// Is a segment of a package too long?

@@ -48,6 +48,7 @@ impl Totals {
     pub fn with_name(self, name: usize) -> Totals
         ensures { result ≡ with_name self name }
     {
+        // each field by itself: `..self` is refused where a struct has ghost fields
         Totals {
             messages: self.messages,
             fields: self.fields,

@@ -60,12 +60,12 @@ fn form_of(c: u32) -> Form
         return Form::Long;
     };
     match byte {
-        0x09 => Form::Letter(b't'),
-        0x0D => Form::Letter(b'r'),
-        0x0A => Form::Letter(b'n'),
-        0x27 => Form::Letter(b'\''),
-        0x22 => Form::Letter(b'"'),
-        0x5C => Form::Letter(b'\\'),
+        b'\t' => Form::Letter(b't'),
+        b'\r' => Form::Letter(b'r'),
+        b'\n' => Form::Letter(b'n'),
+        b'\'' => Form::Letter(b'\''),
+        b'"' => Form::Letter(b'"'),
+        b'\\' => Form::Letter(b'\\'),
         0x20..=0x7E => Form::Plain(byte),
         _ => Form::Long,
     }

@@ -2,3 +2,4 @@ pub mod SegmentLaws
 pub mod WellFormedLaws
 pub mod NamesLaws
 pub mod SyntaxLaws
+pub mod TypeLaws

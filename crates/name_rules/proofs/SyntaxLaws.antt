@@ -2,9 +2,7 @@
 use Rattle.std.proofs.Common.{◌≡◌, refl, Option, Some, None, is_ok, Bor, List, ℕ}
 use Rattle.base.specs.Given.{text_seen}
 use Rattle.descriptor.specs.Seen as seen
-use Rattle.syntax.specs.Syntax.{known, syntax_of}
-use Rattle.syntax.specs.declared.Syntax.{Syntax}
-use Rattle.syntax.specs.declared.Syntax.TheVariants.{Proto2, Proto3, Unknown}
+use Rattle.syntax.specs.Syntax.{Syntax, Proto2, Proto3, Unknown, known, syntax_of}
 use Rattle.name_rules.specs.Rules.{is_known, syntax_good}
 
 known_is : (x : Syntax) → is_ok (known x) ≡ is_known x

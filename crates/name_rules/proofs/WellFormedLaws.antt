@@ -15,9 +15,7 @@ use Rattle.base.specs.Lists.{all, is_empty, Every, all_every, every_append, ever
 use Rattle.base.specs.Tests.{and_left, and_right, both_ways}
 use Rattle.ident.specs.Name.{is_name, has_word}
 use Rattle.utf8.specs.Utf8.{is_utf8}
-use Rattle.syntax.specs.Syntax.{syntax_of}
-use Rattle.syntax.specs.declared.Syntax.{Syntax}
-use Rattle.syntax.specs.declared.Syntax.TheVariants.{Proto2, Proto3, Unknown}
+use Rattle.syntax.specs.Syntax.{Syntax, Proto2, Proto3, Unknown, syntax_of}
 use Rattle.descriptor.specs.Descriptor.{Bytes, Forest, done, node, preorder, FieldDescriptor, ValueDescriptor, EnumDescriptor, MessageDescriptor, FileDescriptor}
 use Rattle.descriptor.specs.Limits.{messages_in}
 use Rattle.name_rules.specs.Accessors.{or_else}

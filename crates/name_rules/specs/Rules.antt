@@ -6,9 +6,7 @@ use Rattle.base.specs.Choose.{choose}
 use Rattle.base.specs.Bytes.{b, same}
 use Rattle.ident.specs.Name.{is_name, has_word}
 use Rattle.utf8.specs.Utf8.{is_utf8}
-use Rattle.syntax.specs.Syntax.{syntax_of}
-use Rattle.syntax.specs.declared.Syntax.{Syntax}
-use Rattle.syntax.specs.declared.Syntax.TheVariants.{Proto2, Proto3, Unknown}
+use Rattle.syntax.specs.Syntax.{Syntax, Proto2, Proto3, Unknown, syntax_of}
 use Rattle.field_types.specs.Types.{sort_of, integer, boolean}
 use Rattle.field_types.specs.Types as types
 use Rattle.descriptor.specs.Descriptor.{Bytes, Forest, done, node, FieldDescriptor, ValueDescriptor, EnumDescriptor, MessageDescriptor, FileDescriptor}

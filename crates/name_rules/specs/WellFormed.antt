@@ -5,8 +5,7 @@ use Rattle.base.specs.Bytes.{b}
 use Rattle.base.specs.Lists.{Every}
 use Rattle.ident.specs.Name.{is_name, has_word}
 use Rattle.utf8.specs.Utf8.{is_utf8}
-use Rattle.syntax.specs.Syntax.{syntax_of}
-use Rattle.syntax.specs.declared.Syntax.TheVariants.{Proto2, Proto3}
+use Rattle.syntax.specs.Syntax.{Proto2, Proto3, syntax_of}
 use Rattle.descriptor.specs.Descriptor.{Bytes, Forest, done, node, preorder, FieldDescriptor, ValueDescriptor, EnumDescriptor, MessageDescriptor, FileDescriptor}
 use Rattle.name_rules.specs.Accessors.{is_message, is_group, is_enum}
 use Rattle.name_rules.specs.Rules.{segments, key_type, is_number}

@@ -8,34 +8,19 @@ ghost use Rattle.name_rules.specs.Rules.{good_name, has_name, segments, package_
 use descriptor::{
     EnumValueDescriptor, FieldDescriptor, LABEL_OPTIONAL, TYPE_ENUM, TYPE_GROUP, TYPE_MESSAGE,
 };
+use field_types::Type;
 use syntax::known::Syntax;
 use utf8::Decoded;
 
 // The highest field number.
 const MAX_NUMBER: u32 = (1 << 29) - 1;
 
-// The labels and the types are numbered from 1.
+// The labels are numbered from 1.
 const MAX_LABEL: u32 = 3;
-
-const MAX_TYPE: u32 = 18;
-
-// Document 01's number of what is refused here.
-const REFUSAL: u32 = 6;
 
 /// A declaration breaks a rule of refusal 6.
 #[derive(Clone, Copy, Debug, PartialEq, Eq)]
 pub struct IllFormed;
-
-impl IllFormed {
-    ghost use Rattle.name_rules.specs.Rules.{refusal_number};
-
-    /// The number of the refusal.
-    pub fn number(self) -> u32
-        ensures { result ≡ refusal_number self }
-    {
-        REFUSAL
-    }
-}
 
 /// Is it an identifier with a letter or digit?
 #[tactic(auto, unfolding(crate::specs::Rules::good_name))]
@@ -64,10 +49,7 @@ fn segments_good(name: &[u8]) -> bool
 pub fn package_good(name: Option<&[u8]>) -> bool
     ensures { result ≡ package_good (text_seen name.entry) }
 {
-    match name {
-        Some(name) => segments_good(name),
-        None => true,
-    }
+    name.is_none_or(segments_good)
 }
 
 /// A syntax is missing, or proto2 or proto3.
@@ -86,10 +68,19 @@ fn within(low: u32, high: u32, number: Option<u32>) -> bool
 }
 
 /// Is a number given, and this one?
+// By its name, and not by `==` at each place: the definitions of the rules are stated by it.
 pub fn is_number(number: Option<u32>, wanted: u32) -> bool
     ensures { result ≡ is_number wanted (option_seen number) }
 {
     number == Some(wanted)
+}
+
+/// Is a type given?
+#[tactic(auto, using(crate::proofs::TypeLaws::known_type))]
+fn is_type(kind: Option<u32>) -> bool
+    ensures { result ≡ within 1 18 (option_seen kind) }
+{
+    kind.is_some_and(|kind| Type::try_from(kind).is_ok())
 }
 
 /// A group, a message and an enum need the name of their type.
@@ -106,13 +97,11 @@ fn type_name_good(kind: Option<u32>, name: Option<&[u8]>) -> bool
 fn oneof_index_good(oneofs: usize, label: Option<u32>, index: Option<u32>) -> bool
     ensures { result ≡ oneof_index_good oneofs (option_seen label) (option_seen index) }
 {
-    match index {
-        // a cast: a `usize` has no `From` of a `u32`
-        Some(index) => index < 1 << 31
-            && (index as usize) < oneofs
-            && is_number(label, LABEL_OPTIONAL),
-        None => true,
-    }
+    index.is_none_or(|index| {
+        index < 1 << 31
+            && usize::try_from(index).is_ok_and(|index| index < oneofs)
+            && is_number(label, LABEL_OPTIONAL)
+    })
 }
 
 /// A character that doesn't decode ends in refusal 6.
@@ -134,11 +123,9 @@ fn judge_default(default: &[u8]) -> Result<(), IllFormed>
 fn default_good(kind: Option<u32>, default: Option<&[u8]>) -> bool
     ensures { result ≡ default_good (option_seen kind) (text_seen default.entry) }
 {
-    match default {
-        Some(default) => judge_default(default).is_ok()
-            && (!is_number(kind, TYPE_ENUM) || good_name(default)),
-        None => true,
-    }
+    default.is_none_or(|default| {
+        judge_default(default).is_ok() && (!is_number(kind, TYPE_ENUM) || good_name(default))
+    })
 }
 
 /// A field of a message that has so many oneofs.
@@ -149,7 +136,7 @@ pub fn field_good(field: &FieldDescriptor<'_>, oneofs: usize) -> bool
     has_name(field.name)
         && within(1, MAX_NUMBER, field.number)
         && within(1, MAX_LABEL, field.label)
-        && within(1, MAX_TYPE, field.kind)
+        && is_type(field.kind)
         && type_name_good(field.kind, field.type_name)
         && oneof_index_good(oneofs, field.label, field.oneof_index)
         && default_good(field.kind, field.default_value)

@@ -4,13 +4,10 @@ use mathlib.Core.List.{List, [], ◌∷◌}
 use Prim.Native.Nat.{ℕ}
 use borrow.Author.Tests.{eq-eqb, ne_eqb}
 use Rattle.base.specs.Choose.{choose}
-use Rattle.wire.specs.Step.{step_at}
+use Rattle.wire.specs.Step.{Record, Step, End, Fault, Found, step_at}
 use Rattle.wire.specs.Records.{records}
 use Rattle.wire.specs.Contents.{field_of, value_of}
 use Rattle.wire.proofs.RecordsLaws.{records_end, records_fault, records_found}
-use Rattle.wire.specs.declared.Record.{Record}
-use Rattle.wire.specs.declared.Step.{Step}
-use Rattle.wire.specs.declared.Step.TheVariants.{End, Fault, Found}
 use Rattle.descriptor.specs.Decode.{entries, entries_of, bytes_in, parts}
 
 -- the embedded messages with the field number n, from position at on

@@ -3,11 +3,10 @@
 
 ghost use Rattle.std.specs.Prelude.{◌≡◌, ◌≤◌, length};
 ghost use Rattle.std.specs.Iterator.{item_count, YieldsFirstRef};
-ghost use Rattle.wire.specs.Value.{value_seen};
-ghost use Rattle.descriptor.specs.Decode.{entries, bytes_in, parts};
+ghost use Rattle.descriptor.specs.Decode.{entries, parts};
 
 use std::marker::Model;
-use wire::records::{Records, Value};
+use wire::records::Records;
 
 /// The embedded messages with one field number that are left, as bytes.
 #[derive(Drop)]
@@ -51,6 +50,7 @@ impl<'a> Iterator for Parts<'a> {
     #[tactic(auto, unfolding(descriptor::specs::Decode::parts, wire::specs::Message::fields_in, base::specs::Choose::choose))]
     #[inline(always)]
     fn next(&mut self) -> Option<&'a [u8]> {
+        // no `find`: its law says what was found, and not what is left
         while let Some(record) = self.records.next() {
             if let Ok(record) = record
                 && record.number == self.number
@@ -60,14 +60,6 @@ impl<'a> Iterator for Parts<'a> {
         }
         None
     }
-}
-
-/// The bytes of an embedded message; a value of another wire type has none.
-// `descriptor::bytes_in` by the name under which the proofs of callers know it.
-pub fn value_bytes(value: Value<'_>) -> &[u8]
-    ensures { result.now ≡ bytes_in (value_seen value.entry) }
-{
-    descriptor::bytes_in(value)
 }
 
 /// How many embedded messages with this field number there are.

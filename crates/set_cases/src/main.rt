@@ -16,20 +16,23 @@ use std::alloc::{AllocError, Global};
 use std::io::Write;
 use std::{fs, io};
 
-/// A refusal's number and place; both 0 where there is none.
-#[derive(Clone, Copy, PartialEq, Eq)]
-struct Answer {
-    number: u32,
-    place: usize,
-}
-
-/// What is done to the set, or asked of it.
+/// What is done to the set, or asked of it. An answer without a refusal has number and place 0.
 #[derive(Clone, Copy)]
 enum Command<'a> {
     New,
-    Add { bytes: &'a [u8], times: u16 },
-    Ask { len: usize, answer: Answer },
-    AskChanged { at: usize, byte: u8, answer: Answer },
+    Add {
+        bytes: &'a [u8],
+        times: u16,
+    },
+    Ask {
+        len: usize,
+        answer: Returned,
+    },
+    AskChanged {
+        at: usize,
+        byte: u8,
+        answer: Returned,
+    },
 }
 
 /// The commands that are left.
@@ -54,7 +57,7 @@ impl<'a> Iterator for Commands<'a> {
             1 => Command::Add { bytes, times: a },
             2 => Command::Ask {
                 len: usize::from(a),
-                answer: Answer {
+                answer: Returned {
                     number: u32::from(b),
                     place: usize::from(c),
                 },
@@ -62,7 +65,7 @@ impl<'a> Iterator for Commands<'a> {
             _ => Command::AskChanged {
                 at: usize::from(a),
                 byte: head[4],
-                answer: Answer {
+                answer: Returned {
                     number: u32::from(c),
                     place: usize::from(d),
                 },
@@ -76,16 +79,12 @@ fn words_of(head: &[u8; 10]) -> [u16; 5] {
     [word(0), word(2), word(4), word(6), word(8)]
 }
 
-fn answer_of(set: &[u8]) -> Answer {
-    let returned = Returned::from(limits::read_set(set).map(|()| 0));
-    Answer {
-        number: returned.number,
-        place: returned.place,
-    }
+fn answer_of(set: &[u8]) -> Returned {
+    limits::read_set(set).map(|()| 0).into()
 }
 
 /// Is this the answer of the set with that byte? The set stays as it is.
-fn answers_changed(set: &mut [u8], at: usize, byte: u8, answer: Answer) -> bool {
+fn answers_changed(set: &mut [u8], at: usize, byte: u8, answer: Returned) -> bool {
     if at >= set.len() {
         return false;
     }

@@ -10,10 +10,7 @@ use Rattle.base.specs.Lists.{Every, all_of, map_length}
 use Rattle.wire.specs.Encoding.{Field, Value}
 use Rattle.wire.specs.Contents.{value_of, field_of}
 use Rattle.wire.specs.Records.{on_step, scan, records}
-use Rattle.wire.specs.Step.{step_at}
-use Rattle.wire.specs.declared.Record.{Record}
-use Rattle.wire.specs.declared.Step.{Step}
-use Rattle.wire.specs.declared.Step.TheVariants.{End, Fault, Found}
+use Rattle.wire.specs.Step.{Record, Step, End, Fault, Found, step_at}
 use Rattle.syntax.specs.Syntax.{syntax_of}
 use Rattle.descriptor.specs.Descriptor.{Bytes, Forest, done, node, preorder, MessageDescriptor, FileDescriptor}
 use Rattle.descriptor.specs.Decode.{entries_of, entries, last_from, last, bytes_in, parts, field_in, value_in, decode_field, decode_value, decode_enum, decode_oneof, decode_message, decode_messages, decode_file, decode_set}

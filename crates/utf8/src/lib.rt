@@ -9,7 +9,7 @@ mod chars;
 pub use chars::Chars;
 
 /// What decoding at a place finds: a character with the place behind it, or none.
-// The enum stays where Rust has an `Option`: the step is opened by `let .. else` on its variants.
+// An enum, where Rust has an `Option`: document 01 asks for the step to be opened by `let .. else` on the variants of an enum.
 #[derive(Clone, Copy, PartialEq, Eq)]
 pub enum Decoded {
     Character(u32, usize),

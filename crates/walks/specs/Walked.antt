@@ -7,11 +7,8 @@ use Rattle.writer.specs.declared.text.Text.{Text}
 use Rattle.writer.specs.Writing.{◌▻◌}
 use Rattle.writer.proofs.TextLaws.{put-append, put-nothing}
 use Rattle.writer.specs.Wrote.{Wrote, none, ◌►◌, named, kept}
-use Rattle.wire.specs.Step.{step_at}
+use Rattle.wire.specs.Step.{Record, Step, End, Fault, Found, step_at}
 use Rattle.wire.specs.Contents.{value_of}
-use Rattle.wire.specs.declared.Record.{Record}
-use Rattle.wire.specs.declared.Step.{Step}
-use Rattle.wire.specs.declared.Step.TheVariants.{End, Fault, Found}
 use Rattle.descriptor.specs.Descriptor.{Bytes}
 use Rattle.descriptor.specs.Decode.{entries, bytes_in, parts}
 use Rattle.parts.proofs.PartLaws.{parts_from, parts_all, parts_end, parts_fault, parts_skip, parts_found}

@@ -10,7 +10,7 @@ use lib.Seq.{drop-drop, drop_at, take_at, get_or-drop}
 use borrow.Author.Tests.{ne_eqb, lt-leb, le-leb}
 use Rattle.base.specs.Choose.{choose, choices}
 use Rattle.wire.specs.Varint.{value_at, varint, groups, on_varint, cap}
-use Rattle.wire.specs.Step.{step_at, payload, sized}
+use Rattle.wire.specs.Step.{Record, End, Found, step_at, payload, sized}
 use Rattle.wire.specs.Records.{records}
 use Rattle.wire.specs.Encoding.{Base128, EncodesVarint, EncodesField, EncodesValue, Encodes, Value, varint_value, i64_value, len_value, i32_value, Field, wire_type, little_endian}
 use Rattle.wire.specs.Encoding.Base128.{last, more}
@@ -18,8 +18,6 @@ use Rattle.wire.specs.Encoding.Encodes.{none as no_fields, more as more_fields}
 use Rattle.wire.specs.Contents.{value_of, field_of, fields_of, contents}
 use Rattle.wire.proofs.VarintLaws.{tenth, final, goes_value}
 use Rattle.wire.proofs.RecordsLaws.{records_end, records_found}
-use Rattle.wire.specs.declared.Record.{Record}
-use Rattle.wire.specs.declared.Step.TheVariants.{End, Found}
 
 module _ (s : List ℕ) where
   -- these bytes stand from at on: so many are left

@@ -11,7 +11,7 @@ use lib.Dec.{ltb, leb, eqb}
 use borrow.Author.Tests.{ltb-true, ltb-false, leb-true, leb-false, eqb-true, eqb-false}
 use Rattle.base.specs.Choose.{choose, choose_case}
 use Rattle.wire.specs.Varint.{value_at, Varint, varint, groups, on_varint, below, last, cap}
-use Rattle.wire.specs.Step.{step_at, payload, sized, scalar, delimited, keyed}
+use Rattle.wire.specs.Step.{Record, Step, End, Fault, Found, step_at, payload, sized, scalar, delimited, keyed}
 use Rattle.wire.specs.Records.{on_step, scan, records}
 use Rattle.wire.specs.Encoding.{Base128, EncodesVarint, EncodesField, EncodesValue, Encodes, Value, varint_value, i64_value, len_value, i32_value, Field, wire_type, little_endian, Bytes}
 use Rattle.wire.specs.Encoding.Base128.{last as last_group, more as more_groups}
@@ -19,9 +19,6 @@ use Rattle.wire.specs.Encoding.Encodes.{none as no_fields, more as more_fields}
 use Rattle.wire.proofs.StepLaws.{Lies, lies}
 use Rattle.wire.specs.Contents.{value_of, field_of, fields_of, also, contents, payload_of}
 use Rattle.wire.proofs.VarintLaws.{Known, known, known_varint}
-use Rattle.wire.specs.declared.Record.{Record}
-use Rattle.wire.specs.declared.Step.{Step}
-use Rattle.wire.specs.declared.Step.TheVariants.{End, Fault, Found}
 use Rattle.std.specs.Prelude.{Some, None}
 
 -- the groups that stand from at to next

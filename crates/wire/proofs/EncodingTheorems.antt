@@ -5,7 +5,7 @@ use mathlib.Core.Option.{Option, none, some}
 use Prim.Native.Nat.{ℕ, ◌+◌}
 use native.Mathlib.Omega.{arith}
 use lib.ListN.{length, drop}
-use Rattle.wire.specs.Step.{step_at}
+use Rattle.wire.specs.Step.{Fault, Found, step_at}
 use Rattle.wire.specs.Encoding.{Bytes, Field, EncodesField, Encodes}
 use Rattle.std.specs.Prelude.{None}
 use Rattle.wire.specs.Contents.{contents, all_fields}
@@ -14,7 +14,6 @@ use Rattle.wire.proofs.StepLaws.{Lies, lies}
 use Rattle.wire.proofs.SameRecords.{step_same, same_contents}
 use Rattle.wire.proofs.EncodingSound as reader
 use Rattle.wire.proofs.EncodingComplete as encoding
-use Rattle.wire.specs.declared.Step.TheVariants.{Fault, Found}
 
 module _ (s : List ℕ) where
   -- what the reader gives, the bytes encode

@@ -1,5 +1,4 @@
 pub mod VarintLaws
-pub mod ShortLaws
 pub mod StepLaws
 pub mod RecordsLaws
 pub mod EncodingSound

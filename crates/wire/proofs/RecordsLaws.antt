@@ -9,12 +9,9 @@ use mir.Val.{Fits}
 use lib.ListN.{length, drop, length-take, length-drop}
 use lib.Seq.{length-take-le}
 use Rattle.base.specs.Choose.{choices}
-use Rattle.wire.specs.Step.{step_at}
+use Rattle.wire.specs.Step.{Record, Step, End, Fault, Found, step_at}
 use Rattle.wire.specs.Records.{on_step, scan, records, pass, over, part}
 use Rattle.wire.proofs.StepLaws.{Lies, lies, fault_lies}
-use Rattle.wire.specs.declared.Record.{Record}
-use Rattle.wire.specs.declared.Step.{Step}
-use Rattle.wire.specs.declared.Step.TheVariants.{End, Fault, Found}
 
 pub past : (s : List ℕ) (at : ℕ) → length s ≤ at → step_at s at ≡ End
 unfolding step_at

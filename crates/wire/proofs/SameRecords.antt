@@ -13,19 +13,15 @@ use Rattle.std.specs.Prelude.{Option, Some, None, Result, Ok, Err}
 use Rattle.std.specs.Option.{option_map}
 use Rattle.base.specs.Choose.{choose, choose_case}
 use Rattle.wire.specs.Varint.{value_at, Varint, varint, groups, on_varint, below, last}
-use Rattle.wire.specs.Step.{step_at, payload, sized, scalar, delimited, keyed}
+use Rattle.wire.specs.Step.{Record, Step, End, Fault, Found, step_at, payload, sized, scalar, delimited, keyed}
 use Rattle.wire.specs.Records.{on_step, scan, records}
 use Rattle.wire.specs.Contents.{value_of, field_of, fields_of, also, contents, all_fields, payload_of}
 use Rattle.wire.specs.Encoding.{Value, varint_value, i64_value, len_value, i32_value, little_endian}
 use Rattle.wire.specs.Readers.{◌>>=◌, cut, varint as front_varint, groups as front_groups, payload as front_payload}
 use Rattle.wire.specs.Message.{Entry, record_at, with_others, records_within, records_at}
-use Rattle.wire.proofs.StepLaws.{Lies, lies, fault_lies}
+use Rattle.wire.proofs.StepLaws.{Lies, lies, fault_lies, stands}
 use Rattle.wire.proofs.VarintLaws.{Known, known_varint}
-use Rattle.wire.proofs.ShortLaws.{stands}
 use Rattle.wire.proofs.RecordsLaws.{past}
-use Rattle.wire.specs.declared.Record.{Record}
-use Rattle.wire.specs.declared.Step.{Step}
-use Rattle.wire.specs.declared.Step.TheVariants.{End, Fault, Found}
 use Rattle.wire.specs.declared.records.record.Fault.{Fault as FaultAt}
 
 -- what holds of two tests' results, each under the test, holds of both picks
@@ -184,7 +180,7 @@ module _ (s : List ℕ) where
     step_same at h =
         choose_case (λ r. SameRecord r (record_at (base + at) (drop at s))) (leb (length s) at)
         (λ e. let k = leb-true _ _ e in absurd (omega arith))
-        (λ _. keyed_same at (varint s at) (front_varint (drop at s)) (λ f is. lies s at (keyed s at (varint s at)) f (stands s at (get_or s at 0) refl h _ refl) is) (varint_same at) (known_varint s at))
+        (λ _. keyed_same at (varint s at) (front_varint (drop at s)) (λ f is. lies s at (keyed s at (varint s at)) f (stands s at h) is) (varint_same at) (known_varint s at))
 
     others_same : (n at : ℕ) → ((f : Record) → Lies (length s) at f → records_within n (base + f.next) (drop f.next s) ≡ listed base s (scan n s f.next))
         → (r : Step) (o : Option (Entry × List ℕ)) → r ≡ step_at s at → SameRecord r o

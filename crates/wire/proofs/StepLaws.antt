@@ -1,19 +1,21 @@
--- Where a record lies. Assumes nothing.
+-- What stands at a place of the bytes, and where a record lies. Assumes nothing.
 use mathlib.Core.Path.{◌≡◌, refl}
 use mathlib.Core.List.{List}
 use Prim.Native.Nat.{ℕ, ◌-◌, ◌/◌, ◌%◌, ◌<◌, ◌≤◌}
 use native.Mathlib.Omega.{arith}
 use lib.ListN.{length}
 use lib.Dec.{leb, eqb}
-use borrow.Author.Tests.{leb-true, leb-false}
-use Rattle.base.specs.Choose.{choose_case}
+use borrow.Author.Tests.{leb-true, leb-false, lt-leb}
+use Rattle.base.specs.Choose.{choose, choose_case}
 use Rattle.wire.specs.Varint.{Varint, varint, on_varint}
-use Rattle.wire.specs.Step.{step_at, payload, sized, scalar, delimited}
+use Rattle.wire.specs.Step.{Record, Step, End, Fault, Found, step_at, payload, keyed, sized, scalar, delimited}
 use Rattle.wire.proofs.VarintLaws.{Known, known_varint}
-use Rattle.wire.specs.declared.Record.{Record}
-use Rattle.wire.specs.declared.Step.{Step}
-use Rattle.wire.specs.declared.Step.TheVariants.{End, Fault, Found}
 use Rattle.std.specs.Prelude.{Some, None}
+
+-- at a place of the bytes a record or a fault stands
+pub stands : (s : List ℕ) (at : ℕ) → at < length s → keyed s at (varint s at) ≡ step_at s at
+unfolding step_at choose
+stands s at h = rw (lt-leb (length s) at h)
 
 -- a record read at position at of n bytes
 pub record Lies (n at : ℕ) (f : Record) : Type 0 where

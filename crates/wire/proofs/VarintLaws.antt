@@ -1,7 +1,7 @@
 -- One step of `groups`, case by case, and what a varint is bounded by. Assumes nothing.
 use mathlib.Core.Path.{◌≡◌, refl}
 use mathlib.Core.List.{List}
-use Prim.Native.Nat.{ℕ, zero, suc, ◌+◌, ◌*◌, ◌-◌, ◌%◌, ◌^◌, ◌<◌, ◌≤◌}
+use Prim.Native.Nat.{ℕ, zero, suc, ◌+◌, ◌*◌, ◌-◌, ◌%◌, ◌<◌, ◌≤◌}
 use native.Mathlib.Numerals.{sub-one}
 use native.Mathlib.Omega.{arith}
 use lib.ListN.{length, get_or}
@@ -18,34 +18,19 @@ unfolding groups
 step zero s at ne = absurd (ne refl)
 step (suc n) s at ne = rw sub-one
 
-pub none : (left : ℕ) (s : List ℕ) (at : ℕ) → left ≡ 0 → None ≡ groups left s at
-unfolding groups
-none left s at e = rw e
+module _ (left : ℕ) (s : List ℕ) (at : ℕ) (ne : left ≡ 0 → ⊥) (in_s : at < length s) (b : ℕ) (is_b : b ≡ get_or s at 0) where
+  pub tenth : b < 128 → left ≡ 1 → b < 2 → value_at b (at + 1) ≡ groups left s at
+  tenth small one big = rw (step left s at ne, ← is_b) (search choices depth 9)
 
-module _ (left : ℕ) (s : List ℕ) (at : ℕ) (ne : left ≡ 0 → ⊥) where
-  pub past : length s ≤ at → None ≡ groups left s at
-  past h = rw (step left s at ne) (search choices depth 9)
+  pub final : b < 128 → (left ≡ 1 → ⊥) → value_at b (at + 1) ≡ groups left s at
+  final small more = rw (step left s at ne, ← is_b) (search choices depth 9)
 
-  module _ (in_s : at < length s) (b : ℕ) (is_b : b ≡ get_or s at 0) where
-    pub wrong_tenth : b < 128 → left ≡ 1 → 2 ≤ b → None ≡ groups left s at
-    wrong_tenth small one big = rw (step left s at ne, ← is_b) (search choices depth 9)
+  goes_on : (r : Varint) → 128 ≤ b → r ≡ groups (left - 1) s (at + 1) → below (b % 128) r ≡ groups left s at
+  goes_on r big e = rw (step left s at ne, ← is_b, ← e) (search choices depth 9)
 
-    pub tenth : b < 128 → left ≡ 1 → b < 2 → value_at b (at + 1) ≡ groups left s at
-    tenth small one big = rw (step left s at ne, ← is_b) (search choices depth 9)
-
-    pub final : b < 128 → (left ≡ 1 → ⊥) → value_at b (at + 1) ≡ groups left s at
-    final small more = rw (step left s at ne, ← is_b) (search choices depth 9)
-
-    goes_on : (r : Varint) → 128 ≤ b → r ≡ groups (left - 1) s (at + 1) → below (b % 128) r ≡ groups left s at
-    goes_on r big e = rw (step left s at ne, ← is_b, ← e) (search choices depth 9)
-
-    pub goes_fault : (r : Varint) → 128 ≤ b → r ≡ groups (left - 1) s (at + 1) → r ≡ None → None ≡ groups left s at
-    unfolding on_varint
-    goes_fault r big e is = rw is at (goes_on r big e)
-
-    pub goes_value : (r : Varint) (v next : ℕ) → 128 ≤ b → r ≡ groups (left - 1) s (at + 1) → r ≡ value_at v next → value_at (v * 128 + b % 128) next ≡ groups left s at
-    unfolding on_varint
-    goes_value r v next big e is = rw is at (goes_on r big e)
+  pub goes_value : (r : Varint) (v next : ℕ) → 128 ≤ b → r ≡ groups (left - 1) s (at + 1) → r ≡ value_at v next → value_at (v * 128 + b % 128) next ≡ groups left s at
+  unfolding on_varint
+  goes_value r v next big e is = rw is at (goes_on r big e)
 
 -- what is known of a varint at position at, of at most left bytes
 abbrev pub Known : ℕ → List ℕ → ℕ → Varint → Type 0
@@ -82,31 +67,6 @@ known (suc n) s at =
     (λ e. choose_case (Known (suc n) s at) (ltb (get_or s at 0) 128) (λ t. last_known n s at (get_or s at 0) (leb-false _ _ e) (ltb-true _ _ t))
     (λ _. below_known n s at (get_or s at 0) (groups n s (at + 1)) refl (known n s (at + 1))))
 
-pub of_known : (left : ℕ) (s : List ℕ) (at : ℕ) (r : Varint) (v next : ℕ) → r ≡ groups left s at → r ≡ value_at v next → Known left s at (value_at v next)
-of_known left s at r v next e is = rw (← e, is) at (known left s at)
-
-pub cap_less : (left : ℕ) → (left ≡ 0 → ⊥) → cap left ≤ 2 ^ 64 → cap (left - 1) ≤ 2 ^ 64
-unfolding cap
-cap_less zero ne h = absurd (ne refl)
-cap_less (suc zero) ne h = omega arith
-cap_less (suc (suc n)) ne h = rw sub-one (omega arith)
-
-pub room : (left : ℕ) (s : List ℕ) (at : ℕ) (r : Varint) (v next : ℕ) → (left ≡ 0 → ⊥) → cap left ≤ 2 ^ 64 → r ≡ groups (left - 1) s at → r ≡ value_at v next → v * 128 + 127 < 2 ^ 64
-unfolding cap
-room left s at r v next ne h e is = go left ne h (of_known (left - 1) s at r v next e is).0
-  where
-    go : (left : ℕ) → (left ≡ 0 → ⊥) → cap left ≤ 2 ^ 64 → v < cap (left - 1) → v * 128 + 127 < 2 ^ 64
-    go zero ne h l = absurd (ne refl)
-    go (suc zero) ne h l = omega arith
-    go (suc (suc n)) ne h l = let l2 : v < cap (suc n) = rw sub-one at l in omega arith
-
-pub inside : (left : ℕ) (s : List ℕ) (at : ℕ) (r : Varint) (v next : ℕ) → r ≡ groups left s at → r ≡ value_at v next → next ≤ length s
-inside left s at r v next e is = (of_known left s at r v next e is).2
-
 pub known_varint : (s : List ℕ) (at : ℕ) → Known 10 s at (varint s at)
 unfolding varint
 known_varint s at = known 10 s at
-
-pub in_part : (s : List ℕ) (at : ℕ) (r : Varint) (v next : ℕ) → r ≡ varint s at → r ≡ value_at v next → next ≤ length s
-unfolding varint
-in_part s at r v next e is = inside 10 s at r v next e is

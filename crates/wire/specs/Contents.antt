@@ -7,9 +7,7 @@ use Rattle.wire.specs.Records.{records, part}
 use Rattle.wire.specs.Message.{Entry}
 use Rattle.std.specs.Prelude.{Result, Ok, Err}
 use Rattle.wire.specs.declared.records.record.Fault.{Fault as FaultAt}
-use Rattle.wire.specs.declared.Record.{Record}
-use Rattle.wire.specs.declared.Step.{Step}
-use Rattle.wire.specs.declared.Step.TheVariants.{End, Fault, Found}
+use Rattle.wire.specs.Step.{Record, Step, End, Fault, Found}
 
 -- the bytes of a record's payload
 abbrev pub payload_of : List ℕ → Record → List ℕ

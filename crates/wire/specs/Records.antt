@@ -1,9 +1,6 @@
 -- The records of a message, one after the other, up to its end or its first fault; and what is made of them in one pass.
 use Rattle.std.specs.Prelude.{ℕ, zero, suc, ◌-◌, List, [], ◌∷◌, length, take, drop}
-use Rattle.wire.specs.Step.{step_at}
-use Rattle.wire.specs.declared.Record.{Record}
-use Rattle.wire.specs.declared.Step.{Step}
-use Rattle.wire.specs.declared.Step.TheVariants.{End, Fault, Found}
+use Rattle.wire.specs.Step.{Record, Step, End, Fault, Found, step_at}
 
 unfoldable pub on_step {ℓ} : {A : Type ℓ} → Step → A → (ℕ → A) → (Record → A) → A
 on_step End x g h = x

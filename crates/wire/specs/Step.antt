@@ -3,8 +3,22 @@
 use Rattle.std.specs.Prelude.{ℕ, ◌+◌, ◌-◌, ◌/◌, ◌%◌, List, length, leb, eqb}
 use Rattle.base.specs.Choose.{choose}
 use Rattle.wire.specs.Varint.{Varint, varint, on_varint}
-use Rattle.wire.specs.declared.Step.{Step}
-use Rattle.wire.specs.declared.Step.TheVariants.{End, Fault, Found}
+
+-- a record: where its key starts, its field number, its wire type (0, 1, 2 or 5), its value (of wire type 0) or its payload's length
+-- (of wire type 2; otherwise 0), where its payload starts, and the position after it
+pub record Record : Type 0 where
+  pub key : ℕ
+  pub number : ℕ
+  pub wiretype : ℕ
+  pub value : ℕ
+  pub start : ℕ
+  pub next : ℕ
+
+-- nothing more, a fault in the record whose key starts there, or a record
+pub data Step : Type 0 where
+  End : Step
+  Fault : ℕ → Step
+  Found : Record → Step
 
 -- a payload of len bytes from start on, in n bytes
 abbrev pub sized : ℕ → ℕ → ℕ → ℕ → ℕ → ℕ → ℕ → Step

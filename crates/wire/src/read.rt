@@ -8,6 +8,8 @@ ghost use Rattle.wire.specs.Message.{Entry, record_at, record_seen};
 
 use crate::records::{Record, Value};
 
+// Bytes, and where they stand: `Records` holds both with the bound, and these functions read for it.
+
 /// The record at the front, whose key stands at `key`, and the bytes after it.
 #[inline(always)]
 pub(crate) fn read_record(bytes: &[u8], key: usize) -> Option<(Record<'_>, &[u8])>
@@ -105,6 +107,7 @@ fn read_value(wire_type: u64, bytes: &[u8]) -> Option<(Value<'_>, &[u8], &[u8])>
     ensures value { option_map (λ v. ((value_seen v.0, v.1.now), v.2.now)) result ≡ payload wire_type bytes.now }
     ensures inside { IfSome result (λ v. (size_of v.0 ≤ length v.1.now) × (length v.1.now ≤ length bytes.now)) }
 {
+    // The numbers are those that stand in the bytes.
     match wire_type {
         0 => {
             let (number, rest) = read_varint(bytes)?;
@@ -133,6 +136,7 @@ fn split(bytes: &[u8], len: u64) -> Option<(&[u8], &[u8])>
     ensures value { option_map (λ p. (p.0.now, p.1.now)) result ≡ cut len bytes.now }
     ensures inside { IfSome result (λ p. length p.0.now + length p.1.now ≡ length bytes.now) }
 {
+    // casts: a `u64` has no `From` of a `usize`, nor the other way
     if len <= bytes.len() as u64 {
         let end = len as usize;
         Some((&bytes[..end], &bytes[end..]))

@@ -64,6 +64,15 @@ unfolding extended
 wholly {old} {p} {new} {n} w h b =
     ap (λ (d : Draft). d.buffer) w.is ∙ sets-take old p 0 most (omega arith) ∙ sets-eq p old 0 (omega arith) ∙ rw zero-add refl
 
+-- the text over what stood there
+pub overlaid : {old p new : List ℕ} {n : ℕ} → Filled old p new n → length old < 2 ^ 63 → new ≡ over old 0 p
+unfolding extended over
+overlaid {old} {p} w b = ap (λ (d : Draft). d.buffer) w.is ∙ sets-take old p 0 most (omega arith)
+
+-- a text that began in the buffer
+pub filled_from : (p : List ℕ) (t u : Text) {old new : List ℕ} → new ≡ u.buffer.now → u ≡ t ▻ p → draft_of t ≡ draft old 0 → Filled old p new u.length
+filled_from p t u n e s = record { is = ap (λ (l : List ℕ). draft l u.length) n ∙ ap draft_of e ∙ ap (λ (d : Draft). extended d p) s }
+
 -- a text that was lent the rest of the buffer
 pub lent_draft : (d : Draft) (p s : List ℕ) (at n : ℕ) → length d.buffer < 2 ^ 63 → at ≡ min d.length (length d.buffer) → draft s n ≡ extended (draft (mid_of at (length d.buffer - at) d.buffer) 0) p → skipped (draft (put_mid at (length d.buffer - at) d.buffer s) d.length) n ≡ extended d p
 unfolding extended

@@ -1,5 +1,5 @@
 // Text that is written into a lent buffer, and measured past the buffer's end: so the same writers measure and write.
-ghost use Rattle.std.specs.Prelude.{◌≡◌, ◌^◌, min, max, [], ◌∷◌, take, drop};
+ghost use Rattle.std.specs.Prelude.{◌≡◌, [], ◌∷◌, take, drop};
 ghost use Rattle.writer.specs.Text.{indent};
 ghost use Rattle.writer.specs.Decimal.{decimal, signed};
 ghost use Rattle.writer.specs.Draft.{skipped};
@@ -36,14 +36,6 @@ impl<'a> Text<'a> {
         ensures { self.new ≡ with_draft self.old (skipped (draft_of self.old) n) }
     {
         self.length = self.length.saturating_add(n);
-    }
-
-    /// The place after a text that was begun at `at`, as the writers over a place answer it: 2 ^ 63 at most, or `at` where
-    /// that is more.
-    pub fn next(&self, at: usize) -> usize
-        ensures { result ≡ min self.now.length (max at (2 ^ 63)) }
-    {
-        self.length.min(at.max(1 << 63))
     }
 
     /// Bytes as they are.

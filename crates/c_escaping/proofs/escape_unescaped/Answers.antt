@@ -7,16 +7,16 @@ use Rattle.c_escaping.specs.declared.bytes.BadEscape.{BadEscape}
 use Rattle.c_escaping.proofs.ResultLaws.{before_error, before_error-results}
 use Rattle.c_escaping.proofs.escape_unescaped.Goals as goal
 
-pub loop-byte-init : goal.loop-byte-init
-loop-byte-init c =
-    ap (λ (l : List (Result ℕ BadEscape)). c.args.text.now ▻ escape_bytes (before_error l)) (c.into_iter-byte-iterator.ensures.into_iter_gives ∙ c.new-byte-items.ensures)
+pub loop-unescaped-init : goal.loop-unescaped-init
+loop-unescaped-init c =
+    ap (λ (l : List (Result ℕ BadEscape)). c.args.text.now ▻ escape_bytes (before_error l)) (c.into_iter-unescaped-iterator.ensures.into_iter_gives ∙ c.new-unescaped-items.ensures)
     ∙ ap (λ (l : List ℕ). c.args.text.now ▻ escape_bytes l) (before_error-results (unescape_from c.args.s.now 0))
 
 pub returns-in_default : goal.returns-in_default
-returns-in_default c = sym (escape_bytes-none c.loop-byte.text) ∙ (rw (c.in-Some.ensures.steps, c.in_default.is) at c.loop-byte.invariant)
+returns-in_default c = sym (escape_bytes-none c.loop-unescaped.text) ∙ (rw (c.in-Some.ensures.steps, c.in_default.is) at c.loop-unescaped.invariant)
 
-pub loop-byte-preserved : goal.loop-byte-preserved
-loop-byte-preserved c = escape_bytes-more _ _ _ _ c.escape_byte.ensures ∙ (rw (c.in-Some.ensures.steps, c.in-Ok.is) at c.loop-byte.invariant)
+pub loop-unescaped-preserved : goal.loop-unescaped-preserved
+loop-unescaped-preserved c = escape_bytes-more _ _ _ _ c.escape_byte.ensures ∙ (rw (c.in-Some.ensures.steps, c.in-Ok.is) at c.loop-unescaped.invariant)
 
 pub returns : goal.returns
-returns c = sym (escape_bytes-none c.loop-byte.text) ∙ (rw c.in-None.ensures.steps.0 at c.loop-byte.invariant)
+returns c = sym (escape_bytes-none c.loop-unescaped.text) ∙ (rw c.in-None.ensures.steps.0 at c.loop-unescaped.invariant)

@@ -5,5 +5,5 @@ use Rattle.c_escaping.specs.Unescape.{unescaped}
 use Rattle.c_escaping.proofs.ResultLaws.{before_error}
 use Rattle.c_escaping.proofs.escape_unescaped.Given as goal
 
-abbrev pub invariant-loop-byte : goal.invariant-loop-byte
-invariant-loop-byte l = l.text ▻ escape_bytes (before_error l.byte-iterator) ≡ l.initial.text ▻ escape_bytes (unescaped l.s)
+abbrev pub invariant-loop-unescaped : goal.invariant-loop-unescaped
+invariant-loop-unescaped l = l.text ▻ escape_bytes (before_error l.unescaped-iterator) ≡ l.initial.text ▻ escape_bytes (unescaped l.s)

@@ -16,17 +16,17 @@ loop-record-init t c = going_start _ _ _ _ _ _ _ _ _ (search rules) c.if-left-eq
 
 pub index_in-after-requires : goal.index_in-after-requires
 index_in-after-requires t c =
-    let f = inner_fits _ _ _ _ _ _ _ _ _ _ _ c.next.new.self (record_seen c.in-Ok.record) (search rules) c.loop-record.invariant c.requires.room.0 c.requires.room.1 _ (ap length c.value_bytes-bytes.ensures) in
+    let f = inner_fits _ _ _ _ _ _ _ _ _ _ _ c.next.new.self (record_seen c.in-Ok.record) (search rules) c.loop-record.invariant c.requires.room.0 c.requires.room.1 _ (ap length c.bytes_in-bytes.ensures) in
     (omega (arith, c.decreases, c.if-left-eq0.false), (f, (c.requires.numbers.0, omega (arith, f.1))))
 
 pub made_row-requires-clause-numbers : goal.made_row-requires-clause-numbers
 made_row-requires-clause-numbers t c =
-    let f = inner_fits _ _ _ _ _ _ _ _ _ _ _ c.next.new.self (record_seen c.in-Ok.record) (search rules) c.loop-record.invariant c.requires.room.0 c.requires.room.1 _ (ap length c.value_bytes-bytes.ensures) in
+    let f = inner_fits _ _ _ _ _ _ _ _ _ _ _ c.next.new.self (record_seen c.in-Ok.record) (search rules) c.loop-record.invariant c.requires.room.0 c.requires.room.1 _ (ap length c.bytes_in-bytes.ensures) in
     (c.requires.numbers.0, c.requires.numbers.1, omega (arith, f.1, c.index_in-after.ensures.1))
 
 pub loop-record-preserved-in-loop-record : goal.loop-record-preserved-in-loop-record
 loop-record-preserved-in-loop-record t c =
-    going_node _ _ _ _ _ _ _ _ _ _ _ _ (record_seen c.in-Ok.record) (search rules) c.loop-record.invariant c.if-record-number.true _ c.value_bytes-bytes.ensures _ refl
+    going_node _ _ _ _ _ _ _ _ _ _ _ _ (record_seen c.in-Ok.record) (search rules) c.loop-record.invariant c.if-record-number.true _ c.bytes_in-bytes.ensures _ refl
     _ _ c.index_in-after.ensures.0 c.index_in-after.ensures.1 _ c.made_row.ensures _ c.put_row.ensures
 
 pub loop-record-preserved : goal.loop-record-preserved

@@ -14,11 +14,11 @@ loop-record-init c = going_start _ _ _ _ _ (search rules) c.if-set-gt32768.false
 
 pub index_in-next-requires-clause-room : goal.index_in-next-requires-clause-room
 index_in-next-requires-clause-room c =
-    file_fits _ _ _ _ _ _ _ _ c.next.new.self (record_seen c.in-Ok.record) (search rules) c.loop-record.invariant _ (ap length c.value_bytes-bytes.ensures)
+    file_fits _ _ _ _ _ _ _ _ c.next.new.self (record_seen c.in-Ok.record) (search rules) c.loop-record.invariant _ (ap length c.bytes_in-bytes.ensures)
 
 pub loop-record-preserved-in-loop-record : goal.loop-record-preserved-in-loop-record
 loop-record-preserved-in-loop-record c =
-    going_file _ _ _ _ _ _ _ _ _ (record_seen c.in-Ok.record) (search rules) c.loop-record.invariant c.if-record-eq-SET_FILE.true _ c.value_bytes-bytes.ensures
+    going_file _ _ _ _ _ _ _ _ _ (record_seen c.in-Ok.record) (search rules) c.loop-record.invariant c.if-record-eq-SET_FILE.true _ c.bytes_in-bytes.ensures
     _ _ c.index_in-next.ensures.0 c.index_in-next.ensures.1
 
 pub loop-record-preserved : goal.loop-record-preserved
