@@ -7,6 +7,8 @@ use Rattle.message_graph.specs.Leads.{leadsb}
 use Rattle.message_graph.specs.declared.Field.{Field}
 use Rattle.message_graph.specs.Rows.{message_of, fields_of, settings_of}
 use Rattle.derives.specs.declared.Derive.{Derive}
+use Rattle.derives.specs.declared.Derive.TheVariants.{Copy, Eq}
+use Rattle.derives.specs.declared.Derives.{Derives}
 use Rattle.derives.specs.Rules.{rule}
 
 -- p at each place below n
@@ -41,3 +43,8 @@ answer_of d rows = can_message_derive d (fields_of rows) (settings_of rows)
 -- the answer of a row, as `can_field_derive` gives it at the row's place
 abbrev pub row_can : Derive → List Field → Field → Bool
 row_can d rows r = rule d r.kind r.label (leadsb (fields_of rows) (message_of r.target) (message_of r.owner)) r.boxed (answer_of d rows (message_of r.target))
+
+-- the messages' answers for a trait
+abbrev pub derived : Derives → Derive → List Bool
+derived can Copy = can.copy
+derived can Eq = can.eq

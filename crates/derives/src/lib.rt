@@ -8,7 +8,7 @@ ghost use Rattle.message_graph.specs.Boxes.{boxed_by_loop};
 ghost use Rattle.message_graph.specs.Rows.{Place, message_of, fields_of};
 ghost use Rattle.message_graph.specs.Tab.{tab};
 ghost use Rattle.derives.specs.Rules.{can_field_derive_copy, can_field_derive_eq, rule, turn};
-ghost use Rattle.derives.specs.Can.{answer_of, row_can};
+ghost use Rattle.derives.specs.Can.{answer_of, derived, row_can};
 ghost use Rattle.derives.specs.Memo.{Memo, Kept, unknown};
 
 use field_types::Sort;
@@ -22,16 +22,29 @@ pub enum Derive {
 }
 
 /// For each message, whether it can derive Copy, and Eq.
+// Two columns: each is the answer of one search.
 #[derive(Drop)]
 pub struct Derives {
     pub copy: [bool; MESSAGES],
     pub eq: [bool; MESSAGES],
 }
 
+impl Derives {
+    /// For each message, whether it can derive the trait.
+    pub fn of(&self, derive: Derive) -> &[bool; MESSAGES]
+        ensures { result.now ≡ derived self.now derive }
+    {
+        match derive {
+            Derive::Copy => &self.copy,
+            Derive::Eq => &self.eq,
+        }
+    }
+}
+
 // The answers that are known. While a message's is sought, it is held to be that it cannot: what asks for it then is in a loop.
 type Memo = [Option<bool>; MESSAGES];
 
-// May what is no message be Eq, by its type?
+// May what is no message be Eq, by its type's number? As a field has it: it may be no type of descriptor.proto.
 #[tactic(auto, unfolding(field_types::specs::Types::type_eq))]
 fn type_eq(kind: u8) -> bool
     ensures { result ≡ type_eq kind }
@@ -91,71 +104,69 @@ fn fixed_answer(derive: Derive, field: Field) -> Option<bool>
     None
 }
 
-// Can the message? `depth`: how many links may still be followed from it.
-#[cycle(field_can_fields_can_message_can)]
-fn message_can(
+// What is asked for, of which graph. The known answers are passed beside it: they alone change, and each clause would have to
+// say that the rest of a struct does not.
+#[derive(Clone, Copy)]
+struct Search<'g, 'a> {
     derive: Derive,
-    graph: &Graph<'_>,
-    memo: &mut Memo,
-    message: usize,
-    depth: usize,
-) -> bool
-    requires memo { Memo derive graph.now memo.old message }
-    requires message_bound { message < messages }
-    requires sought { get_or memo.old message None ≡ Some false → answer_of derive graph.now message ≡ false }
-    requires memo_bound { unknown memo.old ≤ depth }
-    ensures value { result ≡ answer_of derive graph.now message }
-    ensures kept { Kept derive graph.now memo.old memo.new }
-{
-    if let Some(known) = memo[message] {
-        return known;
-    }
-    memo[message] = Some(false);
-    let can = fields_can(derive, graph, memo, message, depth);
-    memo[message] = Some(can);
-    can
+    graph: &'g Graph<'a>,
 }
 
-// Can each field of the message?
-#[cycle(field_can_fields_can_message_can)]
-fn fields_can(
-    derive: Derive,
-    graph: &Graph<'_>,
-    memo: &mut Memo,
-    message: usize,
-    depth: usize,
-) -> bool
-    requires memo { Memo derive graph.now memo.old message }
-    requires message_bound { message < messages }
-    requires memo_bound { unknown memo.old < depth }
-    ensures value { result ≡ answer_of derive graph.now message }
-    ensures kept { Kept derive graph.now memo.old memo.new }
-{
-    let fields = graph.fields_of(message);
-    for field in fields {
-        if message_graph::place_of(field.owner) == message
-            && !field_can(derive, graph, memo, *field, depth)
-        {
-            return false;
+impl Search<'_, '_> {
+    // Can the message? `depth`: how many links may still be followed from it.
+    #[cycle(field_can_fields_can_message_can)]
+    fn message_can(&self, memo: &mut Memo, message: usize, depth: usize) -> bool
+        requires memo { Memo self.now.derive self.now.graph.now memo.old message }
+        requires message_bound { message < messages }
+        requires sought { get_or memo.old message None ≡ Some false → answer_of self.now.derive self.now.graph.now message ≡ false }
+        requires memo_bound { unknown memo.old ≤ depth }
+        ensures value { result ≡ answer_of self.now.derive self.now.graph.now message }
+        ensures kept { Kept self.now.derive self.now.graph.now memo.old memo.new }
+    {
+        if let Some(known) = memo[message] {
+            return known;
         }
+        memo[message] = Some(false);
+        let can = self.fields_can(memo, message, depth);
+        memo[message] = Some(can);
+        can
     }
-    true
-}
 
-// Can a field of the graph, by the message that is its type?
-#[cycle(field_can_fields_can_message_can)]
-fn field_can(derive: Derive, graph: &Graph<'_>, memo: &mut Memo, field: Field, depth: usize) -> bool
-    requires place { Place graph.now field }
-    requires memo { Memo derive graph.now memo.old (message_of field.owner) }
-    requires memo_bound { unknown memo.old < depth }
-    ensures value { result ≡ row_can derive graph.now field }
-    ensures kept { Kept derive graph.now memo.old memo.new }
-{
-    match fixed_answer(derive, field) {
-        Some(can) => can,
-        None => {
-            let target = message_graph::place_of(field.target);
-            message_can(derive, graph, memo, target, depth - 1)
+    // Can each field of the message?
+    #[cycle(field_can_fields_can_message_can)]
+    fn fields_can(&self, memo: &mut Memo, message: usize, depth: usize) -> bool
+        requires memo { Memo self.now.derive self.now.graph.now memo.old message }
+        requires message_bound { message < messages }
+        requires memo_bound { unknown memo.old < depth }
+        ensures value { result ≡ answer_of self.now.derive self.now.graph.now message }
+        ensures kept { Kept self.now.derive self.now.graph.now memo.old memo.new }
+    {
+        let fields = self.graph.fields_of(message);
+        for field in fields {
+            if message_graph::place_of(field.owner) == message
+                && !self.field_can(memo, *field, depth)
+            {
+                return false;
+            }
+        }
+        true
+    }
+
+    // Can a field of the graph, by the message that is its type?
+    #[cycle(field_can_fields_can_message_can)]
+    fn field_can(&self, memo: &mut Memo, field: Field, depth: usize) -> bool
+        requires place { Place self.now.graph.now field }
+        requires memo { Memo self.now.derive self.now.graph.now memo.old (message_of field.owner) }
+        requires memo_bound { unknown memo.old < depth }
+        ensures value { result ≡ row_can self.now.derive self.now.graph.now field }
+        ensures kept { Kept self.now.derive self.now.graph.now memo.old memo.new }
+    {
+        match fixed_answer(self.derive, field) {
+            Some(can) => can,
+            None => {
+                let target = message_graph::place_of(field.target);
+                self.message_can(memo, target, depth - 1)
+            }
         }
     }
 }
@@ -164,12 +175,13 @@ fn field_can(derive: Derive, graph: &Graph<'_>, memo: &mut Memo, field: Field, d
 fn answers(derive: Derive, graph: &Graph<'_>) -> [bool; MESSAGES]
     ensures { result ≡ tab messages (answer_of derive graph.now) }
 {
+    let search = Search { derive, graph };
     let mut memo = [None; MESSAGES];
     let mut can = [true; MESSAGES];
     let fields = graph.fields();
     for field in fields {
         let owner = message_graph::place_of(field.owner);
-        can[owner] = message_can(derive, graph, &mut memo, owner, MESSAGES);
+        can[owner] = search.message_can(&mut memo, owner, MESSAGES);
     }
     can
 }

@@ -12,11 +12,13 @@ use Rattle.base.specs.Choose.{choose}
 use Rattle.base.specs.Bytes.{same}
 use Rattle.options.specs.Settings.{Setting}
 use Rattle.std.specs.Str.{bytes_eq}
+use Rattle.std.specs.List.{list_any}
 use Rattle.path.proofs.FormLaws.{same_bytes}
 use Rattle.path.specs.Forms.{among}
 use Rattle.split.specs.Split.{begins, split_behind, split}
 use Rattle.extern_paths.specs.ExternPaths.{extern, prost_types}
-use Rattle.extern_paths.specs.ProstTypes.{path_words}
+use Rattle.extern_paths.specs.Seen.{paths_of}
+use Rattle.extern_paths.specs.declared.prost_types.ProstType.{ProstType}
 use Rattle.base.specs.Lists.{any}
 use Rattle.extern_checks.specs.Doubles.{has_gap, valid_path, prost_type_paths, lists, doubled, at_fault, externs_from, externs}
 use Rattle.base.specs.declared.refusal.Refusal.TheVariants.{ExternPath}
@@ -28,9 +30,10 @@ or_none true = refl
 or_none false = refl
 
 -- ---- the paths of prost types
-pub prost_words : path_words ≡ prost_type_paths
-unfolding path_words split split_behind begins choose prost_type_paths prost_types
-prost_words = refl
+pub any_types : (x : List ℕ) (types : List ProstType) → list_any (λ (t : ProstType). bytes_eq x t.path.now) types ≡ among x (paths_of types)
+unfolding among
+any_types x [] = refl
+any_types x (t ∷ types) = rw (any_types x types, same_bytes x t.path.now) refl
 
 -- they are valid
 prost_valid : any (λ (x : List ℕ). not (valid_path x)) prost_type_paths ≡ false

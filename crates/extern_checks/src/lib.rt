@@ -5,12 +5,13 @@ ghost use Rattle.std.specs.Prelude.{◌≡◌, not, take};
 ghost use Rattle.base.specs.Lists.{any};
 ghost use Rattle.options.specs.Rows.{row_seen};
 ghost use Rattle.path.specs.Forms.{among};
+ghost use Rattle.extern_paths.specs.Seen.{paths_of};
 ghost use Rattle.extern_checks.specs.Doubles.{has_gap, valid_path, prost_type_paths, lists, doubled, at_fault, externs};
 
 use base::refusal::Refusal;
-use extern_paths::prost_types::PATHS;
+use extern_paths::prost_types::{PROST_TYPES, ProstType};
 use options::{Kind, Options, Row};
-use split::{Parts, Separator, is_word};
+use split::{Parts, Separator};
 
 /// Has the path an empty segment behind a `.`?
 fn has_gap(path: &[u8]) -> bool
@@ -29,11 +30,19 @@ fn is_valid(path: &[u8]) -> bool
     path.starts_with(b".") && !has_gap(path)
 }
 
+/// Is x the path of one of some prost types?
+fn is_among(types: &[ProstType], x: &[u8]) -> bool
+    ensures { result ≡ among x.now (paths_of types.now) }
+{
+    types.iter().any(|prost| x == prost.path)
+}
+
 /// Is x one of the eleven paths of prost types?
+#[tactic(auto, unfolding(crate::specs::Doubles::prost_type_paths, extern_paths::specs::ExternPaths::prost_types))]
 fn is_prost_type(x: &[u8]) -> bool
     ensures { result ≡ among x.now prost_type_paths }
 {
-    is_word(&PATHS, x)
+    is_among(&PROST_TYPES, x)
 }
 
 /// Does the row list an invalid path?

@@ -1,26 +1,23 @@
 -- What is written by one extern path, and by one of prost types. Assumes nothing.
-use mathlib.Core.Path.{◌≡◌, refl, sym, ◌∙◌}
+use mathlib.Core.Path.{◌≡◌, refl, sym, ap, ◌∙◌}
 use mathlib.Core.Bool.{Bool, true, false}
-use mathlib.Core.List.{List, [], ◌∷◌, ◌++◌, append-nil}
-use Prim.Native.Nat.{ℕ, zero, suc, ◌+◌}
+use mathlib.Core.List.{List, [], ◌∷◌, ◌++◌, map}
+use Prim.Native.Nat.{ℕ, zero, suc, min, ◌+◌, ◌-◌, ◌<◌, ◌≤◌}
 use native.Mathlib.Omega.{arith}
-use lib.ListN.{length, take, drop, get_or}
+use lib.ListN.{length, take, drop, get_or, length-drop}
+use lib.Seq.{take_all}
 use Rattle.base.specs.Choose.{choose}
-use Rattle.base.specs.Lists.{is_empty}
-use Rattle.base.specs.Tests.{or_right}
+use Rattle.base.specs.Tests.{and_left, and_right}
 use Rattle.base.specs.Bytes.{b}
-use Rattle.split.specs.Split.{split, first_part}
-use Rattle.split.proofs.SplitLaws.{begins_starts, parts_behind, split_is}
+use Rattle.split.specs.Split.{begins, split, first_part}
+use Rattle.split.proofs.SplitLaws.{parts_behind, split_is}
 use Rattle.std.specs.Str.{bytes_eq}
-use Rattle.std.specs.List.{slice_get}
-use Rattle.std.specs.Option.{option_copied}
-use Rattle.std.proofs.Common.{Option, Some, None, Bor, unwrap_or}
+use Rattle.std.specs.List.{list_all}
 use Rattle.path.proofs.FormLaws.{same_bytes}
 use Rattle.rust_paths.specs.Segments.{behind_prefix, extern_text}
 use Rattle.rust_paths.specs.Parts.{led_parts, path_text, is_tail}
-use Rattle.rust_paths.proofs.PartLaws.{text_more}
+use Rattle.rust_paths.proofs.PartLaws.{text_more, drop_within}
 use Rattle.extern_paths.specs.ExternPaths.{extern, resolve_by}
-use Rattle.extern_paths.specs.ProstTypes.{prost_type, path_words, value_words, prost_type_number}
 
 -- ---- by an extern path
 module _ (path value ident : List ℕ) (r : Bool) (q : r ≡ bytes_eq path ident) where
@@ -34,41 +31,37 @@ module _ (path value ident : List ℕ) (r : Bool) (q : r ≡ bytes_eq path ident
       let n = first_part (b "::") value in
       rw (← same_bytes path ident, ← q, t, split_is (b "::") value (omega arith)) (sym (text_more (parts_behind (b "::") n value) (take n value) (behind_prefix (split (b ".") (drop (length path + 1) ident)))))
 
--- ---- the value of a prost type, by its word
 pub tail_none : is_tail [] ≡ true
 unfolding is_tail
 tail_none = refl
 
-pub tail_led : (q : List ℕ) → bytes_eq (58 ∷ 58 ∷ []) (take 2 q) ≡ true → is_tail q ≡ true
-unfolding is_tail
-tail_led q t = or_right (is_empty q) (begins_starts (58 ∷ 58 ∷ []) q ∙ t)
+-- ---- a prost type by its number
+pub type_here : {A B : Type 0} (f : A → B) (xs : List A) (j : ℕ) (z : B) (x : A) → j < length xs → x ≡ get_or xs j x → f x ≡ get_or (map f xs) j z
+type_here f [] j z x h e = absurd (omega arith)
+type_here f (y ∷ xs) zero z x h e = ap f e
+type_here f (y ∷ xs) (suc j) z x h e = type_here f xs j z x (omega arith) e
 
-module _ (p v path value : List ℕ) where
-  pub word_own : bytes_eq value (45 ∷ []) ≡ true → prost_type p v path value ≡ extern path (v ++ [])
-  unfolding prost_type choose
-  word_own t = rw (← same_bytes value (45 ∷ []), t, append-nil) refl
+pub type_past : {A B : Type 0} (f : A → B) (xs : List A) (j : ℕ) (z : B) → length xs ≤ j → z ≡ get_or (map f xs) j z
+type_past f [] j z h = refl
+type_past f (y ∷ xs) zero z h = absurd (omega arith)
+type_past f (y ∷ xs) (suc j) z h = type_past f xs j z (omega arith)
 
-  module _ (n : bytes_eq value (45 ∷ []) ≡ false) where
-    pub word_led : bytes_eq (58 ∷ 58 ∷ []) (take 2 value) ≡ true → prost_type p v path value ≡ extern path (p ++ value)
-    unfolding prost_type choose
-    word_led t = rw (← same_bytes value (45 ∷ []), n, begins_starts (58 ∷ 58 ∷ []) value, t) refl
+-- what follows the prost path, type by type
+abbrev pub tails : List (List ℕ)
+tails = [] ∷ [] ∷ b "::alloc::vec::Vec<u8>" ∷ [] ∷ [] ∷ [] ∷ [] ∷ [] ∷ b "::alloc::string::String" ∷ [] ∷ [] ∷ []
 
-    pub word_plain : bytes_eq (58 ∷ 58 ∷ []) (take 2 value) ≡ false → prost_type p v path value ≡ extern path (value ++ [])
-    unfolding prost_type choose
-    word_plain t = rw (← same_bytes value (45 ∷ []), n, begins_starts (58 ∷ 58 ∷ []) value, t, append-nil) refl
+tails_good : list_all is_tail tails ≡ true
+unfolding is_tail begins
+tails_good = refl
 
-pub ruleset types = (tail_none, tail_led, word_own, word_led, word_plain)
-
-pub number_is : (p v : List ℕ) (j : ℕ) (x y : List ℕ) → x ≡ get_or path_words j [] → y ≡ get_or value_words j [] → prost_type p v x y ≡ prost_type_number p v j
-unfolding prost_type_number
-number_is p v j x y e f = rw (e, f) refl
-
-pub word_or : (xs : List (List ℕ)) (j : ℕ) (o : Option (Bor (List ℕ))) (d r : Bor (List ℕ)) → r ≡ unwrap_or o d → d.now ≡ [] → option_copied o ≡ slice_get xs j → r.now ≡ get_or xs j []
-word_or xs j o d r e n h = rw e (go xs j o n h)
+pub tail_at : (j : ℕ) (q : List ℕ) → q ≡ get_or tails j [] → is_tail q ≡ true
+tail_at j q e = rw e (go tails tails_good j)
   where
-    go : (xs : List (List ℕ)) (j : ℕ) (o : Option (Bor (List ℕ))) → d.now ≡ [] → option_copied o ≡ slice_get xs j → (unwrap_or o d).now ≡ get_or xs j []
-    go [] j None n h = n
-    go [] j (Some x) n h = cc
-    go (x ∷ xs) zero None n h = cc
-    go (x ∷ xs) zero (Some y) n h = cc
-    go (x ∷ xs) (suc j) o n h = go xs j o n h
+    go : (xs : List (List ℕ)) → list_all is_tail xs ≡ true → (j : ℕ) → is_tail (get_or xs j []) ≡ true
+    go [] h j = tail_none
+    go (x ∷ xs) h zero = and_left (is_tail x) (list_all is_tail xs) h
+    go (x ∷ xs) h (suc j) = go xs (and_right (is_tail x) (list_all is_tail xs) h) j
+
+-- what is written behind a prefix
+pub behind_is : (s : List ℕ) (at from : ℕ) → from ≡ min at (length s) → take (length s - from) (drop from s) ≡ drop at s
+behind_is s at from e = take_all (length s - from) (drop from s) (rw length-drop (omega arith)) ∙ drop_within s at from e

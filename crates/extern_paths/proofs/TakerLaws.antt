@@ -1,6 +1,6 @@
 -- Which extern path takes a name, as the code searches: the rows, then the words of prost types. Assumes nothing.
 use mathlib.Core.Path.{◌≡◌, refl, sym, ap, ◌∙◌}
-use mathlib.Core.Bool.{Bool, true, false, not}
+use mathlib.Core.Bool.{Bool, true, false, not, ◌||◌}
 use mathlib.Core.List.{List, [], ◌∷◌, ◌++◌, append-nil}
 use Prim.Native.Nat.{ℕ, zero, suc, ◌+◌, ◌-◌, ◌^◌, ◌≤◌, ◌<◌}
 use native.Mathlib.Omega.{arith}
@@ -13,18 +13,19 @@ use Rattle.base.specs.Choose.{choose, choose_case}
 use Rattle.base.specs.Bytes.{same}
 use Rattle.options.specs.Settings.{Setting, value_of, prost_path}
 use Rattle.options.specs.Rows.{is_of}
-use Rattle.std.proofs.Common.{Option, Some, None, if◌then◌else◌}
-use Rattle.std.specs.List.{find, slice_get}
+use Rattle.std.proofs.Common.{Option, Some, None, is_some, if◌then◌else◌}
+use Rattle.base.specs.Tests.{both_ways}
+use Rattle.std.specs.List.{find, list_any, slice_get}
 use Rattle.std.proofs.Math.Option as Math
 use Rattle.std.proofs.Math.Option.{some, none}
-use Rattle.options.specs.declared.Found.{Found}
+use Rattle.options.specs.Found.{Found}
 use Rattle.path.specs.PathMap.{find_best}
 use Rattle.path.specs.Worth.{Form, weighed, worth_in, worth_of, improve, best_of, none_yet, found_of}
 use Rattle.path.specs.declared.Best.{Best}
 use Rattle.path.proofs.BestLaws.{found_best, weighed_below, few_forms}
 use Rattle.split.specs.Split.{begins, split_behind, split}
 use Rattle.extern_paths.specs.ExternPaths.{extern, prost_types, if_given, extern_paths, taker, taken, resolve_by, resolve_ident}
-use Rattle.extern_paths.specs.ProstTypes.{best_word, prost_type, path_words, value_words, prost_type_number}
+use Rattle.extern_paths.specs.ProstTypes.{best_word, prost_type, path_words, value_words}
 
 -- ---- the table of prost types
 -- the extern paths of two lists of words
@@ -46,17 +47,6 @@ unfolding best_of best_word worth_of prost_type choose
 best_zipped p v fs m i [] ys e = refl
 best_zipped p v fs m i (x ∷ xs) [] e = absurd (omega arith)
 best_zipped p v fs m i (x ∷ xs) (y ∷ ys) e = best_zipped p v fs (improve m i (worth_in fs x)) (i + 1) xs ys (omega arith)
-
-no_words : (p v : List ℕ) → extern [] [] ≡ prost_type p v [] []
-unfolding prost_type same begins choose
-no_words p v = refl
-
-zipped_at : (p v : List ℕ) (xs ys : List (List ℕ)) (j : ℕ) → length xs ≡ length ys → get_or (zipped p v xs ys) j (extern [] []) ≡ prost_type p v (get_or xs j []) (get_or ys j [])
-zipped_at p v [] [] j e = no_words p v
-zipped_at p v [] (y ∷ ys) j e = absurd (omega arith)
-zipped_at p v (x ∷ xs) [] j e = absurd (omega arith)
-zipped_at p v (x ∷ xs) (y ∷ ys) zero e = refl
-zipped_at p v (x ∷ xs) (y ∷ ys) (suc j) e = zipped_at p v xs ys j (omega arith)
 
 -- ---- the rows, then prost types
 best_append : (fs : List Form) (kind : ℕ) (m : Best) (i : ℕ) (rs qs : List Setting) → best_of fs kind m i (rs ++ qs) ≡ best_of fs kind (best_of fs kind m i rs) (i + length rs) qs
@@ -91,6 +81,14 @@ own_found kind (r ∷ rs) = go (is_of kind r) _ _ (own_found kind rs)
     go true o q e = refl
     go false o q e = e
 
+any_found : (p : Setting → Bool) (rs : List Setting) → list_any p rs ≡ is_some (find p rs)
+any_found p [] = refl
+any_found p (r ∷ rs) = go (p r) _ _ (any_found p rs)
+  where
+    go : (t u : Bool) (o : Option Setting) → u ≡ is_some o → (t || u) ≡ is_some (if t then Some r else o)
+    go true u o e = refl
+    go false u o e = e
+
 module _ (rs : List Setting) where
   without : find (is_of 12) rs ≡ None → extern_paths rs ≡ rs
   unfolding extern_paths
@@ -100,15 +98,25 @@ module _ (rs : List Setting) where
   unfolding extern_paths
   with_types r e = rw (own_found 12 rs, e) refl
 
-  pub best_rows : (fs : List Form) → find (is_of 12) rs ≡ None → best_of fs 1 none_yet 0 (extern_paths rs) ≡ best_of fs 1 none_yet 0 rs
-  best_rows fs e = rw (without e) refl
+  pub best_rows : (fs : List Form) → list_any (is_of 12) rs ≡ false → best_of fs 1 none_yet 0 (extern_paths rs) ≡ best_of fs 1 none_yet 0 rs
+  best_rows fs h = on (find (is_of 12) rs) refl
+    where
+      on : (o : Option Setting) → find (is_of 12) rs ≡ o → best_of fs 1 none_yet 0 (extern_paths rs) ≡ best_of fs 1 none_yet 0 rs
+      on None e = rw (without e) refl
+      on (Some r) e = both_ways (any_found (is_of 12) rs ∙ ap is_some e) h
 
-  pub best_all : (fs : List Form) (r : Setting) → find (is_of 12) rs ≡ Some r → best_of fs 1 none_yet 0 (extern_paths rs) ≡ best_word fs (best_of fs 1 none_yet 0 rs) (length rs) path_words
-  best_all fs r e =
-      let prost = prost_path rs in
-      rw (with_types r e, table prost r.value, best_append fs 1 none_yet 0 rs (zipped prost r.value path_words value_words), best_zipped prost r.value fs (best_of fs 1 none_yet 0 rs) (0 + length rs) path_words value_words words, zero-add) refl
+  pub best_all : (fs : List Form) → list_any (is_of 12) rs ≡ true → best_of fs 1 none_yet 0 (extern_paths rs) ≡ best_word fs (best_of fs 1 none_yet 0 rs) (length rs) path_words
+  best_all fs h = on (find (is_of 12) rs) refl
+    where
+      on : (o : Option Setting) → find (is_of 12) rs ≡ o → best_of fs 1 none_yet 0 (extern_paths rs) ≡ best_word fs (best_of fs 1 none_yet 0 rs) (length rs) path_words
+      on None e = both_ways h (any_found (is_of 12) rs ∙ ap is_some e)
+      on (Some r) e =
+          let prost = prost_path rs in
+          rw (with_types r e, table prost r.value, best_append fs 1 none_yet 0 rs (zipped prost r.value path_words value_words), best_zipped prost r.value fs (best_of fs 1 none_yet 0 rs) (0 + length rs) path_words value_words words, zero-add) refl
 
-pub ruleset bests = (best_rows, best_all)
+-- the paths of the table, as the code goes through them
+pub best_types : (fs : List Form) (m old : Best) (n : ℕ) (rs : List Setting) (paths : List (List ℕ)) → m ≡ best_word fs old n paths → old ≡ best_of fs 1 none_yet 0 rs → n ≡ length rs → paths ≡ path_words → m ≡ best_word fs (best_of fs 1 none_yet 0 rs) (length rs) path_words
+best_types fs m old n rs paths e f k t = e ∙ rw (t, f, k) refl
 
 -- ---- what the search finds
 module _ (rs : List Setting) (ident : List ℕ) (l : length ident < 2 ^ 63) (m : Best) (e : m ≡ best_of (weighed false ident) 1 none_yet 0 (extern_paths rs)) where
@@ -137,12 +145,10 @@ module _ (rs : List Setting) (ident : List ℕ) (l : length ident < 2 ^ 63) (m :
   number_within z = let h : Among (0 + length (extern_paths rs)) m = rw e (best_among (weighed false ident) 1 none_yet 0 (extern_paths rs) (λ n. absurd (n refl))) in let k : m.number < 0 + length (extern_paths rs) = h z in omega arith
 
 -- ---- the extern path of a number
-type_at : (rs : List Setting) (p v : List ℕ) (j n : ℕ) → length rs ≡ n → n ≤ j → get_or (rs ++ prost_types p v) j (extern [] []) ≡ prost_type_number p v (j - n)
-unfolding prost_type_number
-type_at rs p v j n e h =
+type_at : (rs qs : List Setting) (j n : ℕ) → length rs ≡ n → n ≤ j → get_or (rs ++ qs) j (extern [] []) ≡ get_or qs (j - n) (extern [] [])
+type_at rs qs j n e h =
     let k : j ≡ length rs + (j - n) = omega arith in
-    ap (λ (i : ℕ). get_or (rs ++ prost_types p v) i (extern [] [])) k ∙ get_or-append-add rs (prost_types p v) (j - n) (extern [] [])
-    ∙ rw (table p v) (zipped_at p v path_words value_words (j - n) words)
+    ap (λ (i : ℕ). get_or (rs ++ qs) i (extern [] [])) k ∙ get_or-append-add rs qs (j - n) (extern [] [])
 
 pub found_row : (rs : List Setting) (j : ℕ) → j < length rs → slice_get rs j ≡ Some (get_or rs j (extern [] []))
 found_row [] j h = absurd (omega arith)
@@ -167,6 +173,6 @@ module _ (rs : List Setting) (ident : List ℕ) (l : length ident < 2 ^ 63) (m :
   pub types_there : length rs ≤ m.number → find (is_of 12) rs ≡ None → ⊥
   types_there h n = let k : m.number < length (extern_paths rs) = number_within rs ident l m e z in let q : length (extern_paths rs) ≡ length rs = ap length (without rs n) in omega arith
 
-  pub resolved_type : length rs ≤ m.number → (r : Setting) → find (is_of 12) rs ≡ Some r → (x : Setting) → x ≡ prost_type_number (prost_path rs) r.value (m.number - length rs) → resolve_by x ident ≡ resolve_ident rs ident
+  pub resolved_type : length rs ≤ m.number → (r : Setting) → find (is_of 12) rs ≡ Some r → (x : Setting) → x ≡ get_or (prost_types (prost_path rs) r.value) (m.number - length rs) (extern [] []) → resolve_by x ident ≡ resolve_ident rs ident
   resolved_type h r q x w =
-      rw (resolves rs ident l m e z, with_types rs r q, type_at rs (prost_path rs) r.value m.number (length rs) refl h, w) refl
+      rw (resolves rs ident l m e z, with_types rs r q, type_at rs (prost_types (prost_path rs) r.value) m.number (length rs) refl h, w) refl

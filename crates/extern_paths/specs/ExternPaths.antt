@@ -4,7 +4,7 @@ use Rattle.std.proofs.Math.Option.{Option, some, none}
 use Rattle.base.specs.Choose.{choose}
 use Rattle.base.specs.Bytes.{b, same}
 use Rattle.options.specs.Settings.{Setting, value_of, prost_path}
-use Rattle.options.specs.declared.Found.{Found}
+use Rattle.options.specs.Found.{Found}
 use Rattle.path.specs.Forms.{prefixes}
 use Rattle.path.specs.PathMap.{find_best}
 use Rattle.split.specs.Split.{split}

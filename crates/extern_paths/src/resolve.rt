@@ -1,21 +1,19 @@
 //! What extern paths make of a full name: whether one takes it, and what is written for it.
-ghost use Rattle.std.specs.Prelude.{◌≡◌, true, false, ◌++◌, ◌+◌, ◌^◌, ◌<◌, ◌≤◌, length, IfSome, IfNone, []};
+ghost use Rattle.std.specs.Prelude.{◌≡◌, true, false, ◌++◌, ◌+◌, ◌^◌, ◌<◌, ◌≤◌, length, IfSome, IfNone, [], map, get_or};
 ghost use Rattle.base.specs.Bytes.{b};
 ghost use Rattle.writer.specs.Writing.{◌▻◌};
 ghost use Rattle.options.specs.Settings.{prost_path};
 ghost use Rattle.path.specs.Worth.{weighed, best_of, none_yet};
-ghost use Rattle.split.specs.Split.{split};
 ghost use Rattle.rust_paths.specs.Segments.{extern_text};
 ghost use Rattle.rust_paths.specs.Parts.{is_tail};
 ghost use Rattle.extern_paths.specs.ExternPaths.{extern, extern_paths, taken, resolve_by, resolve_ident};
-ghost use Rattle.extern_paths.specs.ProstTypes.{best_word, prost_type, prost_type_number};
-ghost use Rattle.extern_paths.specs.Seen.{extern_seen};
+ghost use Rattle.extern_paths.specs.ProstTypes.{best_word};
+ghost use Rattle.extern_paths.specs.Seen.{extern_seen, paths_of, type_seen, type_tail};
 
-use crate::prost_types::{PATHS, VALUES};
+use crate::prost_types::{PROST_TYPES, ProstType, Value};
 use options::{Kind, Options};
 use path::Best;
 use rust_paths::{put_behind, put_rust_path};
-use split::{Parts, Separator, word};
 use writer::Text;
 
 /// An extern path: the full name or prefix that it takes, and what stands for that in Rust, in two pieces. The second piece is
@@ -27,28 +25,28 @@ pub struct ExternPath<'a> {
     pub tail: &'a [u8],
 }
 
-/// The best word of s as a form of a name, numbered from `first` on, if it is better than the best so far.
+/// The best of some prost types as a form of a name, numbered from `first` on, if it is better than the best so far.
 #[tactic(auto, unfolding(crate::specs::ProstTypes::best_word))]
-fn best_word(s: &[u8], best: Best, first: usize, ident: &[u8]) -> Best
-    requires { first + length s.now < 2 ^ 32 }
-    ensures { result ≡ best_word (weighed false ident.now) best first (split (b " ") s.now) }
+fn best_type(types: &[ProstType], best: Best, first: usize, ident: &[u8]) -> Best
+    requires { first + length types.now < 2 ^ 32 }
+    ensures { result ≡ best_word (weighed false ident.now) best first (paths_of types.now) }
 {
     let mut most = best;
-    for (number, path) in Parts::new(s, Separator::Blank).enumerate() {
-        most = most.improved(first + number, path::worth(ident, false, path));
+    for (number, prost) in types.iter().enumerate() {
+        most = most.improved(first + number, path::worth(ident, false, prost.path));
     }
     most
 }
 
 /// The extern path that is worth most for a name, the rows before prost types.
-#[tactic(auto, unfolding(crate::specs::ProstTypes::path_words), using(crate::proofs::TakerLaws::bests))]
 fn best_extern(options: &Options<'_>, ident: &[u8]) -> Best
     ensures { result ≡ best_of (weighed false ident.now) 1 none_yet 0 (extern_paths options.now) }
 {
     let best = path::best_row(options, Kind::ExternPath.number(), ident, false);
-    match options.find(Kind::ProstTypes) {
-        Some(_) => best_word(&PATHS, best, options.row_count(), ident),
-        None => best,
+    if options.has(Kind::ProstTypes) {
+        best_type(&PROST_TYPES, best, options.row_count(), ident)
+    } else {
+        best
     }
 }
 
@@ -60,46 +58,41 @@ pub fn takes(options: &Options<'_>, ident: &[u8]) -> bool
     best_extern(options, ident).worth != 0
 }
 
-/// A prost type by its path and its word for the value; `own` is where prost types stand in Rust.
-#[tactic(auto, using(crate::proofs::ByLaws::types))]
-fn prost_type<'a>(
-    options: &Options<'a>,
-    own: &'a [u8],
-    path: &'a [u8],
-    value: &'a [u8],
-) -> ExternPath<'a>
-    ensures is { extern_seen result ≡ prost_type (prost_path options.now) own.now path.now value.now }
-    ensures tail { is_tail result.tail.now ≡ true }
+/// The extern path of a prost type; `own` is where prost types stand in Rust.
+fn prost_type<'a>(options: &Options<'a>, own: &'a [u8], by: ProstType) -> ExternPath<'a>
+    ensures is { extern_seen result ≡ type_seen (prost_path options.now) own.now by }
+    ensures tail { result.tail.now ≡ type_tail by.value }
 {
-    if value == b"-".as_slice() {
-        ExternPath {
-            path,
-            value: own,
-            tail: b"",
-        }
-    } else if value.starts_with(b"::") {
-        ExternPath {
-            path,
-            value: options.prost_path(),
-            tail: value,
-        }
-    } else {
-        ExternPath {
-            path,
-            value,
-            tail: b"",
-        }
+    let (value, tail): (&'a [u8], &'a [u8]) = match by.value {
+        Value::Own => (own, b""),
+        Value::Plain(value) => (value, b""),
+        Value::InProst(tail) => (options.prost_path(), tail),
+    };
+    ExternPath {
+        path: by.path,
+        value,
+        tail,
     }
 }
 
-/// Prost type j.
-fn numbered_prost_type<'a>(options: &Options<'a>, own: &'a [u8], j: usize) -> ExternPath<'a>
-    ensures is { extern_seen result ≡ prost_type_number (prost_path options.now) own.now j }
-    ensures tail { is_tail result.tail.now ≡ true }
+/// The extern path of type j of some prost types; past their end, of nothing.
+fn numbered_prost_type<'a>(
+    options: &Options<'a>,
+    own: &'a [u8],
+    types: &[ProstType],
+    j: usize,
+) -> ExternPath<'a>
+    ensures is { extern_seen result ≡ get_or (map (type_seen (prost_path options.now) own.now) types.now) j (extern [] []) }
+    ensures tail { result.tail.now ≡ get_or (map (λ t. type_tail t.value) types.now) j [] }
 {
-    let path = word(&PATHS, j).unwrap_or(&[]);
-    let value = word(&VALUES, j).unwrap_or(&[]);
-    prost_type(options, own, path, value)
+    match types.get(j) {
+        Some(by) => prost_type(options, own, *by),
+        None => ExternPath {
+            path: b"",
+            value: b"",
+            tail: b"",
+        },
+    }
 }
 
 /// The extern path that takes a full name, if one does.
@@ -114,6 +107,7 @@ pub fn find<'a>(options: &Options<'a>, ident: &[u8]) -> Option<ExternPath<'a>>
     if best.worth == 0 {
         return None;
     }
+    // the definitions number the rows and the prost types in one list
     let count = options.row_count();
     if best.number < count {
         let row = options.row(best.number)?;
@@ -124,7 +118,8 @@ pub fn find<'a>(options: &Options<'a>, ident: &[u8]) -> Option<ExternPath<'a>>
         });
     }
     let own = options.find(Kind::ProstTypes)?.value;
-    Some(numbered_prost_type(options, own, best.number - count))
+    let number = best.number - count;
+    Some(numbered_prost_type(options, own, &PROST_TYPES, number))
 }
 
 /// Writes what stands for a name that this extern path takes.
@@ -136,8 +131,8 @@ pub fn put_by(text: &mut Text<'_>, by: &ExternPath<'_>, ident: &[u8])
         text.put(by.tail);
     } else {
         put_rust_path(text, by.value, by.tail);
-        let behind = by.path.len() + 1;
-        put_behind(text, ident, behind);
+        let behind = (by.path.len() + 1).min(ident.len());
+        put_behind(text, &ident[behind..]);
     }
 }
 

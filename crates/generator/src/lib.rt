@@ -8,6 +8,8 @@ ghost use Rattle.calls.specs.NameCall.{name_call};
 
 use base::refusal::Returned;
 
+// Numbers for refusals, and lengths beside arrays: document 01's C signatures.
+
 // The text call: 0 or the refusal's number is returned, and the length or the place is left in `place`.
 #[tactic(auto, unfolding(calls::specs::TextCall::text_call))]
 #[unsafe(no_mangle)]

@@ -4,8 +4,6 @@
 //! oracle/graph_cases made these sets; what is to be printed of them is the Rust's answer, and of the large sets that of cases.py.
 #![tactic(auto)]
 
-ghost use Rattle.std.specs.Prelude.{◌≤◌, length, IfOk};
-
 use message_graph::{Field, NO_FIELD};
 use std::io;
 use std::io::{Read, Write};
@@ -15,36 +13,91 @@ const LARGE: usize = 2048;
 
 const SMALL: usize = 64;
 
-// Types: in a ring all message (0, 5), or group (4); in a chain the last message's fields are int32 (1, 6, 7), float (2) or string (3).
-fn kind_at(case: usize, i: usize) -> u8 {
-    match case {
-        4 => 10,
-        1 | 6 | 7 if i >= 2040 => 5,
-        2 if i >= 2040 => 2,
-        3 if i >= 2040 => 9,
-        _ => 11,
-    }
-}
+// How many sets the input has.
+const SETS: usize = 250;
 
-// Labels: all repeated (5), or the last message's (6).
-fn label_at(case: usize, i: usize) -> u8 {
-    match case {
-        5 => 3,
-        6 if i >= 2040 => 3,
-        _ => 1,
-    }
-}
+// Types and labels, as descriptor.proto has them.
+const FLOAT: u8 = 2;
+
+const INT32: u8 = 5;
+
+const STRING: u8 = 9;
+
+const GROUP: u8 = 10;
+
+const MESSAGE: u8 = 11;
+
+const OPTIONAL: u8 = 1;
+
+const REPEATED: u8 = 3;
 
 // The messages of a large set lie in a row, with eight fields each. Each field leads to the next message, and those of the last
-// message to the first. The first field of message 100 has a boxed setting (7).
-fn large_field(case: usize, i: usize) -> Field {
+// message to the first.
+#[derive(Clone, Copy)]
+struct LargeSet {
+    kind: u8,
+    label: u8,
+    // The same of the last message's fields.
+    last_kind: u8,
+    last_label: u8,
+    // Whether the first field of message 100 has a boxed setting.
+    boxed: bool,
+}
+
+// A ring of messages.
+const RING: LargeSet = LargeSet {
+    kind: MESSAGE,
+    label: OPTIONAL,
+    last_kind: MESSAGE,
+    last_label: OPTIONAL,
+    boxed: false,
+};
+
+const LARGE_SETS: [LargeSet; 8] = [
+    RING,
+    LargeSet {
+        last_kind: INT32,
+        ..RING
+    },
+    LargeSet {
+        last_kind: FLOAT,
+        ..RING
+    },
+    LargeSet {
+        last_kind: STRING,
+        ..RING
+    },
+    LargeSet {
+        kind: GROUP,
+        last_kind: GROUP,
+        ..RING
+    },
+    LargeSet {
+        label: REPEATED,
+        last_label: REPEATED,
+        ..RING
+    },
+    LargeSet {
+        last_kind: INT32,
+        last_label: REPEATED,
+        ..RING
+    },
+    LargeSet {
+        last_kind: INT32,
+        boxed: true,
+        ..RING
+    },
+];
+
+fn large_field(set: LargeSet, i: usize) -> Field {
     let message = i / 8 % 256;
+    let is_last = message == 255;
     Field {
         owner: message as u8,
         target: ((message + 1) % 256) as u8,
-        kind: kind_at(case, i),
-        label: label_at(case, i),
-        boxed: case == 7 && i == 800,
+        kind: if is_last { set.last_kind } else { set.kind },
+        label: if is_last { set.last_label } else { set.label },
+        boxed: set.boxed && i == 800,
     }
 }
 
@@ -53,10 +106,10 @@ fn count(flags: &[bool]) -> usize {
     flags.iter().filter(|&&flag| flag).count()
 }
 
-fn large<W: Write>(out: &mut W, case: usize) -> io::Result<()> {
+fn large<W: Write>(out: &mut W, set: LargeSet) -> io::Result<()> {
     let mut fields = [NO_FIELD; LARGE];
     for (i, field) in fields.iter_mut().enumerate() {
-        *field = large_field(case, i);
+        *field = large_field(set, i);
     }
     let mut boxed = [false; LARGE];
     let can = derives::can_derive(&fields, &mut boxed);
@@ -77,55 +130,35 @@ fn put_digits<W: Write>(out: &mut W, flags: &[bool], end: &[u8]) -> io::Result<(
     out.write_all(end)
 }
 
-// Reads until the buffer is full or the input ends, and returns how many bytes it read.
-fn read_full<R: Read>(input: &mut R, buffer: &mut [u8]) -> io::Result<usize>
-    ensures { IfOk result (λ n. n ≤ length buffer.new) }
-{
-    let mut n = 0;
-    while n < buffer.len() {
-        let k = input.read(&mut buffer[n..])?;
-        if k == 0 {
-            break;
-        }
-        n += k;
-    }
-    Ok(n)
-}
-
-// The answers of one set of the input, and whether there was one.
-fn replay<R: Read, W: Write>(input: &mut R, out: &mut W) -> io::Result<bool> {
-    let mut columns = [0u8; 5 * SMALL];
-    if read_full(input, &mut columns)? == 0 {
-        return Ok(false);
-    }
+// The answers of one set of the input; of a set that is cut, what is missing is 0.
+fn replay<W: Write>(out: &mut W, set: &[u8]) -> io::Result<()> {
+    let column = |k: usize, i: usize| set.get(k * SMALL + i).copied().unwrap_or(0);
     let mut fields = [NO_FIELD; SMALL];
     for (i, field) in fields.iter_mut().enumerate() {
         *field = Field {
-            owner: columns[i],
-            target: columns[SMALL + i],
-            kind: columns[2 * SMALL + i],
-            label: columns[3 * SMALL + i],
-            boxed: columns[4 * SMALL + i] == 1,
+            owner: column(0, i),
+            target: column(1, i),
+            kind: column(2, i),
+            label: column(3, i),
+            boxed: column(4, i) == 1,
         };
     }
     let mut boxed = [false; SMALL];
     let can = derives::can_derive(&fields, &mut boxed);
     put_digits(out, &boxed, b" ")?;
     put_digits(out, &can.copy, b" ")?;
-    put_digits(out, &can.eq, b"\n")?;
-    Ok(true)
+    put_digits(out, &can.eq, b"\n")
 }
 
 fn main(rt: HostRuntime) -> io::Result<()> {
     let mut out = io::writer(&rt);
-    for case in 0..8 {
-        large(&mut out, case)?;
+    for set in LARGE_SETS {
+        large(&mut out, set)?;
     }
-    let mut input = rt.reader();
-    for _ in 0..250 {
-        if !replay(&mut input, &mut out)? {
-            break;
-        }
+    let mut input = Vec::new(rt.alloc());
+    rt.reader().read_to_end(&mut input)?;
+    for set in input.chunks(5 * SMALL).take(SETS) {
+        replay(&mut out, set)?;
     }
     Ok(())
 }

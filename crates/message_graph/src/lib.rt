@@ -38,6 +38,8 @@ pub const LABEL_REPEATED: u8 = 3;
 /// A field of a set: its message, the message that is its type (0 where its type is none), its type and label by
 /// descriptor.proto's numbers, and whether it has a boxed setting at `.M.f`. Type and label may be numbers that
 /// descriptor.proto doesn't have: where a set gives one over 255 it is 0 here, and where it gives none, 1.
+// Numbers, and no `Option<Type>`: the definitions' rules are over any number that a set may give, and ask for message, group and
+// repeated alone. No Option of a target: it is read for messages and groups alone, which have one.
 #[derive(Clone, Copy)]
 pub struct Field {
     pub owner: Index,
@@ -82,13 +84,11 @@ impl Field {
 }
 
 /// The field with number `i`.
+// One chain of std's functions, as for each table: a function over all would take the row past the end too, and say no less.
 pub fn field_at(fields: &[Field], i: usize) -> Field
     ensures { result ≡ row_at fields.now i }
 {
-    match fields.get(i) {
-        Some(field) => *field,
-        None => NO_FIELD,
-    }
+    fields.get(i).copied().unwrap_or(NO_FIELD)
 }
 
 // A range of a table of fields: from its first field to the one behind its last.
@@ -98,7 +98,7 @@ struct Range {
     end: usize,
 }
 
-// Of no field.
+// Of no field. No Option: `fields_of` reads it as the range that it is.
 const NO_RANGE: Range = Range { first: 0, end: 0 };
 
 impl Range {

@@ -2,7 +2,7 @@
 //! index i is a field with the number i + 1; where there is none, i is the count of files. The index of a case that differs is printed.
 #![tactic(auto)]
 
-use cases::{Case, Pack};
+use cases::Case;
 use std::{fs, io};
 
 fn holds(case: Case<'_>) -> bool {
@@ -11,9 +11,6 @@ fn holds(case: Case<'_>) -> bool {
 
 fn main(rt: HostRuntime) -> io::Result<()> {
     let pack = fs::read(&rt, "cases.bin")?;
-    let cases = Pack::new(&pack).enumerate();
-    let tally = cases::compare_all(&mut io::writer(&rt), cases, |(index, case)| {
-        (!case.is_ok_and(holds)).then_some(index)
-    })?;
+    let tally = cases::compare_pack(&mut io::writer(&rt), &pack, holds)?;
     println!(rt; "{tally}")
 }

@@ -24,9 +24,6 @@ fn holds(case: Case<'_>) -> bool {
 
 fn main(rt: HostRuntime) -> io::Result<()> {
     let pack = fs::read(&rt, "cases.bin")?;
-    let cases = Pack::new(&pack).enumerate();
-    let tally = cases::compare_all(&mut io::writer(&rt), cases, |(index, case)| {
-        (!case.is_ok_and(holds)).then_some(index)
-    })?;
+    let tally = cases::compare_pack(&mut io::writer(&rt), &pack, holds)?;
     println!(rt; "{tally}")
 }

@@ -6,7 +6,7 @@ use Rattle.std.specs.List.{list_any, find}
 use Rattle.base.specs.Choose.{choose}
 use Rattle.base.specs.Bytes.{b}
 use Rattle.options.specs.Rows.{is_of}
-use Rattle.options.specs.declared.Found.{Found}
+use Rattle.options.specs.Found.{Found}
 use Rattle.options.specs.Settings.{Setting, found_at, first_of_kind, value_of, or_else, prost_path, strips_prefix}
 
 pub found_any : (kind i : ℕ) (rs : List Setting) → (first_of_kind kind i rs).found ≡ list_any (is_of kind) rs

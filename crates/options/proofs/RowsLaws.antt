@@ -1,11 +1,11 @@
 -- The rows that are left are the first, and those behind it.
-use Rattle.std.proofs.Common.{◌≡◌, refl, sym, ap, ◌∙◌, ℕ, zero, suc, ◌+◌, ◌-◌, ◌≤◌, ◌<◌, min, List, [], ◌∷◌, length, take, drop, arith, drop_of_length-le, length-drop}
-use Rattle.std.proofs.lemmas.List.{length-take, drop-drop}
+use Rattle.std.proofs.Common.{◌≡◌, refl, sym, ap, ◌∙◌, ℕ, zero, suc, ◌+◌, ◌-◌, ◌*◌, ◌^◌, ◌≤◌, ◌<◌, min, List, [], ◌∷◌, length, take, drop, get_or, arith, drop_of_length-le, length-drop}
+use Rattle.std.proofs.lemmas.List.{length-take, drop-drop, get_or_past}
 use Rattle.std.proofs.Math.Seq.{take-length}
 use Rattle.std.proofs.Math.Decide.{dec_le}
 use Rattle.options.specs.declared.rows.Header.{Header}
 use Rattle.options.specs.Rows.{header, row_at}
-use Rattle.options.specs.Settings.{Setting, row_count, kind_at, path_length, value_length, bodies, settings_from, settings}
+use Rattle.options.specs.Settings.{Setting, number, row_count, kind_at, path_length, value_length, zero_at, bodies, settings_from, settings}
 
 -- past the end, a later start is no other
 past : (o : List ℕ) (k i at to : ℕ) → length o ≤ at → length o ≤ to → settings_from o k i at ≡ settings_from o k i to
@@ -81,6 +81,28 @@ pub first_row : (o : List ℕ) (n i at : ℕ) (r : Setting) → i < n → at ≤
 first_row o n i at r l b e =
     let k : n - i ≡ suc (n - (i + 1)) = omega arith in
     rw (k, e) (row_suc o (n - (i + 1)) i at b)
+
+-- a head past the end is that of any row past the end
+number_past : (o : List ℕ) (at : ℕ) → length o ≤ at → number o at ≡ 0
+unfolding number
+number_past o at h =
+    let low : get_or o at 0 ≡ 0 = get_or_past o at 0 h in
+    let high : get_or o (at + 1) 0 ≡ 0 = get_or_past o (at + 1) 0 (omega arith) in
+    omega (arith, low, high)
+
+head_past : (o : List ℕ) (i j : ℕ) → length o ≤ 2 + i * 8 → length o ≤ 2 + j * 8 → header o i ≡ header o j
+unfolding kind_at path_length value_length zero_at
+head_past o i j h l =
+    rw (number_past o (2 + i * 8) (omega arith), number_past o (4 + i * 8) (omega arith), number_past o (6 + i * 8) (omega arith), number_past o (8 + i * 8) (omega arith))
+    (rw (number_past o (2 + j * 8) (omega arith), number_past o (4 + j * 8) (omega arith), number_past o (6 + j * 8) (omega arith), number_past o (8 + j * 8) (omega arith)) refl)
+
+-- a head as the code reads it
+pub head_read : (o : List ℕ) (i j : ℕ) → length o < 2 ^ 63 → j ≡ min i (2 ^ 60) → header o j ≡ header o i
+head_read o i j small e = on (dec_le i (2 ^ 60))
+  where
+    on : Dec (i ≤ 2 ^ 60) → header o j ≡ header o i
+    on (yes h) = let l : j ≡ i = omega arith in rw l refl
+    on (no h) = head_past o j i (omega arith) (omega arith)
 
 -- it lies in the file
 pub row_inside : (o : List ℕ) (i at : ℕ) (r : Setting) → at ≤ length o → r ≡ row_at o i at → at + (length r.path + length r.value) ≤ length o

@@ -3,7 +3,7 @@ use Rattle.std.specs.Prelude.{Bool, true, false, not, List, [], ◌∷◌, ℕ, 
 use Rattle.std.proofs.Math.Option.{Option, some, none}
 use Rattle.base.specs.Choose.{choose}
 use Rattle.base.specs.Bytes.{b}
-use Rattle.options.specs.declared.Found.{Found}
+use Rattle.options.specs.Found.{Found}
 
 -- the little-endian 16-bit number at a place
 unfoldable pub number : List ℕ → ℕ → ℕ

@@ -4,10 +4,11 @@ ghost use Rattle.base.specs.Choose.{choose};
 ghost use Rattle.options.specs.Kind.{kind_number};
 ghost use Rattle.options.specs.Rows.{header};
 ghost use Rattle.options.specs.Settings.{row_count, path_length, value_length, bodies};
+ghost use Rattle.options.specs.declared.check.TheConstants.{MAX_ROWS};
 ghost use Rattle.options.specs.Layout.{fits, kind_before, header_good, printable, body_good, row_good, layout_from, layout};
 
 use crate::kind::Kind;
-use crate::rows::{Header, Rows, bodies_at, row_count};
+use crate::rows::{COUNT_BYTES, HEAD_BYTES, Header, Rows, bodies_at, row_count};
 use base::refusal::Refusal;
 
 const MAX_ROWS: usize = 64;
@@ -27,51 +28,67 @@ fn stands_before(bytes: &[u8], kind: Kind, row: usize) -> bool
 fn fits(has: bool, length: u16) -> bool
     ensures { result ≡ fits has length }
 {
-    if has { length != 0 } else { length == 0 }
-}
-
-/// Is the head of a row good?
-#[tactic(auto, unfolding(crate::specs::Layout::header_good, crate::specs::Layout::repeated), using(crate::proofs::KindLaws::kinds))]
-fn is_header_good(bytes: &[u8], row: usize, head: Header) -> bool
-    requires { (row < row_count bytes.now) × (head ≡ header bytes.now row) }
-    ensures { result ≡ header_good bytes.now row }
-{
-    match Kind::try_from(head.kind) {
-        Ok(kind) => head.zero == 0
-            && fits(kind.has_path(), head.path_length)
-            && fits(kind.has_value(), head.value_length)
-            && !(kind.stands_once() && stands_before(bytes, kind, row)),
-        Err(_) => false,
-    }
+    has == (length != 0)
 }
 
 /// Are all bytes at least `low` and at most 0x7E?
 fn is_printable(low: u8, bytes: &[u8]) -> bool
     ensures { result ≡ printable low bytes.now }
 {
-    bytes.iter().all(|byte| low <= *byte && *byte <= 0x7e)
+    bytes.iter().all(|byte| (low..=0x7e).contains(byte))
 }
 
-/// Is the body of a row good, that starts at `body`? One that is cut isn't judged.
-#[tactic(auto, unfolding(crate::specs::Layout::body_good, base::specs::Choose::choose))]
-fn is_body_good(bytes: &[u8], row: usize, head: Header, body: usize) -> bool
-    requires { (head ≡ header bytes.now row) × (body < 1000000000000) }
-    ensures { result ≡ choose (ltb (length bytes.now) (body + path_length bytes.now row + value_length bytes.now row)) true (body_good bytes.now row body) }
-{
-    let value = body + usize::from(head.path_length);
-    let end = value + usize::from(head.value_length);
-    bytes.len() < end
-        || (is_printable(b'!', &bytes[body..value]) && is_printable(b' ', &bytes[value..end]))
+/// A row whose body starts at `body`.
+#[derive(Clone, Copy)]
+struct Judged<'a> {
+    bytes: &'a [u8],
+    row: usize,
+    head: Header,
+    body: usize,
+    ghost is_row: { row < row_count bytes.now },
+    ghost few: { row < MAX_ROWS },
+    ghost is_head: { head ≡ header bytes.now row },
+    ghost near: { body < 1000000000000 },
 }
 
-/// Is a row good, whose body starts at `body`? A head that is cut isn't judged.
-#[tactic(auto, unfolding(crate::specs::Layout::row_good, base::specs::Choose::choose))]
-fn is_row_good(bytes: &[u8], row: usize, head: Header, body: usize) -> bool
-    requires { (row < row_count bytes.now) × (row < MAX_ROWS) × (head ≡ header bytes.now row) × (body < 1000000000000) }
-    ensures { result ≡ row_good bytes.now row body }
-{
-    bytes.len() < 10 + row * 8
-        || (is_header_good(bytes, row, head) && is_body_good(bytes, row, head, body))
+impl Judged<'_> {
+    /// Is its head good?
+    #[tactic(auto, unfolding(crate::specs::Layout::header_good, crate::specs::Layout::repeated), using(crate::proofs::KindLaws::kinds))]
+    fn is_head_good(&self) -> bool
+        ensures { result ≡ header_good self.now.bytes.now self.now.row }
+    {
+        // no `is_ok_and`: with it the proof did not close
+        match Kind::try_from(self.head.kind) {
+            Ok(kind) => {
+                self.head.zero == 0
+                    && fits(kind.has_path(), self.head.path_length)
+                    && fits(kind.has_value(), self.head.value_length)
+                    && !(kind.stands_once() && stands_before(self.bytes, kind, self.row))
+            }
+            Err(_) => false,
+        }
+    }
+
+    /// Is its body good? One that is cut isn't judged.
+    #[tactic(auto, unfolding(crate::specs::Layout::body_good, base::specs::Choose::choose))]
+    fn is_body_good(&self) -> bool
+        ensures { result ≡ choose (ltb (length self.now.bytes.now) (self.now.body + path_length self.now.bytes.now self.now.row + value_length self.now.bytes.now self.now.row)) true (body_good self.now.bytes.now self.now.row self.now.body) }
+    {
+        let value = self.body + usize::from(self.head.path_length);
+        let end = value + usize::from(self.head.value_length);
+        self.bytes.len() < end
+            || (is_printable(b'!', &self.bytes[self.body..value])
+                && is_printable(b' ', &self.bytes[value..end]))
+    }
+
+    /// Is it good? A head that is cut isn't judged.
+    #[tactic(auto, unfolding(crate::specs::Layout::row_good, base::specs::Choose::choose))]
+    fn is_good(&self) -> bool
+        ensures { result ≡ row_good self.now.bytes.now self.now.row self.now.body }
+    {
+        self.bytes.len() < COUNT_BYTES + (self.row + 1) * HEAD_BYTES
+            || (self.is_head_good() && self.is_body_good())
+    }
 }
 
 /// All rows, in an options file of `size` bytes that begins with `bytes`.
@@ -84,7 +101,13 @@ fn check_rows(bytes: &[u8], size: usize) -> Result<(), Refusal>
     let mut body = bodies_at(bytes);
     for row in 0..count {
         let head = Header::read(bytes, row);
-        if !is_row_good(bytes, row, head, body) {
+        let judged = Judged {
+            bytes,
+            row,
+            head,
+            body,
+        };
+        if !judged.is_good() {
             return Err(Refusal::Layout { row });
         }
         body += usize::from(head.path_length) + usize::from(head.value_length);
@@ -101,7 +124,7 @@ fn check_rows(bytes: &[u8], size: usize) -> Result<(), Refusal>
 pub fn check(bytes: &[u8]) -> Result<(), Refusal>
     ensures { result ≡ layout bytes.now }
 {
-    if bytes.len() < 2 {
+    if bytes.len() < COUNT_BYTES {
         return Err(Refusal::Layout { row: 0 });
     }
     if usize::from(row_count(bytes)) > MAX_ROWS {

@@ -96,10 +96,3 @@ impl<'a> Options<'a> {
         !self.has(Kind::RetainEnumPrefix)
     }
 }
-
-/// The number of a row, if there is one: what the definitions of a search give.
-#[derive(Drop)]
-pub struct Found {
-    pub found: bool,
-    pub number: u32,
-}

@@ -8,9 +8,19 @@ ghost use Rattle.options.specs.Rows.{header, is_of, row_at, row_seen};
 use crate::kind::Kind;
 use std::marker::Model;
 
+// Document 01's layout: the count of the rows, in so many bytes; a head for each row; the bodies.
+pub(crate) const COUNT_BYTES: usize = 2;
+
+// The bytes of a head: four numbers of two bytes.
+pub(crate) const HEAD_BYTES: usize = 8;
+
+// A row that no file has, whose head's place fits a `usize`.
+const PAST_ALL: usize = 1 << 60;
+
 /// A row: its kind's number, its path and its value. A part that the kind lacks is empty.
 #[derive(Clone, Copy)]
 pub struct Row<'a> {
+    /// As the file gives it: it may be no `Kind`.
     pub kind: u16,
     pub path: &'a [u8],
     pub value: &'a [u8],
@@ -28,6 +38,7 @@ impl Row<'_> {
 /// The head of a row: the kind's number, the lengths of path and value in bytes, and a zero.
 #[derive(Clone, Copy)]
 pub(crate) struct Header {
+    /// As the file gives it: it may be no `Kind`.
     pub kind: u16,
     pub path_length: u16,
     pub value_length: u16,
@@ -37,7 +48,7 @@ pub(crate) struct Header {
 /// The little-endian number at a place; a byte past the end counts as 0.
 #[tactic(auto, unfolding(crate::specs::Settings::number))]
 fn number_at(bytes: &[u8], at: usize) -> u16
-    requires { at < 2 ^ 63 }
+    requires { at + 1 < 2 ^ 64 }
     ensures { result ≡ number bytes.now at }
 {
     u16::from_le_bytes([base::byte_at(bytes, at), base::byte_at(bytes, at + 1)])
@@ -57,7 +68,7 @@ pub fn bodies_at(bytes: &[u8]) -> usize
     ensures start { result ≡ bodies bytes.now }
     ensures bound { result < 2 ^ 20 }
 {
-    2 + usize::from(row_count(bytes)) * 8
+    COUNT_BYTES + usize::from(row_count(bytes)) * HEAD_BYTES
 }
 
 impl Header {
@@ -65,11 +76,11 @@ impl Header {
     #[tactic(auto, unfolding(crate::specs::Settings::kind_at, crate::specs::Settings::path_length, crate::specs::Settings::value_length, crate::specs::Settings::zero_at, crate::specs::Settings::number))]
     #[inline]
     pub(crate) fn read(bytes: &[u8], row: usize) -> Header
-        requires { row < 2 ^ 32 }
+        requires { row ≤ 2 ^ 60 }
         ensures { result ≡ header bytes.now row }
     {
-        let at = 2 + row * 8;
-        if let Some([a, b, c, d, e, f, g, h]) = bytes.get(at..at + 8) {
+        let at = COUNT_BYTES + row * HEAD_BYTES;
+        if let Some([a, b, c, d, e, f, g, h]) = bytes.get(at..at + HEAD_BYTES) {
             return Header {
                 kind: u16::from_le_bytes([*a, *b]),
                 path_length: u16::from_le_bytes([*c, *d]),
@@ -94,11 +105,10 @@ fn first_bytes(bytes: &[u8], length: u16) -> &[u8]
 }
 
 /// A row whose body starts at `body`; what is cut of it counts as missing.
-pub fn read_row(bytes: &[u8], row: u32, body: usize) -> Row<'_>
+pub fn read_row(bytes: &[u8], row: usize, body: usize) -> Row<'_>
     ensures { row_seen result ≡ row_at bytes.now row body }
 {
-    // a cast: a `usize` has no `From` of a `u32`
-    let header = Header::read(bytes, row as usize);
+    let header = Header::read(bytes, row.min(PAST_ALL));
     let rest = &bytes[body.min(bytes.len())..];
     let path = first_bytes(rest, header.path_length);
     let value = first_bytes(&rest[path.len()..], header.value_length);
@@ -113,8 +123,8 @@ pub fn read_row(bytes: &[u8], row: u32, body: usize) -> Row<'_>
 #[derive(Drop)]
 pub struct Rows<'a> {
     bytes: &'a [u8],
-    row: u32,
-    count: u32,
+    row: usize,
+    count: usize,
     body: usize,
 }
 
@@ -139,7 +149,7 @@ impl<'a> Rows<'a> {
         Rows {
             bytes,
             row: 0,
-            count: u32::from(row_count(bytes)),
+            count: usize::from(row_count(bytes)),
             body: bodies_at(bytes).min(bytes.len()),
         }
     }

@@ -11,7 +11,7 @@ use Rattle.base.specs.Choose.{choose, choose_case, then_is, else_is}
 use Rattle.base.specs.Tests.{both_ways, and_left, and_right}
 use Rattle.base.specs.Bytes.{b, same, same_sound}
 use Rattle.options.specs.Settings.{Setting, found_at}
-use Rattle.options.specs.declared.Found.{Found}
+use Rattle.options.specs.Found.{Found}
 use Rattle.path.specs.Forms.{filled, behind_dots, before_dots, suffixes, prefixes, sub_path_iter, among}
 use Rattle.path.specs.PathMap.{get, get_in, first_with, find_best}
 use Rattle.path.specs.Worth.{Form, weigh, global, weighed, worth_in, worth_of, improve, best_of, none_yet, found_of}

@@ -8,6 +8,7 @@ use native.Mathlib.Decide.{dec_lt}
 use lib.Dec.{eqb}
 use lib.ListN.{length, take, drop, get_or, length-drop}
 use lib.Seq.{take_all}
+use borrow.Author.Tests.{eqb-true, eqb-false}
 use Rattle.std.specs.Str.{bytes_eq}
 use Rattle.base.specs.Choose.{choose}
 use Rattle.base.specs.Bytes.{same, same_length}
@@ -141,6 +142,15 @@ prefix_at (c ∷ s) (d ∷ x) h =
     ∙ swap (eqb d c) (eqb (get_or s (length x) 0) 46) (same x (take (length x) s))
 
 -- ---- what the code tests
+pub eqb_turned : (a c : ℕ) → eqb a c ≡ eqb c a
+eqb_turned a c = on (eqb a c) (eqb c a) (eqb-true a c) (eqb-false a c) (eqb-true c a) (eqb-false c a)
+  where
+    on : (t u : Bool) → (t ≡ true → a ≡ c) → (t ≡ false → a ≡ c → ⊥) → (u ≡ true → c ≡ a) → (u ≡ false → c ≡ a → ⊥) → t ≡ u
+    on true true f g p q = refl
+    on true false f g p q = absurd (q refl (sym (f refl)))
+    on false true f g p q = absurd (g refl (sym (p refl)))
+    on false false f g p q = refl
+
 module _ (s x : List ℕ) where
   pub suffix_empty : length x ≡ 0 → among x (suffixes s) ≡ false
   unfolding suffixes

@@ -1,9 +1,9 @@
 -- What a path finds, row by row.
-use Rattle.std.proofs.Common.{◌≡◌, refl, sym, ◌∙◌, ℕ, ◌^◌, ◌<◌, true, ltb, List, [], ◌∷◌, length, eq-eqb, ne_eqb}
+use Rattle.std.proofs.Common.{◌≡◌, refl, sym, ◌∙◌, ℕ, ◌^◌, ◌<◌, true, false, eqb, ltb, List, [], ◌∷◌, length, eq-eqb, ne_eqb}
 use Rattle.base.specs.Choose.{choose, choose_case}
 use Rattle.options.specs.Settings.{Setting}
 use Rattle.path.specs.PathMap.{get, get_in, get_first}
-use Rattle.path.specs.Worth.{weighed, worth_of, improve, best_of, none_yet, found_of}
+use Rattle.path.specs.Worth.{weighed, worth_in, worth_of, improve, best_of, none_yet, found_of}
 use Rattle.path.specs.declared.Best.{Best}
 use Rattle.path.proofs.BestLaws.{all_forms, found_best, weighed_below, get_step}
 
@@ -20,13 +20,22 @@ pub get_none : (kind : ℕ) (path : List ℕ) → get kind path [] ≡ []
 unfolding get_in
 get_none kind path = refl
 
-module _ (kind : ℕ) (path : List ℕ) (r : Setting) (rs : List Setting) (w : ℕ) (e : w ≡ worth_of (weighed true path) kind r) (h : length path < 2 ^ 63) where
-  pub get_hit : (w ≡ 0 → ⊥) → get kind path (r ∷ rs) ≡ r.value ∷ get kind path rs
-  unfolding choose
-  get_hit n = get_step kind path r rs w h e ∙ rw (ne_eqb w 0 n) refl
+module _ (kind : ℕ) (path : List ℕ) (r : Setting) (rs : List Setting) where
+  module _ (w : ℕ) (h : length path < 2 ^ 63) where
+    found_worth : eqb r.kind kind ≡ true → w ≡ worth_in (weighed true path) r.path → w ≡ worth_of (weighed true path) kind r
+    unfolding worth_of choose
+    found_worth k e = rw k e
 
-  pub get_miss : w ≡ 0 → get kind path (r ∷ rs) ≡ get kind path rs
-  unfolding choose
-  get_miss z = get_step kind path r rs w h e ∙ rw (eq-eqb w 0 z) refl
+    pub get_hit : eqb r.kind kind ≡ true → w ≡ worth_in (weighed true path) r.path → (w ≡ 0 → ⊥) → get kind path (r ∷ rs) ≡ r.value ∷ get kind path rs
+    unfolding choose
+    get_hit k e n = get_step kind path r rs w h (found_worth k e) ∙ rw (ne_eqb w 0 n) refl
 
-pub ruleset gets = (get_none, get_hit, get_miss)
+    pub get_miss : eqb r.kind kind ≡ true → w ≡ worth_in (weighed true path) r.path → w ≡ 0 → get kind path (r ∷ rs) ≡ get kind path rs
+    unfolding choose
+    get_miss k e z = get_step kind path r rs w h (found_worth k e) ∙ rw (eq-eqb w 0 z) refl
+
+  pub get_other : eqb r.kind kind ≡ false → get kind path (r ∷ rs) ≡ get kind path rs
+  unfolding get_in choose
+  get_other k = rw k refl
+
+pub ruleset gets = (get_none, get_hit, get_miss, get_other)

@@ -3,7 +3,7 @@ use Rattle.std.specs.Prelude.{◌&&◌, List, [], ◌∷◌, ℕ, ◌+◌, eqb, 
 use Rattle.base.specs.Choose.{choose}
 use Rattle.base.specs.Bytes.{same}
 use Rattle.options.specs.Settings.{Setting, found_at, not_found}
-use Rattle.options.specs.declared.Found.{Found}
+use Rattle.options.specs.Found.{Found}
 use Rattle.path.specs.Forms.{sub_path_iter, among}
 
 -- Iter: the values of all rows of a kind whose path is one of the forms, in list order

@@ -4,7 +4,7 @@ use Rattle.std.specs.Prelude.{Bool, not, List, [], ◌∷◌, ◌++◌, map, ℕ
 use Rattle.base.specs.Choose.{choose}
 use Rattle.base.specs.Bytes.{b, same}
 use Rattle.options.specs.Settings.{Setting}
-use Rattle.options.specs.declared.Found.{Found}
+use Rattle.options.specs.Found.{Found}
 use Rattle.path.specs.Forms.{suffixes, prefixes}
 use Rattle.path.specs.declared.Best.{Best}
 

@@ -11,17 +11,18 @@ use std::marker::Model;
 #[derive(Drop)]
 pub struct Values<'a> {
     rows: Rows<'a>,
-    kind: u16,
+    kind: Kind,
     path: &'a [u8],
 }
 
 impl<'a> Model for Values<'a> {
     ghost use Rattle.std.specs.Prelude.{◌<◌, ◌^◌, List, length, ℕ};
+    ghost use Rattle.options.specs.Kind.{kind_number};
     ghost use Rattle.path.specs.PathMap.{get};
 
     ghost Value = { List (List ℕ) };
 
-    ghost view = { λ v. get v.kind v.path.now v.rows };
+    ghost view = { λ v. get (kind_number v.kind) v.path.now v.rows };
 
     ghost invariant = { λ v. length v.path.now < 2 ^ 63 };
 }
@@ -33,7 +34,7 @@ impl<'a> Values<'a> {
     {
         Values {
             rows: options.rows(),
-            kind: kind.number(),
+            kind,
             path,
         }
     }
@@ -50,7 +51,7 @@ impl<'a> Iterator for Values<'a> {
     fn next(&mut self) -> Option<&'a [u8]> {
         // no `find`: its law says which row was found, and not which are left
         while let Some(row) = self.rows.next() {
-            if crate::row_worth(&row, self.kind, self.path, true) != 0 {
+            if row.is(self.kind) && crate::worth(self.path, true, row.path) != 0 {
                 return Some(row.value);
             }
         }

@@ -3,7 +3,7 @@
 //! (set, options, output) and the bytes of the three. The index of a case that differs is printed.
 #![tactic(auto)]
 
-ghost use Rattle.std.specs.Prelude.{◌<◌, ◌≤◌, length};
+ghost use Rattle.std.specs.Prelude.{◌<◌, ◌≤◌, length, IfSome};
 ghost use Rattle.std.specs.Iterator.{at_most};
 
 use base::refusal::Refusal;
@@ -22,9 +22,6 @@ const FILES: usize = 33;
 /// The bytes before the first case.
 const MAGIC: usize = 8;
 
-/// The bytes of a case's head.
-const HEAD: usize = 12;
-
 /// What generate is given, and what it prints.
 #[derive(Clone, Copy)]
 struct Case<'a> {
@@ -39,11 +36,13 @@ struct Cases<'a> {
     bytes: &'a [u8],
 }
 
-/// A 32-bit length of a case's head.
-fn length_at(head: &[u8; HEAD], k: usize) -> usize
-    requires { k < 9 }
+/// A 32-bit length at the front, and what is behind it.
+fn split_length(bytes: &[u8]) -> Option<(usize, &[u8])>
+    ensures { IfSome result (λ r. length r.1.now < length bytes.now) }
 {
-    u32::from_le_bytes([head[k], head[k + 1], head[k + 2], head[k + 3]]) as usize
+    let (length, rest) = bytes.split_first_chunk::<4>()?;
+    // a cast: a `usize` has no `From` of a `u32`
+    Some((u32::from_le_bytes(*length) as usize, rest))
 }
 
 /// The first n bytes, or as many as there are, and the rest.
@@ -59,10 +58,12 @@ impl<'a> Iterator for Cases<'a> {
     ghost remaining = { λ s. at_most (length s.bytes.now) };
 
     fn next(&mut self) -> Option<Case<'a>> {
-        let (head, rest) = self.bytes.split_first_chunk::<HEAD>()?;
-        let (set, rest) = split(rest, length_at(head, 0));
-        let (options, rest) = split(rest, length_at(head, 4));
-        let (output, rest) = split(rest, length_at(head, 8));
+        let (set_length, rest) = split_length(self.bytes)?;
+        let (options_length, rest) = split_length(rest)?;
+        let (output_length, rest) = split_length(rest)?;
+        let (set, rest) = split(rest, set_length);
+        let (options, rest) = split(rest, options_length);
+        let (output, rest) = split(rest, output_length);
         self.bytes = rest;
         Some(Case {
             set,
@@ -82,6 +83,7 @@ fn behind_refusal(output: &[u8], refusal: Refusal) -> Option<&[u8]> {
     let rest = output.strip_prefix(b"refused ")?;
     let rest = behind_number(rest, u64::from(refusal.number()))?;
     let rest = rest.strip_prefix(b" ")?;
+    // a cast: a `u64` has no `From` of a `usize`
     behind_number(rest, refusal.place() as u64)?.strip_prefix(b"\n")
 }
 

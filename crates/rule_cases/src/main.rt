@@ -3,7 +3,7 @@
 #![tactic(auto)]
 
 use base::refusal::Returned;
-use cases::{Case, Pack};
+use cases::Case;
 use std::{fs, io};
 
 fn holds(case: Case<'_>) -> bool {
@@ -13,9 +13,6 @@ fn holds(case: Case<'_>) -> bool {
 
 fn main(rt: HostRuntime) -> io::Result<()> {
     let pack = fs::read(&rt, "cases.bin")?;
-    let cases = Pack::new(&pack).enumerate();
-    let tally = cases::compare_all(&mut io::writer(&rt), cases, |(index, case)| {
-        (!case.is_ok_and(holds)).then_some(index)
-    })?;
+    let tally = cases::compare_pack(&mut io::writer(&rt), &pack, holds)?;
     println!(rt; "{tally}")
 }

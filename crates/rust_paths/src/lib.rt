@@ -1,7 +1,7 @@
 //! A Rust path by segments: in snake case, the last in camel case where it is a type.
 #![tactic(auto)]
 
-ghost use Rattle.std.specs.Prelude.{◌≡◌, true, [], ◌++◌, map, length, drop};
+ghost use Rattle.std.specs.Prelude.{◌≡◌, true, [], ◌++◌, map};
 ghost use Rattle.rust_paths.specs.Parts.{cut, is_tail, led, segments, led_parts, path_text};
 ghost use Rattle.base.specs.Bytes.{b};
 ghost use Rattle.writer.specs.Text.{pick};
@@ -119,10 +119,10 @@ pub fn put_rust_path(text: &mut Text<'_>, path: &[u8], tail: &[u8])
     }
 }
 
-/// The protobuf segments of a name from a place on, each behind a `::`; the last is the type.
-pub fn put_behind(text: &mut Text<'_>, name: &[u8], start: usize)
-    ensures { text.new ≡ text.old ▻ led_parts true (b ".") (drop start name.now) }
+/// The protobuf segments of a name, each behind a `::`; the last is the type.
+#[tactic(auto, unfolding(crate::specs::Parts::led_parts))]
+pub fn put_behind(text: &mut Text<'_>, name: &[u8])
+    ensures { text.new ≡ text.old ▻ led_parts true (b ".") name.now }
 {
-    let from = start.min(name.len());
-    put_parts(text, Parts::new(&name[from..], Separator::Dot), true);
+    put_parts(text, Parts::new(name, Separator::Dot), true);
 }

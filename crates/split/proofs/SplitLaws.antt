@@ -6,9 +6,9 @@ use Prim.Native.Nat.{ℕ, zero, suc, ◌+◌, ◌-◌, ◌≤◌, ◌<◌}
 use native.Mathlib.Omega.{arith}
 use native.Mathlib.Numerals.{add-one}
 use native.Mathlib.Decide.{dec_lt}
-use borrow.Author.Tests.{lt-ltb, le-ltb, eq-eqb, ne_eqb, eqb-true, eqb-false}
+use borrow.Author.Tests.{lt-ltb, le-ltb}
 use lib.Dec.{eqb, ltb}
-use lib.ListN.{length, take, drop, length-drop, drop_of_length-le}
+use lib.ListN.{length, take, drop, get_or, length-drop, drop_of_length-le}
 use lib.Seq.{drop-cons, drop-drop, take-length}
 use Rattle.base.specs.Choose.{choose, choose_case}
 use Rattle.base.specs.Tests.{both_ways, and_right}
@@ -16,19 +16,17 @@ use Rattle.std.specs.Str.{bytes_eq}
 use Rattle.std.specs.List.{list_any}
 use Rattle.path.specs.Forms.{among}
 use Rattle.path.proofs.FormLaws.{same_bytes}
+pub use Rattle.path.proofs.FormLaws.{eqb_turned}
 use Rattle.split.specs.Split.{begins, push, split_behind, split, first_part, parts_left}
-use Rattle.std.proofs.Common.{Option, Some, None, Bor, inl, inr, ◌⊎◌}
+use Rattle.std.proofs.Common.{Option, Some, None, Bor, inl, inr, ◌⊎◌, cond, unwrap_or}
+use Rattle.std.proofs.lemmas.List.Recursion.{is_position_or_len}
+use Rattle.std.proofs.lemmas.List.Sums.{prefix_len-le-length}
 use Rattle.std.specs.Option.{MatchOption, option_copied}
-use Rattle.std.specs.List.{slice_range}
+use Rattle.std.specs.List.{slice_range, position_or_len}
 
 pub by_test : (P : Bool → Type 0) (t : Bool) → (t ≡ true → P true) → (t ≡ false → P false) → P t
 by_test P true f g = f refl
 by_test P false f g = g refl
-
-pub eqb_turned : (a c : ℕ) → eqb a c ≡ eqb c a
-eqb_turned a c =
-    by_test (λ (t : Bool). t ≡ eqb c a) (eqb a c) (λ q. sym (eq-eqb c a (sym (eqb-true a c q))))
-    (λ q. sym (ne_eqb c a (λ e. eqb-false a c q (sym e))))
 
 -- ---- does the separator stand here?
 pub begins_starts : (sep s : List ℕ) → begins sep s ≡ bytes_eq sep (take (length sep) s)
@@ -177,6 +175,27 @@ module _ (s sep : List ℕ) (i : ℕ) where
   pub goes_on : i < length s → bytes_eq sep (take (length sep) (take (length s - i) (drop i s))) ≡ false → i + first_part sep (drop i s) ≡ i + 1 + first_part sep (drop (i + 1) s)
   goes_on h e = part_goes s sep i h (sym starts_here ∙ e)
 
+-- a separator of one byte
+pub byte_end : (x : ℕ) (s : List ℕ) → first_part (x ∷ []) s ≡ position_or_len (λ c. eqb c x) s
+unfolding first_part begins choose
+byte_end x = is_position_or_len (first_part (x ∷ [])) (λ c. eqb c x) refl (λ c s. here (eqb c x) (first_part (x ∷ []) s))
+  where
+    here : (t : Bool) (n : ℕ) → choose (t && true) 0 (suc n) ≡ cond t 0 (1 + n)
+    here true n = refl
+    here false n = omega arith
+
+-- as the code looks for it
+pub byte_found : (sep s : List ℕ) → 1 ≤ length sep → length sep < 2 → (r : Option ℕ) → r ≡ cond (ltb (position_or_len (λ c. eqb c (get_or sep 0 0)) s) (length s)) (Some (position_or_len (λ c. eqb c (get_or sep 0 0)) s)) None → (n : ℕ) → n ≡ unwrap_or r (length s) → n ≡ first_part sep s
+byte_found [] s h l r e n q = absurd (omega arith)
+byte_found (x ∷ (y ∷ sep)) s h l r e n q = absurd (omega arith)
+byte_found (x ∷ []) s h l r e n q =
+    let p = position_or_len (λ c. eqb c x) s in
+    q ∙ rw e (on p (dec_lt p (length s)) (prefix_len-le-length _ s)) ∙ sym (byte_end x s)
+  where
+    on : (p : ℕ) → Dec (p < length s) → p ≤ length s → unwrap_or (cond (ltb p (length s)) (Some p) None) (length s) ≡ p
+    on p (yes h) m = rw (lt-ltb p (length s) h) refl
+    on p (no h) m = rw (le-ltb p (length s) (omega arith)) (omega arith)
+
 pub ruleset part_ends_here = (stops_here, goes_on, part_ends)
 
 push_length : (c : ℕ) (xs : List (List ℕ)) (n : ℕ) → length xs ≤ n + 1 → length (push c xs) ≤ n + 1
@@ -196,26 +215,23 @@ pub split_length : (sep s : List ℕ) → length (split sep s) ≤ length s + 1
 unfolding split
 split_length sep s = behind_length sep zero s
 
-module _ (sep s : List ℕ) (h : 0 < length sep) (e : ℕ) (is : e ≡ 0 + first_part sep (drop 0 s)) where
-  first_is : e ≡ first_part sep s
-  first_is = omega (arith, is)
-
+module _ (sep s : List ℕ) (h : 0 < length sep) (e : ℕ) (is : e ≡ first_part sep s) where
   pub end_inside : e ≤ length s
-  end_inside = let l : first_part sep s ≤ length s = part_within sep s in let k = first_is in omega arith
+  end_inside = let l : first_part sep s ≤ length s = part_within sep s in let k = is in omega arith
 
   pub more_parts : e + length sep ≤ length s → split sep s ≡ take e s ∷ split sep (drop (e + length sep) s)
   unfolding parts_behind choose
-  more_parts l = rw first_is (split_is sep s h ∙ rw (lt-ltb (first_part sep s) (length s) (let k = first_is in omega arith)) refl)
+  more_parts l = rw is (split_is sep s h ∙ rw (lt-ltb (first_part sep s) (length s) (let k = is in omega arith)) refl)
 
   pub last_part : length s < e + length sep → split sep s ≡ take e s ∷ []
   unfolding parts_behind choose
   last_part l =
-      let k = first_is in
+      let k = is in
       let m : length s ≤ first_part sep s = go (dec_lt (first_part sep s) (length s)) in
       rw k (split_is sep s h ∙ rw (le-ltb (first_part sep s) (length s) m) refl)
     where
       go : Dec (first_part sep s < length s) → length s ≤ first_part sep s
-      go (yes p) = let k = first_is in let q : first_part sep s + length sep ≤ length s = sep_fits sep s p in absurd (omega arith)
+      go (yes p) = let k = is in let q : first_part sep s + length sep ≤ length s = sep_fits sep s p in absurd (omega arith)
       go (no p) = omega arith
 
   -- what `get` gives behind the separator

@@ -35,17 +35,21 @@ impl Separator {
     }
 }
 
-/// Where the part that starts at a place ends.
+/// Where the first part ends.
 #[tactic(auto, using(crate::proofs::SplitLaws::part_ends_here))]
-pub fn part_end(s: &[u8], from: usize, separator: &[u8]) -> usize
-    ensures { result ≡ from + first_part separator.now (drop from s.now) }
+pub fn part_end(s: &[u8], separator: &[u8]) -> usize
+    ensures { result ≡ first_part separator.now s.now }
 {
-    for i in from..s.len() {
+    // no `windows`: it asks for a separator that isn't empty
+    if let [byte] = separator {
+        return s.iter().position(|own| own == byte).unwrap_or(s.len());
+    }
+    for i in 0..s.len() {
         if s[i..].starts_with(separator) {
             return i;
         }
     }
-    from.max(s.len())
+    s.len()
 }
 
 /// The parts that are left.
@@ -91,7 +95,7 @@ impl<'a> Iterator for Parts<'a> {
     #[tactic(auto, using(crate::proofs::SplitLaws::end_inside))]
     fn next(&mut self) -> Option<&'a [u8]> {
         let rest = self.rest?;
-        let end = part_end(rest, 0, self.separator);
+        let end = part_end(rest, self.separator);
         self.rest = rest.get(end + self.separator.len()..);
         Some(&rest[..end])
     }

@@ -1,7 +1,8 @@
 use Rattle.std.proofs.Common.{sym, ap, ◌∙◌, arith, rules}
 use Rattle.std.specs.Option.{option_map}
 use Rattle.options.specs.Rows.{row_seen}
-use Rattle.extern_paths.proofs.ByLaws.{tail_none}
+use Rattle.extern_paths.specs.ExternPaths.{prost_types}
+use Rattle.extern_paths.proofs.ByLaws.{tail_none, tail_at}
 use Rattle.extern_paths.proofs.TakerLaws.{takes_not, takes_it, resolves_not, row_there, resolved_row, types_there, resolved_type}
 use Rattle.extern_paths.proofs.resolve.find.Goals as goal
 
@@ -41,6 +42,10 @@ pub returns-clause-held : goal.returns-clause-held
 returns-clause-held c = takes_it _ _ (search rules) _ c.best_extern-best.ensures c.if-best-eq0.false
 
 pub returns-clause-some : goal.returns-clause-some
+unfolding prost_types
 returns-clause-some c =
     resolved_type _ _ (search rules) _ c.best_extern-best.ensures c.if-best-eq0.false (omega arith) (row_seen c.in_ok-own.field-0) (sym c.find.ensures ∙ ap (option_map row_seen) c.in_ok-own.was) _
     (rw c.row_count-count.ensures.count at c.numbered_prost_type.ensures.is)
+
+pub returns-clause-tail : goal.returns-clause-tail
+returns-clause-tail c = tail_at _ _ c.numbered_prost_type.ensures.tail

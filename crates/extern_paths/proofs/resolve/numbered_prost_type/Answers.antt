@@ -1,8 +1,20 @@
-use Rattle.std.proofs.Common.{refl, ◌∙◌}
-use Rattle.extern_paths.specs.ProstTypes.{path_words, value_words}
-use Rattle.extern_paths.proofs.ByLaws.{number_is, word_or}
+use Rattle.std.proofs.Common.{◌∙◌}
+use Rattle.options.specs.Settings.{prost_path}
+use Rattle.extern_paths.specs.Seen.{type_seen, type_tail}
+use Rattle.extern_paths.specs.declared.prost_types.ProstType.{ProstType}
+use Rattle.extern_paths.proofs.ByLaws.{type_here, type_past}
 use Rattle.extern_paths.proofs.resolve.numbered_prost_type.Goals as goal
 
-pub returns-clause-is : goal.returns-clause-is
-unfolding path_words value_words
-returns-clause-is c = c.prost_type.ensures.is ∙ number_is _ _ _ _ _ (word_or path_words c.args.j _ _ _ c.unwrap_or-path.ensures refl c.word.ensures) (word_or value_words c.args.j _ _ _ c.unwrap_or-value.ensures refl c.word-2.ensures)
+pub returns-in-Some-clause-is : goal.returns-in-Some-clause-is
+returns-in-Some-clause-is c =
+    c.prost_type.ensures.is ∙ type_here (type_seen (prost_path c.args.options.now) c.args.own.now) c.args.types.now c.args.j _ _ c.in-Some.ensures.lookup.3.0 c.in-Some.ensures.lookup.1
+
+pub returns-in-Some-clause-tail : goal.returns-in-Some-clause-tail
+returns-in-Some-clause-tail c =
+    c.prost_type.ensures.tail ∙ type_here (λ (t : ProstType). type_tail t.value) c.args.types.now c.args.j _ _ c.in-Some.ensures.lookup.3.0 c.in-Some.ensures.lookup.1
+
+pub returns-in-None-clause-is : goal.returns-in-None-clause-is
+returns-in-None-clause-is c = type_past (type_seen (prost_path c.args.options.now) c.args.own.now) c.args.types.now c.args.j _ c.in-None.ensures.lookup.3
+
+pub returns-in-None-clause-tail : goal.returns-in-None-clause-tail
+returns-in-None-clause-tail c = type_past (λ (t : ProstType). type_tail t.value) c.args.types.now c.args.j _ c.in-None.ensures.lookup.3

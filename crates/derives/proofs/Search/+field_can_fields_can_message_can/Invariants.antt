@@ -1,6 +1,6 @@
 use Rattle.derives.proofs.Known.{Scan}
 use Prim.Native.Nat.{◌+◌, ◌*◌}
-use Rattle.derives.proofs.+field_can_fields_can_message_can.Given as goal
+use Rattle.derives.proofs.Search.+field_can_fields_can_message_can.Given as goal
 
 abbrev pub decreases-field_can : goal.decreases-field_can
 decreases-field_can l = 3 * l.depth
@@ -12,4 +12,4 @@ abbrev pub decreases-message_can : goal.decreases-message_can
 decreases-message_can l = 3 * l.depth + 2
 
 abbrev pub invariant-fields_can-loop-field : goal.invariant-fields_can-loop-field
-invariant-fields_can-loop-field l = Scan l.derive l.graph l.fields l.initial.memo l.memo l.message l.field-index
+invariant-fields_can-loop-field l = Scan l.self.derive l.self.graph.now l.fields l.initial.memo l.memo l.message l.field-index

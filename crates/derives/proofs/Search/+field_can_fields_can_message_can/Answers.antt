@@ -1,8 +1,8 @@
 use Rattle.std.proofs.Common.{◌∙◌, sym, ap, arith}
 use Rattle.derives.specs.Can.{answer_of}
 use Rattle.derives.proofs.Known.{field_told, field_by_type, memo_type, type_cannot, kept_memo, memo_sought, sought_fewer, kept_found, scan_other, scan_can, scan_all, scan_not}
-use Rattle.derives.proofs.+field_can_fields_can_message_can.Goals.{fields_can-else-place_of-message-via-then-place_of-message+else-not-field_can, fields_can-else-place_of-message-via-else-place_of-message}
-use Rattle.derives.proofs.+field_can_fields_can_message_can.Goals as goal
+use Rattle.derives.proofs.Search.+field_can_fields_can_message_can.Goals.{fields_can-else-place_of-message-via-then-place_of-message+else-not-field_can, fields_can-else-place_of-message-via-else-place_of-message}
+use Rattle.derives.proofs.Search.+field_can_fields_can_message_can.Goals as goal
 
 pub field_can-message_can-requires : goal.field_can-message_can-requires
 field_can-message_can-requires t c =
