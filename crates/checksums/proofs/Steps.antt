@@ -1,5 +1,5 @@
 -- One step of each loop: a byte of a string, a number of a table. Assumes nothing.
-use Prim.Native.Nat.{ℕ, ◌+◌, ◌-◌, ◌*◌, ◌%◌, ◌^◌, ◌<◌, ◌≤◌}
+use Prim.Native.Nat.{ℕ, suc, ◌+◌, ◌-◌, ◌*◌, ◌%◌, ◌^◌, ◌<◌, ◌≤◌}
 use mathlib.Core.Path.{◌≡◌, refl, sym, ap, ◌∙◌}
 use mathlib.Core.Bool.{Bool, true, false, ◌||◌}
 use mathlib.Core.List.{List, [], ◌∷◌}
@@ -8,10 +8,15 @@ use native.Mathlib.Numerals.{add-one}
 use native.Mathlib.Omega.{arith}
 use lib.ListN.{length, set, get_or, take, drop, length-drop, drop_of_length-le}
 use lib.Seq.{set_out, drop-cons, take_all}
-use lib.Dec.{eqb}
+use lib.Dec.{eqb, ltb}
+use Rattle.std.proofs.Common.{length-set, length-take-le, take-suc-set, le-leb}
+use Rattle.std.proofs.Math.Decide.{dec_le}
+use Rattle.std.proofs.lemmas.Bool.{lt-leb}
 use borrow.Author.Tests.{eq-eqb, ne_eqb, eqb-true, eqb-false, lt-ltb, le-ltb}
 use Rattle.base.specs.Choose.{choose}
+use Rattle.std.specs.Prelude.{Some}
 use Rattle.checksums.specs.Sums.{sum_from, holds, repeats, Put}
+use Rattle.checksums.specs.Lists.{first, pushed, may}
 
 pub sum_more : (s : List ℕ) (h i x : ℕ) → i < length s → x ≡ get_or s i 0 → sum_from ((h * 1000003 + x) % 2 ^ 32) (drop (i + 1) s) ≡ sum_from h (drop i s)
 unfolding sum_from
@@ -59,3 +64,38 @@ put_there t n x l = record { table = refl; count = rw (lt-ltb n (length t) l) }
 pub put_nowhere : (t : List ℕ) (n x : ℕ) → length t ≤ n → Put t n x t (length t + 1)
 unfolding choose
 put_nowhere t n x l = record { table = sym (set_out t n x l); count = rw (le-ltb n (length t) l) }
+
+-- ---- a table that has room for n of a list's numbers
+pub none_first : (t : List ℕ) → first 0 t ≡ Some []
+unfolding first choose
+none_first t = rw (le-leb 0 (length t) (omega arith)) refl
+
+module _ (n : ℕ) (t : List ℕ) (m : ℕ) (size : length t ≡ n) where
+  pub first_pushed : {x : ℕ} {t' : List ℕ} {r : ℕ} → Put t m x t' r → first r t' ≡ pushed n (first m t) x
+  unfolding first pushed choose
+  first_pushed {x} {t'} {r} put =
+      let same : length t' ≡ length t = ap length put.table ∙ length-set t m x in
+      by same (dec_le (suc m) (length t)) (dec_le m (length t))
+    where
+      by : length t' ≡ length t → Dec (suc m ≤ length t) → Dec (m ≤ length t) → first r t' ≡ pushed n (first m t) x
+      by same (yes h) _ =
+          let count : r ≡ m + 1 = put.count ∙ rw (lt-ltb m (length t) h) in
+          let fits : length (take m t) ≡ m = length-take-le m t (omega arith) in
+          rw (le-leb m (length t) (omega arith), count, le-leb (m + 1) (length t') (omega arith), fits, le-leb (m + 1) n (omega arith), put.table, add-one)
+          (ap Some (take-suc-set t m x h))
+      by same (no h) (yes k) =
+          let count : r ≡ length t + 1 = put.count ∙ rw (le-ltb m (length t) (omega arith)) in
+          let fits : length (take m t) ≡ m = length-take-le m t k in
+          rw (le-leb m (length t) k, count, lt-leb (length t + 1) (length t') (omega arith), fits, lt-leb (m + 1) n (omega arith)) refl
+      by same (no h) (no k) =
+          let count : r ≡ length t + 1 = put.count ∙ rw (le-ltb m (length t) (omega arith)) in
+          rw (lt-leb m (length t) (omega arith), count, lt-leb (length t + 1) (length t') (omega arith)) refl
+
+  module _ (test : List ℕ → Bool) where
+    pub full_may : n < m → ltb n m ≡ may test (first m t)
+    unfolding first may choose
+    full_may h = rw (lt-leb m (length t) (omega arith), lt-ltb n m h) refl
+
+    pub held_may : {r : Bool} → m ≤ n → r ≡ test (take m t) → r ≡ may test (first m t)
+    unfolding first may choose
+    held_may h e = rw (le-leb m (length t) (omega arith)) e

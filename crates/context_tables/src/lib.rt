@@ -1,7 +1,7 @@
 //! The two tables that the text's writers read: a row for each message of a set, and one for each field.
 #![tactic(auto)]
 
-ghost use Rattle.std.specs.Prelude.{◌≡◌, false, length, get_or};
+ghost use Rattle.std.specs.Prelude.{◌≡◌, false, ℕ, ◌<◌, ◌^◌, length, get_or};
 ghost use Rattle.message_graph.specs.Rows.{fields_of, settings_of};
 ghost use Rattle.message_graph.specs.Boxes.{boxed_by_loop};
 ghost use Rattle.message_graph.specs.Tab.{tab};
@@ -13,6 +13,19 @@ use descriptor::{FieldDescriptor, MessageHeader};
 use index::Row;
 use message_graph::{Field, LABEL_REPEATED, MESSAGES, TYPE_MESSAGE};
 use text_tables::{FieldRow, MessageRow, Place};
+
+// Fills a table: each place with what is made for its number. Private: no public function may ask anything of its callers, and this
+// asks for a closure that can be called at each number.
+#[inline]
+#[tactic(auto, using(message_graph::specs::Tab::filled_all))]
+fn fill<T: Copy, F: Fn(usize) -> T>(table: &mut [T], made: F)
+    requires { F.IsAlwaysCallable made }
+    ensures { (f : ℕ → T) → ((i : ℕ) (x : T) → i < 2 ^ 64 → F.post made i x → x ≡ f i) → table.new ≡ tab (length table.old) f }
+{
+    for (i, place) in table.iter_mut().enumerate() {
+        *place = made(i);
+    }
+}
 
 // The flag that a table has at i, and false past its end.
 fn flag_at(flags: &[bool], i: usize) -> bool
@@ -30,13 +43,10 @@ fn entry_at(set: &[u8], rows: &[Row], i: usize) -> bool
 }
 
 /// For each place of `out`, whether the message with that number is a map entry.
-#[tactic(auto, using(message_graph::specs::Tab::filled_none, message_graph::specs::Tab::filled_all))]
 pub fn fill_entries(set: &[u8], rows: &[Row], out: &mut [bool])
     ensures { out.new ≡ tab (length out.old) (entry_at set.now rows.now) }
 {
-    for (i, entry) in out.iter_mut().enumerate() {
-        *entry = entry_at(set, rows, i);
-    }
+    fill(out, |i| entry_at(set, rows, i));
 }
 
 // What the rows of the messages are made from: the rows of their places, the first field of each, and what each can derive.
@@ -62,15 +72,14 @@ impl Messages<'_> {
     }
 
     // The rows of the messages.
-    #[tactic(auto, using(message_graph::specs::Tab::filled_none, message_graph::specs::Tab::filled_all))]
     fn fill(&self, rows: &mut [MessageRow])
         ensures { rows.new ≡ tab (length rows.old) (message_in self.now) }
     {
-        for (i, row) in rows.iter_mut().enumerate() {
-            *row = self.row(i);
-        }
+        fill(rows, |i| self.row(i));
     }
 }
+
+// Columns: each is made by a layer of its own, in arrays of the caller (no heap).
 
 // What the rows of the fields are made from: the set, the rows of the messages' and of the fields' places, the fields, which of
 // them are boxed by a loop, which messages are map entries, and what each message can derive.
@@ -157,13 +166,10 @@ impl Fields<'_> {
     }
 
     // The rows of the fields.
-    #[tactic(auto, using(message_graph::specs::Tab::filled_none, message_graph::specs::Tab::filled_all))]
     fn fill(&self, rows: &mut [FieldRow])
         ensures { rows.new ≡ tab (length rows.old) (field_in self.now) }
     {
-        for (k, row) in rows.iter_mut().enumerate() {
-            *row = self.row(k);
-        }
+        fill(rows, |k| self.row(k));
     }
 }
 

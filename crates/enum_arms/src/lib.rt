@@ -26,6 +26,8 @@ pub enum Arm {
     FromStr,
 }
 
+// Options, depth and enum are passed each by itself: the depth is another at each line, so a struct would be made anew.
+
 #[tactic(auto, unfolding(code_generator::specs::Enums::variant_lines))]
 fn put_variant_lines(
     text: &mut Text<'_>,
@@ -58,6 +60,8 @@ fn put_variant(
     put_variant_lines(text, options, depth, enumeration.name(), value);
 }
 
+// This arm and the one below are two functions, as in the Rust: the name and the variant stand in them the other way round, and the
+// mark of a deprecated one is a line here and within the line there.
 #[tactic(auto, unfolding(code_generator::specs::Enums::as_str_arm))]
 fn put_as_str_arm(
     text: &mut Text<'_>,

@@ -12,6 +12,8 @@ use enum_values::Enumeration;
 use options::Options;
 use writer::Text;
 
+// The two functions of arms stand between `put_values` and the methods: with `put_values` called in a method, the proof of the
+// method's text was tried and didn't close.
 #[tactic(auto, using(enum_arms::proofs::ArmLaws::as_str_arms_are))]
 fn put_as_str_arms(
     text: &mut Text<'_>,

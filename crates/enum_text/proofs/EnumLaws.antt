@@ -1,7 +1,7 @@
 -- Within the limits the text is `append_enum`'s. Assumes nothing.
 use Prim.Native.Nat.{ℕ, suc, ◌≤◌}
 use mathlib.Core.Path.{◌≡◌, refl, ap}
-use mathlib.Core.Bool.{Bool, true, false, ◌&&◌, not}
+use mathlib.Core.Bool.{Bool, true, ◌&&◌}
 use mathlib.Core.List.{List, [], ◌∷◌, ◌++◌}
 use lib.Dec.{leb}
 use lib.ListN.{length}
@@ -10,16 +10,14 @@ use borrow.Author.Tests.{leb-true}
 use Rattle.base.specs.Choose.{choose_case}
 use Rattle.base.specs.Lists.{all}
 use Rattle.base.specs.Tests.{and_left, and_right, and_both}
-use Rattle.writer.specs.Text.{pick}
 use Rattle.descriptor.specs.Descriptor.{Bytes, ValueDescriptor, EnumDescriptor}
 use Rattle.options.specs.Settings.{Setting}
-use Rattle.extern_paths.specs.ExternPaths.{taken}
 use Rattle.name_rules.specs.Accessors.{text}
 use Rattle.name_rules.specs.FullNames.{◌·◌}
 use Rattle.joined.specs.Joined.{fits}
 use Rattle.code_generator.specs.Piece.{flat}
 use Rattle.code_generator.specs.Attributes.{append_field_attributes}
-use Rattle.code_generator.specs.Enums.{value_number, is_used, mappings_from, build_enum_value_mappings, variant_lines, enum_variant, enum_variants, enum_declaration, enum_impl, append_enum, append_enums}
+use Rattle.code_generator.specs.Enums.{value_number, is_used, mappings_from, build_enum_value_mappings, variant_lines, enum_variant, enum_variants, enum_declaration, append_enum, append_enums}
 use Rattle.enum_arms.specs.declared.Arm.TheVariants.{Variant}
 use Rattle.enum_arms.specs.ValueText.{variant_text, value_text, value_texts}
 use Rattle.enum_declaration.specs.DeclarationText.{declaration_text}

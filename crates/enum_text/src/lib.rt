@@ -15,7 +15,7 @@ use enum_declaration::put_enum_declaration;
 use enum_impl::put_enum_impl;
 use enum_values::{Enumeration, build_enum_value_mappings};
 use extern_paths::resolve::takes;
-use joined::{FullName, name_of};
+use joined::{Name, name_of};
 use options::Options;
 use parts::Parts;
 use writer::Text;
@@ -42,7 +42,7 @@ fn put_enum(text: &mut Text<'_>, part: &[u8], options: &Options<'_>, depth: usiz
     ensures { text.new ≡ text.old ⊳ enum_tree options.now depth scope.now (decode_enum part.now) }
 {
     let name = name_of(part);
-    if let Some(full) = FullName::whole(scope, name) {
+    if let Some(full) = Name::whole(scope, name) {
         if !takes(options, full.as_bytes()) {
             put_written(text, part, options, depth, full.as_bytes(), name);
         }
@@ -64,6 +64,8 @@ pub fn append_enum(
     text.length
 }
 
+// As oneof_text's `put_oneof` and message_text's two: what is lent needs the writer's other arguments, so a method of `Text`
+// over a closure would be as long.
 /// The same, lent the rest of the text's buffer.
 fn lend_enum(text: &mut Text<'_>, part: &[u8], options: &Options<'_>, depth: usize, scope: &[u8])
     ensures { text.new ≡ text.old ▻ enum_text options.now depth scope.now (decode_enum part.now) }

@@ -1,9 +1,9 @@
 //! Refusal 8: two variants of a written enum have the same name.
-ghost use Rattle.std.specs.Prelude.{◌≡◌, List, ◌++◌, map, ℕ, drop, Some, None};
+ghost use Rattle.std.specs.Prelude.{◌≡◌, map, drop, Some, None};
 ghost use Rattle.base.specs.Choose.{choose};
 ghost use Rattle.base.specs.Bytes.{same};
 ghost use Rattle.checksums.specs.Sums.{sum_of};
-ghost use Rattle.checksums.specs.SumLaws.{Stored};
+ghost use Rattle.checksums.specs.Lists.{all_pushed};
 ghost use Rattle.writer.specs.Draft.{Filled};
 ghost use Rattle.std.specs.List.{list_any};
 ghost use Rattle.descriptor.specs.Descriptor.{Bytes};
@@ -11,32 +11,15 @@ ghost use Rattle.descriptor.specs.Decode.{decode_enum};
 ghost use Rattle.code_generator.specs.Refusals.{overlap};
 ghost use Rattle.enum_text.specs.Overlap.{variant_name, has_room, asked, names, value_sums, enum_meets};
 
+use checksums::Sums;
 use descriptor::EnumValueDescriptor;
 use enum_values::{Enumeration, Values, build_enum_value_mappings, put_variant_name, value_name};
 use extern_paths::resolve::takes;
-use joined::{FullName, MAX_PATH, name_of};
+use joined::{MAX_PATH, Name, name_of};
 use options::Options;
-use std::marker::Model;
 use writer::Text;
 
-/// A variant's name.
-#[derive(Drop)]
-struct VariantName {
-    bytes: [u8; MAX_PATH],
-    length: usize,
-}
-
-impl Model for VariantName {
-    ghost use Rattle.std.specs.Prelude.{◌≤◌, take};
-    ghost use Rattle.descriptor.specs.Descriptor.{Bytes};
-    ghost use Rattle.joined.specs.Joined.{max_path};
-
-    ghost Value = { Bytes };
-
-    ghost view = { λ n. take n.length n.bytes };
-
-    ghost invariant = { λ n. n.length ≤ max_path };
-}
+// The options go beside the enum in what follows: a struct of both would be made for this module alone.
 
 /// The name of a value's variant, as far as the buffer goes, and its length.
 #[tactic(auto, unfolding(crate::specs::Overlap::variant_name))]
@@ -53,28 +36,17 @@ fn fill_name(
     text.length
 }
 
-impl VariantName {
-    /// The name of a value's variant, where it has room.
-    fn of(
-        options: &Options<'_>,
-        enumeration: &Enumeration<'_>,
-        value: &EnumValueDescriptor<'_>,
-    ) -> Option<VariantName>
-        ensures { result ≡ choose (has_room options.now enumeration.now.name value.now) (Some (variant_name options.now enumeration.now.name value.now)) None }
-    {
-        let mut bytes = [0u8; MAX_PATH];
-        let length = fill_name(&mut bytes, options, enumeration, value);
-        if MAX_PATH < length {
-            return None;
-        }
-        Some(VariantName { bytes, length })
-    }
-
-    fn as_bytes(&self) -> &[u8]
-        ensures { result.now ≡ self.now }
-    {
-        &self.bytes[..self.length]
-    }
+/// The name of a value's variant, where it has room.
+fn variant_name(
+    options: &Options<'_>,
+    enumeration: &Enumeration<'_>,
+    value: &EnumValueDescriptor<'_>,
+) -> Option<Name>
+    ensures { result ≡ choose (has_room options.now enumeration.now.name value.now) (Some (variant_name options.now enumeration.now.name value.now)) None }
+{
+    let mut bytes = [0u8; MAX_PATH];
+    let length = fill_name(&mut bytes, options, enumeration, value);
+    Name::fitting(bytes, length)
 }
 
 /// Is this the name of a value's variant?
@@ -87,7 +59,7 @@ fn is_named(
 ) -> bool
     ensures { result ≡ asked options.now enumeration.now.name (same name.now) value.now }
 {
-    match VariantName::of(options, enumeration, value) {
+    match variant_name(options, enumeration, value) {
         Some(other) => base::same_bytes(name, other.as_bytes()),
         None => false,
     }
@@ -126,7 +98,7 @@ fn comes_again(
 ) -> bool
     ensures { result ≡ asked options.now enumeration.now.name (λ (x : Bytes). list_any (asked options.now enumeration.now.name (same x)) (drop from enumeration.now.values)) value.now }
 {
-    match VariantName::of(options, enumeration, value) {
+    match variant_name(options, enumeration, value) {
         Some(name) => comes(name.as_bytes(), options, enumeration, from),
         None => false,
     }
@@ -146,43 +118,36 @@ fn meets(options: &Options<'_>, enumeration: &Enumeration<'_>) -> bool
     false
 }
 
-/// The checksum of a value's name, behind `count` that a table has.
+/// The checksum of a value's name, behind those that are there.
 fn put_sum_of(
-    sums: &mut [u64],
-    count: usize,
+    sums: &mut Sums<256>,
     options: &Options<'_>,
     enumeration: &Enumeration<'_>,
     value: &EnumValueDescriptor<'_>,
-) -> usize
-    ensures { (l : List ℕ) → Stored sums.old count l → Stored sums.new result (l ++ value_sums options.now enumeration.now.name value.now) }
+)
+    ensures { sums.new ≡ all_pushed 256 sums.old (value_sums options.now enumeration.now.name value.now) }
 {
-    match VariantName::of(options, enumeration, value) {
-        Some(name) => checksums::put_sum(sums, count, checksums::checksum(name.as_bytes())),
-        None => count,
+    if let Some(name) = variant_name(options, enumeration, value) {
+        sums.push(checksums::checksum(name.as_bytes()));
     }
 }
 
-/// The checksums of the values' names; and how many they are.
-fn put_sums(sums: &mut [u64], options: &Options<'_>, enumeration: &Enumeration<'_>) -> usize
-    ensures { Stored sums.new result (map sum_of (names options.now enumeration.now.name enumeration.now.values)) }
+/// The checksums of the values' names, behind those that are there.
+fn put_sums(sums: &mut Sums<256>, options: &Options<'_>, enumeration: &Enumeration<'_>)
+    ensures { sums.new ≡ all_pushed 256 sums.old (map sum_of (names options.now enumeration.now.name enumeration.now.values)) }
 {
-    let mut count = 0;
     for value in enumeration.values() {
-        count = put_sum_of(sums, count, options, enumeration, &value);
+        put_sum_of(sums, options, enumeration, &value);
     }
-    count
 }
 
 /// Have two values the same name? Not where no checksum comes twice.
 fn overlaps(options: &Options<'_>, enumeration: &Enumeration<'_>) -> bool
     ensures { result ≡ overlap (names options.now enumeration.now.name enumeration.now.values) }
 {
-    let mut sums = [0u64; 256];
-    let count = put_sums(&mut sums, options, enumeration);
-    if count <= 256 && !checksums::repeats(&sums[..count]) {
-        return false;
-    }
-    meets(options, enumeration)
+    let mut sums = Sums::new();
+    put_sums(&mut sums, options, enumeration);
+    sums.may_repeat() && meets(options, enumeration)
 }
 
 /// Do variants overlap in the enum whose bytes are `part`?
@@ -190,7 +155,7 @@ pub fn enum_overlaps(part: &[u8], options: &Options<'_>, scope: &[u8]) -> bool
     ensures { result ≡ enum_meets options.now scope.now (decode_enum part.now) }
 {
     let name = name_of(part);
-    let Some(full) = FullName::whole(scope, name) else {
+    let Some(full) = Name::whole(scope, name) else {
         return false;
     };
     if takes(options, full.as_bytes()) {

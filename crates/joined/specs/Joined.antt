@@ -7,7 +7,8 @@ use Rattle.std.proofs.Math.Decide.{dec_le}
 use Rattle.std.proofs.Math.ListN.{length, take}
 use Rattle.std.proofs.Math.Seq.{sets-eq, take-append_seam}
 use Rattle.std.proofs.lemmas.Bool.{lt-leb}
-use Rattle.writer.specs.Wrote.{Wrote, over, after, kept, over_cut}
+use Rattle.std.proofs.lemmas.List.{take_min}
+use Rattle.writer.specs.Wrote.{Wrote, over, after, kept, over_cut, over_length}
 use Rattle.writer.specs.Draft.{Draft, most, extended, Filled}
 use Rattle.writer.proofs.Laying.{sets-take}
 use Rattle.base.specs.Choose.{choose}
@@ -98,6 +99,21 @@ module _ {t p t' : List ℕ} {n : ℕ} (w : Filled t p t' n) (size : length t �
   text_long f z h =
       let l = long in
       rw (lt-leb (length p) max_path (omega arith)) refl
+
+  -- its bytes in the buffer are those that fit
+  pub text_cut : take n t' ≡ take max_path p
+  text_cut =
+      let l : length t' ≡ max_path = ap length laid ∙ over_length t 0 p ∙ size in
+      sym (take_min n t') ∙ text_used (ap (min n) l)
+
+  -- it is there as a whole where its length fits
+  pub text_fitting : {A : Type 0} (f : Bytes → A) (z : A) → choose (leb n max_path) (f (take n t')) z ≡ choose (leb (length p) max_path) (f p) z
+  unfolding choose
+  text_fitting f z = by (dec_le n max_path)
+    where
+      by : Dec (n ≤ max_path) → choose (leb n max_path) (f (take n t')) z ≡ choose (leb (length p) max_path) (f p) z
+      by (yes h) = rw (le-leb n max_path h) (text_whole f z h)
+      by (no h) = rw (lt-leb n max_path (omega arith)) (text_long f z (omega arith))
 
 -- n bytes of a buffer are used
 pub used : {t t' p : List ℕ} {r n : ℕ} → Wrote t 0 p t' r → n ≡ min r (length t') → (n ≤ length t') × (take n t' ≡ take (length t) p)

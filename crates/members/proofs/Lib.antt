@@ -4,3 +4,4 @@ pub mod SettingLaws
 pub mod RangeLaws
 pub mod TypeLaws
 pub mod OneofLaws
+pub mod DeepLaws

@@ -1,47 +1,47 @@
 -- The checksums of camel names, one record on; and that a name with another checksum meets none. Assumes nothing.
-use Prim.Native.Nat.{ℕ, ◌-◌, ◌≤◌}
-use mathlib.Core.Path.{◌≡◌, refl, sym, ap, ◌∙◌}
-use mathlib.Core.Bool.{Bool, true, false, ◌||◌}
-use mathlib.Core.List.{List, [], ◌∷◌, ◌++◌, map, append_assoc, append-nil}
-use lib.ListN.{length, take, drop, length-set}
+use Rattle.std.specs.Prelude.{◌≡◌, ℕ, Bool, true, false, ◌||◌, Option, Some, List, [], ◌∷◌, map}
+use Rattle.std.proofs.Common.{sym, ap, ◌∙◌}
 use Rattle.base.specs.Choose.{choose}
 use Rattle.base.specs.Lists.{any}
 use Rattle.base.specs.Tests.{or_false_left, or_false_right}
-use Rattle.checksums.specs.Sums.{sum_of, holds, Put}
-use Rattle.checksums.specs.SumLaws.{Stored, stored_more, absent, holds_append, or_none}
+use Rattle.checksums.specs.Sums.{sum_of, holds}
+use Rattle.checksums.specs.Lists.{pushed, all_pushed, may, all_pushed_append, denied}
+use Rattle.checksums.specs.SumLaws.{absent, holds_append, or_none}
 use Rattle.descriptor.specs.Descriptor.{Bytes}
 use Rattle.descriptor.specs.Decode.{entries, parts}
-use Rattle.joined.specs.Joined.{sliced}
 use Rattle.members.specs.Members.{name_in, cut_camel, meets_part, conflict, part_sums, camel_sums}
 
-abbrev sum_in : Bytes → ℕ
+abbrev pub sum_in : Bytes → ℕ
 sum_in q = sum_of (cut_camel (name_in q))
 
-module _ (number : ℕ) (p s₀ : List ℕ) (n₀ : ℕ) where
-  -- the table is s, with n checksums; these parts are left
-  pub record Summing (s : List ℕ) (n : ℕ) (qs : List Bytes) : Type 0 where
-    pub so_far : List ℕ
-    pub stored : (l : List ℕ) → Stored s₀ n₀ l → Stored s n (l ++ so_far)
-    pub rest : so_far ++ map sum_in qs ≡ part_sums number p
-    pub size : length s ≡ length s₀
-
-  pub summing_start : {qs : List Bytes} → qs ≡ parts number (entries p) → Summing s₀ n₀ qs
+-- ---- the sums of the parts that are left, behind the list o
+module _ (o : Option (List ℕ)) {qs : List Bytes} where
+  pub sums_from : (number : ℕ) (p : Bytes) → qs ≡ parts number (entries p) → all_pushed 512 o (map sum_in qs) ≡ all_pushed 512 o (part_sums number p)
   unfolding part_sums
-  summing_start e = record { so_far = []; stored = λ l h. rw (append-nil l) h; rest = ap (map sum_in) e; size = refl }
+  sums_from number p e = ap (λ (l : List Bytes). all_pushed 512 o (map sum_in l)) e
 
-  pub summing_on : {s : List ℕ} {n : ℕ} {q : Bytes} {qs rest : List Bytes} → Summing s n qs → qs ≡ q ∷ rest → {name : List ℕ} {x : ℕ} {s' : List ℕ} {n' : ℕ} → name ≡ name_in q → x ≡ sum_of (cut_camel name) → Put s n x s' n' → Summing s' n' rest
-  summing_on {s} {n} {q} {qs} {rest} g first {name} {x} {s'} {n'} named sum put =
+  pub sums_on : {q : Bytes} {rest : List Bytes} {all : Option (List ℕ)} → all_pushed 512 o (map sum_in qs) ≡ all → qs ≡ q ∷ rest
+      → {name : Bytes} {x : ℕ} {o' : Option (List ℕ)} → name ≡ name_in q → x ≡ sum_of (cut_camel name) → o' ≡ pushed 512 o x → all_pushed 512 o' (map sum_in rest) ≡ all
+  unfolding all_pushed
+  sums_on {q} {rest} h first {name} {x} {o'} named sum push =
       let x_is : x ≡ sum_in q = sum ∙ ap (λ (l : List ℕ). sum_of (cut_camel l)) named in
-      record {
-        so_far = g.so_far ++ (x ∷ []);
-        stored = λ l h. rw (← append_assoc l g.so_far (x ∷ [])) (stored_more (g.stored l h) put);
-        rest =
-            append_assoc g.so_far (x ∷ []) (map sum_in rest)
-            ∙ ap (λ (y : ℕ). g.so_far ++ (y ∷ map sum_in rest)) x_is
-            ∙ ap (λ (l : List Bytes). g.so_far ++ map sum_in l) (sym first)
-            ∙ g.rest;
-        size = ap length put.table ∙ length-set s n x ∙ g.size;
-      }
+      ap (λ (u : Option (List ℕ)). all_pushed 512 u (map sum_in rest)) (push ∙ ap (pushed 512 o) x_is)
+      ∙ ap (λ (l : List Bytes). all_pushed 512 o (map sum_in l)) (sym first)
+      ∙ h
+
+  pub sums_end : {all : Option (List ℕ)} → all_pushed 512 o (map sum_in qs) ≡ all → qs ≡ [] → o ≡ all
+  unfolding all_pushed
+  sums_end h none = ap (λ (l : List Bytes). all_pushed 512 o (map sum_in l)) (sym none) ∙ h
+
+-- ---- those of the enums behind those of the messages, where they are read
+module _ (o : Option (List ℕ)) {o₁ o₂ : Option (List ℕ)} (deeper : Bool) (p : Bytes) (enums : o₂ ≡ all_pushed 512 o₁ (part_sums 4 p)) where
+  pub sums_of_both : deeper ≡ true → o₁ ≡ all_pushed 512 o (part_sums 3 p) → o₂ ≡ all_pushed 512 o (camel_sums deeper p)
+  unfolding camel_sums choose
+  sums_of_both is messages = rw is (enums ∙ ap (λ (u : Option (List ℕ)). all_pushed 512 u (part_sums 4 p)) messages ∙ all_pushed_append 512 o (part_sums 3 p) (part_sums 4 p))
+
+  pub sums_of_enums : deeper ≡ false → o₁ ≡ o → o₂ ≡ all_pushed 512 o (camel_sums deeper p)
+  unfolding camel_sums choose
+  sums_of_enums is none = rw is (enums ∙ ap (λ (u : Option (List ℕ)). all_pushed 512 u (part_sums 4 p)) none)
 
 -- ---- a name that meets none
 module _ (p name : Bytes) where
@@ -57,7 +57,9 @@ module _ (p name : Bytes) where
       sym
       (or_none (none_of 3 (or_false_left (holds (sum_of (cut_camel name)) (part_sums 3 p)) _ both)) (none_of 4 (or_false_right (holds (sum_of (cut_camel name)) (part_sums 3 p)) _ both)))
 
-  pub conflict_none : (deeper : Bool) (sums : List ℕ) (n x : ℕ) (r : Bool) → n ≤ length sums → x ≡ sum_of (cut_camel name) → r ≡ holds x (take (n - 0) (drop 0 sums)) → r ≡ false
-      → Stored sums n (camel_sums deeper p) → false ≡ conflict deeper p name
-  conflict_none deeper sums n x r fits sum asked is_false stored =
-      meets_none deeper (ap (holds (sum_of (cut_camel name))) (sym (sliced sums (camel_sums deeper p) n (stored.is fits))) ∙ ap (λ (y : ℕ). holds y (take (n - 0) (drop 0 sums))) (sym sum) ∙ sym asked ∙ is_false)
+  pub conflict_none : (deeper : Bool) {o : Option (List ℕ)} {x : ℕ} {r : Bool} → o ≡ all_pushed 512 (Some []) (camel_sums deeper p) → x ≡ sum_of (cut_camel name) → r ≡ may (holds x) o → r ≡ false
+      → false ≡ conflict deeper p name
+  conflict_none deeper {o} {x} sums sum asked is_false =
+      meets_none deeper
+      (ap (λ (y : ℕ). holds y (camel_sums deeper p)) (sym sum)
+      ∙ denied (holds x) 512 [] (camel_sums deeper p) (ap (may (holds x)) (sym sums) ∙ sym asked ∙ is_false))

@@ -1,56 +1,29 @@
 //! The camel names of the types nested in a message, which the name of a oneof's type may meet.
-ghost use Rattle.std.specs.Prelude.{◌≡◌, ◌&&◌, ◌||◌, List, ◌++◌, ℕ};
+ghost use Rattle.std.specs.Prelude.{◌≡◌, ◌&&◌, ◌||◌};
 ghost use Rattle.base.specs.Bytes.{same};
 ghost use Rattle.base.specs.Lists.{any};
 ghost use Rattle.checksums.specs.Sums.{sum_of};
-ghost use Rattle.checksums.specs.SumLaws.{Stored};
+ghost use Rattle.checksums.specs.Lists.{all_pushed};
 ghost use Rattle.descriptor.specs.Descriptor.{Bytes};
 ghost use Rattle.descriptor.specs.Decode.{entries, parts};
 ghost use Rattle.members.specs.Members.{name_in, cut_camel, conflict, part_sums, camel_sums};
 
+use checksums::Sums;
 use descriptor::field_number::{MESSAGE_ENUM_TYPE, MESSAGE_NESTED_TYPE};
-use joined::MAX_PATH;
+use joined::{MAX_PATH, Name};
 use parts::Parts;
 use std::marker::Model;
 
 /// More than the messages and enums that a message can hold (limits 3 and 5).
 pub const NAMES: usize = 512;
 
-/// A name in upper camel case, cut where it has over `MAX_PATH` bytes.
-#[derive(Drop)]
-pub struct CamelName {
-    bytes: [u8; MAX_PATH],
-    length: usize,
-}
-
-impl Model for CamelName {
-    ghost use Rattle.std.specs.Prelude.{◌≤◌, take};
-    ghost use Rattle.descriptor.specs.Descriptor.{Bytes};
-    ghost use Rattle.joined.specs.Joined.{max_path};
-
-    ghost Value = { Bytes };
-
-    ghost view = { λ c. take c.length c.bytes };
-
-    ghost invariant = { λ c. c.length ≤ max_path };
-}
-
-impl CamelName {
-    /// Of a name.
-    pub fn new(name: &[u8]) -> CamelName
-        ensures { result ≡ cut_camel name.now }
-    {
-        let mut bytes = [0u8; MAX_PATH];
-        let length = ident::text::fill_upper_camel(&mut bytes, name).min(MAX_PATH);
-        CamelName { bytes, length }
-    }
-
-    /// Its bytes.
-    pub fn as_bytes(&self) -> &[u8]
-        ensures { result.now ≡ self.now }
-    {
-        &self.bytes[..self.length]
-    }
+// A name in upper camel case, cut where it has over `MAX_PATH` bytes.
+fn camel_name(name: &[u8]) -> Name
+    ensures { result ≡ cut_camel name.now }
+{
+    let mut bytes = [0u8; MAX_PATH];
+    let length = ident::text::fill_upper_camel(&mut bytes, name);
+    Name::cut(bytes, length)
 }
 
 // Is it the camel name of the declaration whose bytes `part` is?
@@ -58,7 +31,7 @@ impl CamelName {
 fn meets_part(camel: &[u8], part: &[u8]) -> bool
     ensures { result ≡ same (cut_camel (name_in part.now)) camel.now }
 {
-    let own = CamelName::new(joined::name_of(part));
+    let own = camel_name(joined::name_of(part));
     own.as_bytes() == camel
 }
 
@@ -82,7 +55,7 @@ fn conflicts(part: &[u8], nested: bool, camel: &[u8]) -> bool
 fn conflict(part: &[u8], nested: bool, name: &[u8]) -> bool
     ensures { result ≡ conflict nested part.now name.now }
 {
-    let camel = CamelName::new(name);
+    let camel = camel_name(name);
     conflicts(part, nested, camel.as_bytes())
 }
 
@@ -90,45 +63,28 @@ fn conflict(part: &[u8], nested: bool, name: &[u8]) -> bool
 fn camel_sum(name: &[u8]) -> u64
     ensures { result ≡ sum_of (cut_camel name.now) }
 {
-    let camel = CamelName::new(name);
+    let camel = camel_name(name);
     checksums::checksum(camel.as_bytes())
 }
 
-// Puts those of the declarations with the field number in the message behind the first `before`, and gives how many there are then.
-fn put_sums(sums: &mut [u64], before: usize, part: &[u8], number: u64) -> usize
-    ensures { (l : List ℕ) → Stored sums.old before l → Stored sums.new result (l ++ part_sums number part.now) }
+// Puts those of the declarations with the field number in the message behind those that are there.
+fn put_sums(sums: &mut Sums<NAMES>, part: &[u8], number: u64)
+    ensures { sums.new ≡ all_pushed 512 sums.old (part_sums number part.now) }
 {
-    let mut count = before;
     for own in Parts::new(part, number) {
         let sum = camel_sum(joined::name_of(own));
-        count = checksums::put_sum(sums, count, sum);
+        sums.push(sum);
     }
-    count
 }
 
-// Puts those of all names that a oneof's can meet, and gives how many they are.
-fn camel_sums(sums: &mut [u64], nested: bool, part: &[u8]) -> usize
-    ensures { Stored sums.new result (camel_sums nested part.now) }
+// Puts those of all names that a oneof's can meet.
+fn put_camel_sums(sums: &mut Sums<NAMES>, nested: bool, part: &[u8])
+    ensures { sums.new ≡ all_pushed 512 sums.old (camel_sums nested part.now) }
 {
     if nested {
-        let messages = put_sums(sums, 0, part, MESSAGE_NESTED_TYPE);
-        return put_sums(sums, messages, part, MESSAGE_ENUM_TYPE);
+        put_sums(sums, part, MESSAGE_NESTED_TYPE);
     }
-    put_sums(sums, 0, part, MESSAGE_ENUM_TYPE)
-}
-
-// `conflict` by those checksums: a name whose checksum is none of them meets no name.
-fn conflict_by(sums: &[u64], count: usize, part: &[u8], nested: bool, name: &[u8]) -> bool
-    ensures { Stored sums.now count (camel_sums nested part.now) → result ≡ conflict nested part.now name.now }
-{
-    if sums.len() < count {
-        return conflict(part, nested, name);
-    }
-    let some = checksums::holds(&sums[0..count], camel_sum(name));
-    if some {
-        return conflict(part, nested, name);
-    }
-    false
+    put_sums(sums, part, MESSAGE_ENUM_TYPE);
 }
 
 /// The checksums of the camel names of a message's nested types. A clause sees it as whether nested
@@ -137,13 +93,12 @@ fn conflict_by(sums: &[u64], count: usize, part: &[u8], nested: bool, name: &[u8
 pub struct CamelSums<'a> {
     part: &'a [u8],
     nested: bool,
-    sums: [u64; NAMES],
-    count: usize,
+    sums: Sums<NAMES>,
 }
 
 impl<'a> Model for CamelSums<'a> {
-    ghost use Rattle.std.specs.Prelude.{Bool};
-    ghost use Rattle.checksums.specs.SumLaws.{Stored};
+    ghost use Rattle.std.specs.Prelude.{◌≡◌, Bool, [], Some};
+    ghost use Rattle.checksums.specs.Lists.{all_pushed};
     ghost use Rattle.descriptor.specs.Descriptor.{Bytes};
     ghost use Rattle.members.specs.Members.{camel_sums};
 
@@ -151,7 +106,7 @@ impl<'a> Model for CamelSums<'a> {
 
     ghost view = { λ c. (c.nested, c.part.now) };
 
-    ghost invariant = { λ c. Stored c.sums c.count (camel_sums c.nested c.part.now) };
+    ghost invariant = { λ c. c.sums ≡ all_pushed 512 (Some []) (camel_sums c.nested c.part.now) };
 }
 
 impl<'a> CamelSums<'a> {
@@ -159,20 +114,16 @@ impl<'a> CamelSums<'a> {
     pub fn of(part: &'a [u8], nested: bool) -> Self
         ensures { result ≡ (nested, part.now) }
     {
-        let mut sums = [0u64; NAMES];
-        let count = camel_sums(&mut sums, nested, part);
-        CamelSums {
-            part,
-            nested,
-            sums,
-            count,
-        }
+        let mut sums = Sums::new();
+        put_camel_sums(&mut sums, nested, part);
+        CamelSums { part, nested, sums }
     }
 
-    /// `has_type_name_conflict`: is the camel name of a oneof that of a nested type?
+    /// `has_type_name_conflict`: is the camel name of a oneof that of a nested type? One whose checksum is none of theirs meets
+    /// no name.
     pub fn meets(&self, name: &[u8]) -> bool
         ensures { result ≡ conflict self.now.0 self.now.1 name.now }
     {
-        conflict_by(&self.sums, self.count, self.part, self.nested, name)
+        self.sums.may_hold(camel_sum(name)) && conflict(self.part, self.nested, name)
     }
 }

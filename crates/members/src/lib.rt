@@ -22,7 +22,7 @@ use context::Context;
 use derives::Derive;
 use descriptor::field_number::{MESSAGE_FIELD, MESSAGE_ONEOF_DECL};
 use descriptor::{FieldDescriptor, MessageHeader};
-use joined::FullName;
+use joined::Name;
 use options::{Kind, Options};
 use parts::Parts;
 use std::iter::Enumerate;
@@ -91,7 +91,7 @@ pub fn field_at<'a>(context: &Context<'a>, k: usize) -> FieldDescriptor<'a>
 pub fn setting(options: &Options<'_>, kind: Kind, full: &[u8], name: &[u8]) -> bool
     ensures { result ≡ has options.now (kind_number kind) (full.now ⊙ name.now) }
 {
-    let path = FullName::new(full, name);
+    let path = Name::new(full, name);
     path::get_first(options, kind, path.as_bytes()).is_some()
 }
 
@@ -228,6 +228,7 @@ impl<'t, 'a> Iterator for Oneofs<'t, 'a> {
 
     #[tactic(auto, unfolding(crate::specs::Members::oneofs_from, base::specs::Choose::choose))]
     fn next(&mut self) -> Option<Oneof<'a>> {
+        // no `find`: its law says what was found, and not what is left
         while let Some((index, part)) = self.parts.next() {
             let fields = self.fields.start..self.fields.end;
             let oneof = Oneof::new(self.table, fields, &self.sums, index, part);
@@ -265,6 +266,7 @@ impl<'t> Iterator for Members<'t> {
     ghost remaining = { item_count (λ rest. rest) };
 
     fn next(&mut self) -> Option<usize> {
+        // no `find`, for the same reason
         while let Some(k) = self.fields.next() {
             if text_tables::field_row(self.table, k).is_in(self.index) {
                 return Some(k);

@@ -18,6 +18,7 @@ pub struct MessageRow {
 }
 
 /// Where the bytes of a declaration lie in the set.
+// `u16`, as a row of a table has them; declarations' `Place` lies in any bytes. A type parameter would stand at each use.
 #[derive(Clone, Copy)]
 pub struct Place {
     pub start: u16,
@@ -60,6 +61,8 @@ pub const NO_FIELD: FieldRow = FieldRow {
 };
 
 /// Message `i` of a table.
+// This and `field_row` are one chain of std's functions each: a function over both would take the row past the end as well, and
+// say no less.
 pub fn message_row(rows: &[MessageRow], i: usize) -> MessageRow
     ensures { result ≡ message_row rows.now i }
 {

@@ -1,6 +1,4 @@
-use mathlib.Core.Path.{ap, ◌∙◌}
 use Rattle.descriptor.specs.Decode.{decode_enum, decode_oneof}
-use Rattle.extern_paths.specs.ExternPaths.{taken}
 use Rattle.enum_text.proofs.PartLaws.{tree_unfit, tree_taken, tree_there}
 use Rattle.enum_text.proofs.put_enum.Goals as goal
 

@@ -1,7 +1,6 @@
-use native.Mathlib.Omega.{arith}
-use borrow.Author.Rules.{rules}
+use Rattle.std.proofs.Common.{◌∙◌}
 use Rattle.enum_text.proofs.SumLaws.{sums_apart}
 use Rattle.enum_text.proofs.overlap.overlaps.Goals as goal
 
-pub returns-then-not-repeats : goal.returns-then-not-repeats
-returns-then-not-repeats c = sums_apart _ c.put_sums-count.new.sums _ _ c.put_sums-count.ensures (search rules) c.repeats.ensures c.if-not-repeats.true
+pub returns-else-may_repeat : goal.returns-else-may_repeat
+returns-else-may_repeat c = c.if-may_repeat.false ∙ sums_apart _ c.new-sums.ensures c.put_sums.ensures c.may_repeat.ensures c.if-may_repeat.false

@@ -1,11 +1,12 @@
-use Rattle.enum_text.proofs.SumLaws.{summing_start, summing_end, summing_more}
+use Rattle.std.proofs.Common.{refl}
+use Rattle.enum_text.proofs.SumLaws.{summing_end, summing_more}
 use Rattle.enum_text.proofs.overlap.put_sums.Goals as goal
 
 pub loop-value-init : goal.loop-value-init
-loop-value-init c = rw (c.into_iter-value-iterator.ensures.into_iter_gives, c.values-value-items.ensures.values) (summing_start _ _ _ _)
+loop-value-init c = rw (c.into_iter-value-iterator.ensures.into_iter_gives, c.values-value-items.ensures.values) refl
 
 pub loop-value-preserved : goal.loop-value-preserved
-loop-value-preserved c = summing_more _ _ c.loop-value.invariant c.in-Some.ensures.steps c.put_sum_of-count.ensures
+loop-value-preserved c = summing_more _ _ _ c.loop-value.invariant c.in-Some.ensures.steps c.put_sum_of.ensures
 
 pub returns : goal.returns
-returns c = summing_end _ _ c.loop-value.invariant c.in-None.ensures.steps.0
+returns c = summing_end _ _ _ c.loop-value.invariant c.in-None.ensures.steps.0

@@ -1,5 +1,6 @@
-use Rattle.enum_text.proofs.SumLaws.{Summing}
+use Rattle.std.specs.Prelude.{◌≡◌}
+use Rattle.enum_text.proofs.SumLaws.{with_sums}
 use Rattle.enum_text.proofs.overlap.put_sums.Given as goal
 
 abbrev pub invariant-loop-value : goal.invariant-loop-value
-invariant-loop-value l = Summing l.options l.enumeration.name l.enumeration.values l.value-iterator l.sums l.count
+invariant-loop-value l = with_sums l.options l.enumeration.name l.sums l.value-iterator ≡ with_sums l.options l.enumeration.name l.initial.sums l.enumeration.values

@@ -1,6 +1,0 @@
-use native.Mathlib.Omega.{arith}
-use Rattle.message_graph.specs.Tab.{filled_more}
-use Rattle.context_tables.proofs.Fields.fill.Goals as goal
-
-pub loop-k-preserved : goal.loop-k-preserved
-loop-k-preserved c = filled_more c.loop-k.invariant (omega (arith, c.loop-k.invariant.size)) c.row.result c.row.ensures
