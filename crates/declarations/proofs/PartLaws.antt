@@ -10,9 +10,7 @@ use Rattle.base.specs.Choose.{choose, choose_case}
 use Rattle.wire.specs.Records.{records, part}
 use Rattle.wire.specs.Contents.{field_of, value_of, payload_of}
 use Rattle.wire.proofs.RecordsLaws.{In, AllIn, records_in, length_part}
-use Rattle.wire.specs.declared.Record.{Record}
-use Rattle.wire.specs.declared.Step.{Step}
-use Rattle.wire.specs.declared.Step.TheVariants.{End, Fault, Found}
+use Rattle.wire.specs.Step.{Record, Step, End, Fault, Found}
 use Rattle.descriptor.specs.Decode.{entries, entries_of, last, last_from, text as decoded, bytes_in, parts, decode_message, decode_enum, decode_file}
 use Rattle.descriptor.specs.Descriptor.{Bytes}
 use Rattle.wire.specs.Encoding.{Field, Value}

@@ -16,9 +16,7 @@ use Rattle.wire.proofs.MessageLaws.{records_bound}
 use Rattle.wire.specs.declared.records.record.Fault.{Fault as FaultAt}
 use Rattle.wire.proofs.RecordsLaws.{In, AllIn, records_in}
 use Rattle.wire.proofs.SameRecords.{listed, same_records}
-use Rattle.wire.specs.declared.Record.{Record}
-use Rattle.wire.specs.declared.Step.{Step}
-use Rattle.wire.specs.declared.Step.TheVariants.{End, Fault, Found}
+use Rattle.wire.specs.Step.{Record, Step, End, Fault, Found}
 use Rattle.descriptor.specs.Decode.{bytes_in}
 use Rattle.declarations.specs.Rows.{bytes_at, place, places_of, places}
 use Rattle.declarations.specs.Places.{place_in, places_in}

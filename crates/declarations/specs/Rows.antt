@@ -5,9 +5,7 @@ use Rattle.std.specs.Option.{is_some, unwrap_or}
 use Rattle.std.specs.List.{last_or}
 use Rattle.base.specs.Choose.{choose}
 use Rattle.wire.specs.Records.{records, part}
-use Rattle.wire.specs.declared.Record.{Record}
-use Rattle.wire.specs.declared.Step.{Step}
-use Rattle.wire.specs.declared.Step.TheVariants.{End, Fault, Found}
+use Rattle.wire.specs.Step.{Record, Step, End, Fault, Found}
 use Rattle.declarations.specs.declared.places.Place.{Place}
 use Rattle.declarations.specs.declared.Kind.{Kind}
 use Rattle.declarations.specs.declared.Kind.TheVariants.{Package, Enum, Message}

@@ -1,7 +1,8 @@
 //! The declarations of a set: a table of its messages and enums in declaration order, with what each stands in.
 #![tactic(auto)]
 
-ghost use Rattle.std.specs.Prelude.{◌≡◌, true, ℕ, ◌+◌, ◌<◌, ◌≤◌, length};
+ghost use Rattle.std.specs.Prelude.{◌≡◌, true, ℕ, ◌+◌, ◌-◌, ◌<◌, ◌≤◌, length};
+ghost use Rattle.wire.specs.Records.{part};
 ghost use Rattle.declarations.specs.Rows.{row_at, has_room, kind_number, push_message, state, Became, places, last_place, declaration_row, declare_enums, declare_messages, declare_members, declare_file, declared};
 
 use descriptor::field_number::{
@@ -27,7 +28,8 @@ pub enum Kind {
 
 /// A row: what it declares; where its name starts in the set, and its length; what it stands in (0, or one more than the
 /// row of that); the index of its file; and where its bytes lie.
-// `up` is no `Option`: full names are defined by this number, which falls from a row to what it stands in.
+// `up` is no `Option`, here and where rows are made: full names are defined by this number, which falls from a row to what it
+// stands in.
 #[derive(Clone, Copy)]
 pub struct Declaration {
     pub kind: Kind,
@@ -71,17 +73,34 @@ impl Kind {
     }
 }
 
-/// The row with number `i`. No table has a row past 65,535.
-#[tactic(auto, unfolding(crate::specs::Rows::row_at, base::specs::Choose::choose))]
-pub fn row_at(rows: &[Declaration], i: usize) -> Declaration
-    ensures { result ≡ row_at rows.now i }
-{
-    if 65535 < i {
-        return NO_DECLARATION;
+/// A set and the table of its declarations, of which the first `count` rows are used.
+#[derive(Clone, Copy)]
+pub struct Declarations<'a> {
+    pub set: &'a [u8],
+    pub rows: &'a [Declaration],
+    pub count: usize,
+}
+
+impl<'a> Declarations<'a> {
+    /// The row with number `i`. No table has a row past 65,535.
+    #[tactic(auto, unfolding(crate::specs::Rows::row_at, base::specs::Choose::choose))]
+    pub fn row(&self, i: usize) -> Declaration
+        ensures { result ≡ row_at self.now.rows.now i }
+    {
+        if 65535 < i {
+            return NO_DECLARATION;
+        }
+        match self.rows.get(i) {
+            Some(row) => *row,
+            None => NO_DECLARATION,
+        }
     }
-    match rows.get(i) {
-        Some(row) => *row,
-        None => NO_DECLARATION,
+
+    /// The bytes of what a row declares; what lies past the set's end is left out.
+    pub fn bytes_of(&self, row: Declaration) -> &'a [u8]
+        ensures { result.now ≡ part self.now.set.now row.start (row.end - row.start) }
+    {
+        descriptor::part_of(self.set, row.start, row.end)
     }
 }
 
@@ -158,6 +177,7 @@ fn declare_message(
     requires room { has_room rows.old count.rows ≡ true }
     ensures { Became (declare_enums set.now file (count.rows + 1) (places set.now 4 place) (push_message (declaration_row set.now file up (Kind.Message count.messages) place) (state rows.old count))) rows.new result }
 {
+    // a cast: there is room for the row, so that the number is below 65,536
     let kind = Kind::Message(count.messages as u16);
     rows[count.rows] = declaration_row(set, place, file, up, kind);
     let own = Count {

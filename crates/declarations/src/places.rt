@@ -5,7 +5,7 @@ ghost use Rattle.std.specs.Prelude.{◌≡◌, ◌≤◌, length};
 ghost use Rattle.std.specs.Iterator.{item_count, YieldsFirst};
 ghost use Rattle.declarations.specs.Rows.{places};
 
-use parts::value_bytes;
+use descriptor::bytes_in;
 use std::marker::Model;
 use wire::records::Records;
 
@@ -17,6 +17,7 @@ pub struct Place {
 }
 
 /// The places of the embedded messages with one field number that are left.
+// parts' `Parts` with another item: that gives the bytes, this where they lie. A type parameter would only choose that.
 #[derive(Drop)]
 pub struct Places<'a> {
     records: Records<'a>,
@@ -57,13 +58,14 @@ impl<'a> Iterator for Places<'a> {
 
     #[tactic(auto, unfolding(crate::specs::Places::places_in, base::specs::Choose::choose))]
     fn next(&mut self) -> Option<Place> {
+        // no `find`: its law says what was found, and not what is left
         while let Some(record) = self.records.next() {
             if let Ok(record) = record
                 && record.number == self.number
             {
                 return Some(Place {
                     start: record.start,
-                    end: record.start + value_bytes(record.value).len(),
+                    end: record.start + bytes_in(record.value).len(),
                 });
             }
         }

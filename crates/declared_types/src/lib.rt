@@ -1,24 +1,22 @@
 //! Refusal 7: the first file with a type name that the set doesn't declare, or with a full name declared before.
 #![tactic(auto)]
 
-ghost use Rattle.std.specs.Prelude.{◌≡◌, length};
+ghost use Rattle.std.specs.Prelude.{◌≡◌};
 ghost use Rattle.base.specs.Lists.{all};
 ghost use Rattle.descriptor.specs.Decode.{entries, parts};
-ghost use Rattle.type_names.specs.LookUp.{row_sums};
 ghost use Rattle.declared_types.specs.Undeclared.{type_known, row_good, first_undeclared_row};
 
-use declarations::{Declaration, Kind};
+use declarations::Kind;
 use descriptor::field_number::{MESSAGE_FIELD, SET_FILE};
 use descriptor::{FieldDescriptor, TYPE_ENUM, TYPE_GROUP, TYPE_MESSAGE};
 use parts::Parts;
-use type_names::Sort;
+use type_names::{Names, Sort};
 
 // Is the type name of the field with these bytes declared, where it needs one: of a message or group as a message, of an enum
 // as an enum?
 #[tactic(auto, using(crate::proofs::FieldLaws::known_laws))]
-fn type_good(part: &[u8], set: &[u8], rows: &[Declaration], count: usize, sums: &[u64]) -> bool
-    requires { sums.now ≡ row_sums set.now rows.now (length sums.now) }
-    ensures { result ≡ type_known set.now rows.now count part.now }
+fn type_good(part: &[u8], names: &Names<'_>) -> bool
+    ensures { result ≡ type_known names.now.declared.set.now names.now.declared.rows.now names.now.declared.count part.now }
 {
     let field = FieldDescriptor::new(part);
     let sort = match field.kind() {
@@ -26,54 +24,42 @@ fn type_good(part: &[u8], set: &[u8], rows: &[Declaration], count: usize, sums: 
         TYPE_ENUM => Sort::Enum,
         _ => return true,
     };
-    type_names::find_row(set, rows, count, sums, field.type_name(), sort).is_some()
+    names.find(field.type_name(), sort).is_some()
 }
 
 // Those of all fields of the message with these bytes?
 #[tactic(auto, unfolding(base::specs::Lists::all))]
-fn types_good(message: &[u8], set: &[u8], rows: &[Declaration], count: usize, sums: &[u64]) -> bool
-    requires { sums.now ≡ row_sums set.now rows.now (length sums.now) }
-    ensures { result ≡ all (type_known set.now rows.now count) (parts 2 (entries message.now)) }
+fn types_good(message: &[u8], names: &Names<'_>) -> bool
+    ensures { result ≡ all (type_known names.now.declared.set.now names.now.declared.rows.now names.now.declared.count) (parts 2 (entries message.now)) }
 {
-    Parts::new(message, MESSAGE_FIELD).all(|field| type_good(field, set, rows, count, sums))
+    Parts::new(message, MESSAGE_FIELD).all(|field| type_good(field, names))
 }
 
 // Is a row without refusal 7?
-fn is_row_good(set: &[u8], rows: &[Declaration], count: usize, sums: &[u64], row: usize) -> bool
-    requires { sums.now ≡ row_sums set.now rows.now (length sums.now) }
-    ensures { result ≡ row_good set.now rows.now count row }
+fn is_row_good(names: &Names<'_>, row: usize) -> bool
+    ensures { result ≡ row_good names.now.declared.set.now names.now.declared.rows.now names.now.declared.count row }
 {
-    let declaration = declarations::row_at(rows, row);
+    let declaration = names.declared.row(row);
     match declaration.kind {
         Kind::Package => true,
-        Kind::Enum => !type_names::declared_before(set, rows, sums, row),
+        Kind::Enum => !names.declared_before(row),
         Kind::Message(_) => {
-            if type_names::declared_before(set, rows, sums, row) {
+            if names.declared_before(row) {
                 return false;
             }
-            let part = descriptor::part_of(set, declaration.start, declaration.end);
-            types_good(part, set, rows, count, sums)
+            types_good(names.declared.bytes_of(declaration), names)
         }
     }
 }
 
-// The file of the first of so many rows with refusal 7, given the checksums of the rows.
-fn undeclared_by(set: &[u8], rows: &[Declaration], count: usize, sums: &[u64]) -> usize
-    requires { sums.now ≡ row_sums set.now rows.now (length sums.now) }
-    ensures { result ≡ first_undeclared_row set.now rows.now count }
+/// The file of the first row with refusal 7; the count of files where there is none.
+pub fn first_undeclared(names: &Names<'_>) -> usize
+    ensures { result ≡ first_undeclared_row names.now.declared.set.now names.now.declared.rows.now names.now.declared.count }
 {
-    for row in 0..count {
-        if !is_row_good(set, rows, count, sums, row) {
-            return declarations::row_at(rows, row).file;
+    for row in 0..names.declared.count {
+        if !is_row_good(names, row) {
+            return names.declared.row(row).file;
         }
     }
-    parts::count_parts(set, SET_FILE)
-}
-
-/// The file of the first of so many rows with refusal 7; the count of files where there is none. The checksums of rows go into `sums`.
-pub fn first_undeclared(set: &[u8], rows: &[Declaration], count: usize, sums: &mut [u64]) -> usize
-    ensures { result ≡ first_undeclared_row set.now rows.now count }
-{
-    type_names::fill_sums(set, rows, sums);
-    undeclared_by(set, rows, count, sums)
+    parts::count_parts(names.declared.set, SET_FILE)
 }

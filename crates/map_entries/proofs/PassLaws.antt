@@ -23,9 +23,8 @@ use Rattle.declarations.specs.Rows.{row_at, kind_number}
 use Rattle.declarations.specs.Listed.{full, listed_row, listed}
 use Rattle.declarations.specs.declared.Declaration.{Declaration as Row}
 use Rattle.checksums.specs.Sums.{sum_of}
-use Rattle.type_names.specs.LookUp.{named, row_sums}
-use Rattle.type_names.specs.RowSums.{Others, Seeks, SeeksOn}
-use Rattle.type_names.specs.declared.Likely.{Likely}
+use Rattle.type_names.specs.LookUp.{named}
+use Rattle.type_names.specs.RowSums.{Others, Seeking, Seeks, SeeksOn}
 use Rattle.type_names.proofs.RowSumLaws.{name_other}
 use Rattle.map_entries.specs.Named.{Use, is_mapping, field_use, part_use, row_uses, uses, vote, joined, noted, noted_rows, tally, naming}
 use Rattle.map_entries.specs.Numbers.{number_of, numbers}
@@ -118,36 +117,46 @@ module _ (bytes : List ℕ) (t : List Row) where
       rows_skip sum k sum_is l others = record { is = rows_none name v k who i l (λ j a h. name_other bytes t sum k i others j a h name sum_is) ∙ p.is; size = p.size }
 
     -- and the rows that may have the checksum of the name
-    module _ (sums : List ℕ) (sum : ℕ) where
-      pub record Noting (who : List ℕ) (l : Likely) : Type 0 where
-        pub kept : (l.sums.now ≡ sums) × (l.sum ≡ Some sum)
+    module _ (sum : ℕ) where
+      pub record Noting (who : List ℕ) (l : Seeking) : Type 0 where
+        pub set : l.set ≡ bytes
+        pub rows : l.rows ≡ t
+        pub given_sum : l.sum ≡ Some sum
         pub sum_is : sum ≡ sum_of name
         pub noted : Noted who l.left
 
-      module _ (are : sums ≡ row_sums bytes t (length sums)) where
-        pub noting_start : sum ≡ sum_of name → (l : Likely) → Seeks sums (Some sum) n l → Noting who₀ l
-        noting_start is l s = record { kept = s.kept; sum_is = is; noted = rows_skip who₀ n rows_start sum l.left is s.fewer (s.others bytes t sum are refl) }
+      pub noting_start : sum ≡ sum_of name → (l : Seeking) → Seeks bytes t (Some sum) n l → Noting who₀ l
+      noting_start is l s = record {
+        set = s.set;
+        rows = s.rows;
+        given_sum = s.given_sum;
+        sum_is = is;
+        noted = rows_skip who₀ n rows_start sum l.left is s.fewer (s.others sum refl);
+      }
 
-        module _ (who : List ℕ) (old new : Likely) (row : ℕ) (noting : Noting who old) (on : SeeksOn old (Some row) new) (r : Bool) (r_is : r ≡ named bytes t name row) where
-          at : row ≡ old.left - 1
-          at = let e = on.0 in omega arith
+      module _ (who : List ℕ) (old new : Seeking) (row : ℕ) (noting : Noting who old) (on : SeeksOn old (Some row) new) (r : Bool) (r_is : r ≡ named bytes t name row) where
+        at : row ≡ old.left - 1
+        at = let e = on.0 in omega arith
 
-          moved : (w : List ℕ) → Noted w (old.left - 1) → Noting w new
-          moved w p =
-              let f : new.left ≤ old.left - 1 = rw (← at) on.1.fewer in
-              record {
-                kept = (on.1.kept.0 ∙ noting.kept.0, on.1.kept.1 ∙ noting.kept.1);
-                sum_is = noting.sum_is;
-                noted = rows_skip w (old.left - 1) p sum new.left noting.sum_is f (rw (← at) (on.1.others bytes t sum (rw noting.kept.0 are) (rw noting.kept.1 refl)));
-              }
+        moved : (w : List ℕ) → Noted w (old.left - 1) → Noting w new
+        moved w p =
+            let f : new.left ≤ old.left - 1 = rw (← at) on.1.fewer in
+            let others : Others bytes t sum new.left row = rw (noting.set, noting.rows) at (on.1.others sum (rw noting.given_sum refl)) in
+            record {
+              set = on.1.set ∙ noting.set;
+              rows = on.1.rows ∙ noting.rows;
+              given_sum = on.1.given_sum ∙ noting.given_sum;
+              sum_is = noting.sum_is;
+              noted = rows_skip w (old.left - 1) p sum new.left noting.sum_is f (rw (← at) others);
+            }
 
-          pub noting_more : r ≡ true → (w : List ℕ) → w ≡ noted row v who → Noting w new
-          noting_more e w w_is = let p = on.0 in moved w (rows_more who old.left noting.noted (omega arith) r (rw (← at) r_is) e w (rw (← at) w_is))
+        pub noting_more : r ≡ true → (w : List ℕ) → w ≡ noted row v who → Noting w new
+        noting_more e w w_is = let p = on.0 in moved w (rows_more who old.left noting.noted (omega arith) r (rw (← at) r_is) e w (rw (← at) w_is))
 
-          pub noting_less : r ≡ false → Noting who new
-          noting_less e = let p = on.0 in moved who (rows_less who old.left noting.noted (omega arith) r (rw (← at) r_is) e)
+        pub noting_less : r ≡ false → Noting who new
+        noting_less e = let p = on.0 in moved who (rows_less who old.left noting.noted (omega arith) r (rw (← at) r_is) e)
 
-      pub noting_end : (who : List ℕ) (l : Likely) → Noting who l → l.left ≡ 0 → who ≡ noted_rows bytes t name v n who₀
+      pub noting_end : (who : List ℕ) (l : Seeking) → Noting who l → l.left ≡ 0 → who ≡ noted_rows bytes t name v n who₀
       noting_end who l noting z = rows_end who l.left noting.noted (omega arith)
 
   module _ (n : ℕ) where

@@ -42,15 +42,18 @@ module _ (bytes : Bytes) where
         let r = set_room bytes t (row_count bytes) there.small there.wide (omega arith) in
         (ap (λ (x : State). has_room x.table x.rows) became.is ∙ r.0, (let e = ap (λ (x : State). x.rows) became.is in let q = r.1 in omega arith))
 
-    pub six_is : (named : List ℕ) (bad unnamed six : ℕ) → named ≡ naming bytes u c.rows (length column) → bad ≡ first_failing file_good (decode_set bytes)
-        → unnamed ≡ first_unnamed bytes u c.rows named → six ≡ min bad unnamed → six ≡ first_six (decode_set bytes)
-    six_is named bad unnamed six n b u_is s =
-        let fit : c.rows ≤ length column = (let r = room.1 in let l = there.long in omega arith) in
-        let e = u_is ∙ ap (first_unnamed bytes u c.rows) n ∙ table_unnamed bytes t u c (length column) became room.0 lists fit in
-        s ∙ rw (b, e) (sym (first_six_is (decode_set bytes)))
+    module _ (rows : ℕ) (rows_are : rows ≡ c.rows) where
+      pub six_is : (named : List ℕ) (bad unnamed six : ℕ) → named ≡ naming bytes u rows (length column) → bad ≡ first_failing file_good (decode_set bytes)
+          → unnamed ≡ first_unnamed bytes u rows named → six ≡ min bad unnamed → six ≡ first_six (decode_set bytes)
+      six_is named bad unnamed six n b u_is s =
+          let fit : c.rows ≤ length column = (let r = room.1 in let l = there.long in omega arith) in
+          let e = u_is ∙ ap (first_unnamed bytes u rows) n ∙ rw rows_are (table_unnamed bytes t u c (length column) became room.0 lists fit) in
+          s ∙ rw (b, e) (sym (first_six_is (decode_set bytes)))
 
-    pub seven_is : (seven : ℕ) → seven ≡ first_undeclared_row bytes u c.rows → seven ≡ first_seven (decode_set bytes)
-    seven_is seven s = s ∙ ap (λ (x : State). first_undeclared_row bytes x.table x.rows) became.is ∙ first_undeclared_is bytes t (row_count bytes) fewer.0 fewer.1 (omega arith)
+      pub seven_is : (seven : ℕ) → seven ≡ first_undeclared_row bytes u rows → seven ≡ first_seven (decode_set bytes)
+      seven_is seven s =
+          s ∙ ap (first_undeclared_row bytes u) rows_are ∙ ap (λ (x : State). first_undeclared_row bytes x.table x.rows) became.is
+          ∙ first_undeclared_is bytes t (row_count bytes) fewer.0 fewer.1 (omega arith)
 
   files_are : (files : ℕ) → files ≡ length (parts 1 (entries bytes)) → files ≡ length (decode_set bytes)
   unfolding decode_set

@@ -6,15 +6,17 @@ ghost use Rattle.descriptor.specs.Decode.{decode_set};
 ghost use Rattle.descriptor.specs.Limits.{limit_passed};
 ghost use Rattle.name_rules.specs.Answer.{names};
 ghost use Rattle.declarations.specs.Rows.{no_row};
+ghost use Rattle.declarations.specs.declared.Count.{Count};
 ghost use Rattle.map_entries.specs.declared.Namers.TheVariants.{Nobody};
 ghost use Rattle.set_rules.specs.Judge.{judge_set};
 ghost use Rattle.set_rules.specs.Room.{Room, Declares};
 
 use base::refusal::Refusal;
-use declarations::{Count, Declaration, NO_DECLARATION};
+use declarations::{Declarations, NO_DECLARATION};
 use descriptor::field_number::SET_FILE;
 use limits::SHORT;
 use map_entries::Namers;
+use type_names::Names;
 
 /// A row for each file and each declaration of a set within the limits, and one more.
 pub const ROWS: usize = 545;
@@ -22,25 +24,20 @@ pub const ROWS: usize = 545;
 /// The same of a short set.
 pub const SHORT_ROWS: usize = 151;
 
-// Refusals 6 and 7 by the table of the set's declarations; checksums of its rows go into `sums`.
-fn judge_rows(
-    set: &[u8],
-    rows: &[Declaration],
-    count: Count,
-    who: &mut [Namers],
-    sums: &mut [u64],
-) -> Result<(), Refusal>
-    ensures { Declares set.now rows.now count who.old → result ≡ names (decode_set set.now) }
+// Refusals 6 and 7 by the table of a set's declarations; who names each row goes into `who`.
+fn judge_rows(full_names: &Names<'_>, who: &mut [Namers]) -> Result<(), Refusal>
+    ensures { (count : Count) → full_names.now.declared.count ≡ count.rows → Declares full_names.now.declared.set.now full_names.now.declared.rows.now count who.old → result ≡ names (decode_set full_names.now.declared.set.now) }
 {
+    let set = full_names.declared.set;
     let files = parts::count_parts(set, SET_FILE);
-    map_entries::note_set(set, rows, count.rows, sums, who);
+    map_entries::note_set(full_names, who);
     let bad = file_names::first_bad_file(set);
-    let unnamed = map_entries::first_unnamed(set, rows, count.rows, who);
+    let unnamed = map_entries::first_unnamed(&full_names.declared, who);
     let six = bad.min(unnamed);
     if six < files {
         return Err(Refusal::Declaration { file: six });
     }
-    let seven = declared_types::first_undeclared(set, rows, count.rows, sums);
+    let seven = declared_types::first_undeclared(full_names);
     if seven < files {
         return Err(Refusal::TypeName { file: seven });
     }
@@ -56,9 +53,12 @@ fn judge_within<const SIZE: usize>(set: &[u8]) -> Result<(), Refusal>
     let mut who = [Namers::Nobody; SIZE];
     let mut sums = [0u64; SIZE];
     let count = declarations::declare_set(set, &mut rows);
-    let sums = &mut sums[..];
-    let summed = count.rows.min(sums.len());
-    judge_rows(set, &rows, count, &mut who, &mut sums[0..summed])
+    let declared = Declarations {
+        set,
+        rows: &rows,
+        count: count.rows,
+    };
+    judge_rows(&Names::new(declared, &mut sums), &mut who)
 }
 
 /// Has a set within the limits neither refusal 6 nor 7? If it has one, the first of 6, else of 7. Of another set the answer says

@@ -2,14 +2,15 @@
 use mathlib.Core.Path.{◌≡◌, refl, sym, ap, ◌∙◌}
 use mathlib.Core.Bool.{Bool, false}
 use mathlib.Core.List.{List, ◌++◌}
-use Prim.Native.Nat.{ℕ, ◌-◌, ◌≤◌, ◌<◌, min}
+use Prim.Native.Nat.{ℕ, ◌-◌, ◌^◌, ◌≤◌, ◌<◌, min}
 use native.Mathlib.Nat.{sub-zero}
 use native.Mathlib.Omega.{arith}
 use lib.Dec.{ltb}
 use lib.ListN.{length, take, drop, replicate, length-replicate}
 use lib.Seq.{length-take-le}
 use Rattle.base.specs.Choose.{choose_case, then_lt, else_lt}
-use Rattle.writer.specs.Wrote.{Wrote}
+use Rattle.writer.specs.Draft.{Filled}
+use Rattle.writer.proofs.TextLaws.{overlaid}
 use Rattle.std.specs.List.{list_any}
 use Rattle.options.specs.Settings.{Setting}
 use Rattle.options.specs.Rows.{is_of}
@@ -83,9 +84,9 @@ module _ (set : List ℕ) where
 
 -- ---- the boxed settings, and the types
 
-pub settings_put : (set : List ℕ) (rs : List Setting) (bytes : List ℕ) (end : ℕ) (old : List ℕ) → old ≡ zeros (most_fields set) → Wrote old 0 (set_flags rs set) bytes end → bytes ≡ setting_bytes set rs
+pub settings_put : (set : List ℕ) (rs : List Setting) (bytes : List ℕ) (end : ℕ) (old : List ℕ) → old ≡ zeros (most_fields set) → length old < 2 ^ 63 → Filled old (set_flags rs set) bytes end → bytes ≡ setting_bytes set rs
 unfolding setting_bytes
-settings_put set rs bytes end old is wrote = wrote.text ∙ rw is
+settings_put set rs bytes end old is room filled = overlaid filled room ∙ rw is
 
 pub settings_unset : (set : List ℕ) (rs : List Setting) (old : List ℕ) → old ≡ zeros (most_fields set) → (found : Bool) → found ≡ list_any (is_of 4) rs → found ≡ false → old ≡ setting_bytes set rs
 settings_unset set rs old is found found_is unset = is ∙ unset_bytes set rs (sym found_is ∙ unset)

@@ -11,7 +11,7 @@ use Rattle.std.specs.List.{list_any}
 use Rattle.base.specs.Bytes.{same}
 use Rattle.options.specs.Settings.{Setting}
 use Rattle.options.specs.Rows.{is_of}
-use Rattle.options.specs.declared.Found.{Found}
+use Rattle.options.specs.Found.{Found}
 use Rattle.text_tables.specs.Rows.{no_field}
 use Rattle.text_tables.specs.declared.FieldRow.{FieldRow}
 use Rattle.path.specs.Forms.{sub_path_iter}

@@ -6,7 +6,7 @@ ghost use Rattle.message_graph.specs.Tab.{tab};
 ghost use Rattle.context_tables.specs.Rows.{message_table, field_table};
 ghost use Rattle.set_tables.specs.Filled.{most_fields, declaration_rows, zeros, message_places, message_count, field_by, field_of, Ready, setting_bytes, columns_at, settings_to, no_flags, EntriesBelow, entries_by, message_rows, field_rows_in};
 
-use declarations::{Declaration, NO_DECLARATION};
+use declarations::{Declaration, Declarations, NO_DECLARATION};
 use descriptor::field_number::{FILE_MESSAGE_TYPE, MESSAGE_FIELD};
 use index::{NO_ROW, Row};
 use limits::SHORT;
@@ -14,6 +14,7 @@ use message_graph::{Field, MESSAGES, NO_FIELD};
 use options::{Kind, Options};
 use set_rules::{ROWS, SHORT_ROWS};
 use text_tables::{FieldRow, MessageRow};
+use type_names::Names;
 
 // Limit 4, and what a short set has at most.
 const FIELDS: usize = 2048;
@@ -33,8 +34,8 @@ fn fields_by(
     ensures { fields.new ≡ tab (length fields.old) (field_by set.now places.now rows.old settings.now) }
 {
     let count = declarations::declare_set(set, rows).rows;
-    let n = count.min(sums.len());
-    targets::fill_fields(set, places, rows, count, &mut sums[0..n], settings, fields);
+    let names = Names::new(Declarations { set, rows, count }, sums);
+    targets::fill_fields(&names, places, settings, fields);
 }
 
 // Its bytes, which are 0 so far, become those that have the boxed settings: without a row of that kind they stay as they are.
@@ -76,6 +77,8 @@ fn fill_fields(set: &[u8], options: &Options<'_>, places: &[Row], fields: &mut [
     }
     fields_within::<FIELDS, ROWS>(set, options, places, fields);
 }
+
+// A table of places and how many there are go side by side in what follows: there may be more than the table has room for.
 
 // Which messages are map entries, in a table that has none so far: only the first `count` may be.
 fn fill_entries(set: &[u8], rows: &[Row], count: usize, entries: &mut [bool])

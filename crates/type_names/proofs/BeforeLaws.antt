@@ -15,8 +15,7 @@ use Rattle.declarations.specs.Rows.{row_at, kind_number}
 use Rattle.declarations.specs.Listed.{full}
 use Rattle.declarations.specs.declared.Declaration.{Declaration as Row}
 use Rattle.type_names.specs.LookUp.{same_row, before_by, declared_before, row_sum, row_sums}
-use Rattle.type_names.specs.RowSums.{Apart, Others, Seeks, SeeksOn, IsSum}
-use Rattle.type_names.specs.declared.Likely.{Likely}
+use Rattle.type_names.specs.RowSums.{Apart, Others, Seeking, Seeks, SeeksOn, IsSum}
 use Rattle.type_names.proofs.RowSumLaws.{full_apart, full_other}
 
 module _ (bytes : List ℕ) (t : List Row) (i : ℕ) where
@@ -45,88 +44,87 @@ module _ (bytes : List ℕ) (t : List Row) (i : ℕ) where
       by (yes a) rest = rest a ∙ rw (← none j a (omega arith))
       by (no a) rest = ap (before_by bytes t i) (let e : k ≡ suc j = omega arith in e)
 
-  module _ (sums : List ℕ) where
-    abbrev Are : Type 0
-    Are = sums ≡ row_sums bytes t (length sums)
+  pub record Left (j : ℕ) : Type 0 where
+    pub few : i ≤ 65535
+    pub inside : j ≤ i
+    pub is : before_by bytes t i j ≡ declared_before bytes t i
 
-    pub record Left (j : ℕ) : Type 0 where
-      pub few : i ≤ 65535
-      pub inside : j ≤ i
-      pub is : Are → before_by bytes t i j ≡ declared_before bytes t i
+  left_start : i ≤ 65535 → Left i
+  unfolding declared_before choose
+  left_start few = record { few = few; inside = omega arith; is = rw (le-ltb 65535 i few) }
 
-    left_start : i ≤ 65535 → Left i
-    unfolding declared_before choose
-    left_start few = record { few = few; inside = omega arith; is = λ _. rw (le-ltb 65535 i few) }
+  module _ (j : ℕ) (left : Left j) where
+    left_end : j ≤ 0 → false ≡ declared_before bytes t i
+    unfolding before_by
+    left_end h = let z : j ≡ 0 = omega arith in rw z at left.is
 
-    module _ (j : ℕ) (left : Left j) where
-      left_end : j ≤ 0 → Are → false ≡ declared_before bytes t i
+    module _ (h : 0 < j) (r : Bool) (r_is : r ≡ same_row bytes t i (j - 1)) where
+      opened : choose r true (before_by bytes t i (j - 1)) ≡ declared_before bytes t i
       unfolding before_by
-      left_end h are = let z : j ≡ 0 = omega arith in rw z at (left.is are)
+      opened = let z : j ≡ suc (j - 1) = omega arith in rw r_is (sym (ap (before_by bytes t i) z) ∙ left.is)
 
-      module _ (h : 0 < j) (r : Bool) (r_is : Are → r ≡ same_row bytes t i (j - 1)) where
-        opened : Are → choose r true (before_by bytes t i (j - 1)) ≡ declared_before bytes t i
-        unfolding before_by
-        opened are = let z : j ≡ suc (j - 1) = omega arith in rw (r_is are) (sym (ap (before_by bytes t i) z) ∙ left.is are)
+      left_found : r ≡ true → true ≡ declared_before bytes t i
+      unfolding choose
+      left_found e = rw e at opened
 
-        left_found : r ≡ true → Are → true ≡ declared_before bytes t i
-        unfolding choose
-        left_found e are = rw e at (opened are)
+      left_more : r ≡ false → Left (j - 1)
+      unfolding choose
+      left_more e = let k = left.inside in record { few = left.few; inside = omega arith; is = rw e at opened }
 
-        left_more : r ≡ false → Left (j - 1)
-        unfolding choose
-        left_more e = let k = left.inside in record { few = left.few; inside = omega arith; is = λ are. rw e at (opened are) }
+    -- the rows' full names have other checksums
+    left_apart : 0 < j → (sums : List ℕ) → sums ≡ row_sums bytes t (length sums) → (i < length sums) × Apart sums (j - 1) (get_or sums i 0 % 4294967296) → Left (j - 1)
+    left_apart h sums are apart =
+        let few = left.few in
+        let inside = left.inside in
+        left_more h false (not_same (j - 1) (full_apart bytes t sums are i (j - 1) few (omega arith) apart.0 apart.1)) refl
 
-      -- the rows' full names have other checksums
-      left_apart : 0 < j → (i < length sums) × Apart sums (j - 1) (get_or sums i 0 % 4294967296) → Left (j - 1)
-      left_apart h apart =
-          let few = left.few in
-          let inside = left.inside in
-          left_more h false (λ are. not_same (j - 1) (full_apart bytes t sums are i (j - 1) few (omega arith) apart.0 apart.1)) refl
+    left_skip : (k : ℕ) → k ≤ j → Others bytes t (row_sum bytes t i) k j → Left k
+    left_skip k l others =
+        let few = left.few in
+        let inside = left.inside in
+        record {
+          few = few;
+          inside = omega arith;
+          is = skipped k j l (λ m a h. not_same m (full_other bytes t (row_sum bytes t i) k j others m a h i few (omega arith) refl)) ∙ left.is;
+        }
 
-      left_skip : (k : ℕ) → k ≤ j → (Are → Others bytes t (row_sum bytes t i) k j) → Left k
-      left_skip k l others =
-          let few = left.few in
-          let inside = left.inside in
-          record {
-            few = few;
-            inside = omega arith;
-            is = λ are. skipped k j l (λ m a h. not_same m (full_other bytes t (row_sum bytes t i) k j (others are) m a h i few (omega arith) refl)) ∙ left.is are;
-          }
+  -- and the rows that may have the checksum of row i
+  pub record Looking (l : Seeking) : Type 0 where
+    pub set : l.set ≡ bytes
+    pub rows : l.rows ≡ t
+    pub sum : IsSum l.sum (row_sum bytes t i)
+    pub left : Left l.left
 
-    -- and the rows that may have the checksum of row i
-    pub record Looking (l : Likely) : Type 0 where
-      pub kept : l.sums.now ≡ sums
-      pub sum : Are → IsSum l.sum (row_sum bytes t i)
-      pub left : Left l.left
+  pub looking_start : i ≤ 65535 → (l : Seeking) → Seeks bytes t l.sum i l → IsSum l.sum (row_sum bytes t i) → Looking l
+  looking_start few l s sum = record { set = s.set; rows = s.rows; sum = sum; left = left_skip i (left_start few) l.left s.fewer (s.others (row_sum bytes t i) sum) }
 
-    pub looking_start : i ≤ 65535 → (l : Likely) → Seeks sums l.sum i l → (Are → IsSum l.sum (row_sum bytes t i)) → Looking l
-    looking_start few l s sum = record { kept = s.kept.0; sum = sum; left = left_skip i (left_start few) l.left s.fewer (λ are. s.others bytes t (row_sum bytes t i) are (sum are)) }
+  module _ (old new : Seeking) (row : ℕ) (looking : Looking old) (on : SeeksOn old (Some row) new) where
+    at : row ≡ old.left - 1
+    at = let e = on.0 in omega arith
 
-    module _ (old new : Likely) (row : ℕ) (looking : Looking old) (on : SeeksOn old (Some row) new) where
-      at : row ≡ old.left - 1
-      at = let e = on.0 in omega arith
+    moved : Left (old.left - 1) → Looking new
+    moved left =
+        let f : new.left ≤ old.left - 1 = rw (← at) on.1.fewer in
+        let others : Others bytes t (row_sum bytes t i) new.left row = rw (looking.set, looking.rows) at (on.1.others (row_sum bytes t i) looking.sum) in
+        record {
+          set = on.1.set ∙ looking.set;
+          rows = on.1.rows ∙ looking.rows;
+          sum = rw on.1.given_sum looking.sum;
+          left = left_skip (old.left - 1) left new.left f (rw (← at) others);
+        }
 
-      moved : Left (old.left - 1) → Looking new
-      moved left =
-          let f : new.left ≤ old.left - 1 = rw (← at) on.1.fewer in
-          record {
-            kept = on.1.kept.0 ∙ looking.kept;
-            sum = λ are. rw on.1.kept.1 (looking.sum are);
-            left = left_skip (old.left - 1) left new.left f (λ are. rw (← at) (on.1.others bytes t (row_sum bytes t i) (rw looking.kept are) (looking.sum are)));
-          }
+    pub looking_within : (i < 65536) × (row < 65536)
+    looking_within = let a = looking.left.few in let b = looking.left.inside in let e = on.0 in (omega arith, omega arith)
 
-      pub looking_within : (i < 65536) × (row < 65536)
-      looking_within = let a = looking.left.few in let b = looking.left.inside in let e = on.0 in (omega arith, omega arith)
+    pub looking_apart : (sums : List ℕ) → sums ≡ row_sums bytes t (length sums) → (i < length sums) × Apart sums row (get_or sums i 0 % 4294967296) → Looking new
+    looking_apart sums are apart = let e = on.0 in moved (left_apart old.left looking.left (omega arith) sums are (rw (← at) apart))
 
-      pub looking_apart : (i < length sums) × Apart sums row (get_or sums i 0 % 4294967296) → Looking new
-      looking_apart apart = let e = on.0 in moved (left_apart old.left looking.left (omega arith) (rw (← at) apart))
+    module _ (r : Bool) (r_is : r ≡ same_row bytes t i row) where
+      pub looking_found : r ≡ true → true ≡ declared_before bytes t i
+      looking_found h = let e = on.0 in left_found old.left looking.left (omega arith) r (rw (← at) r_is) h
 
-      module _ (r : Bool) (r_is : r ≡ same_row bytes t i row) where
-        pub looking_found : r ≡ true → Are → true ≡ declared_before bytes t i
-        looking_found h = let e = on.0 in left_found old.left looking.left (omega arith) r (λ _. rw (← at) r_is) h
+      pub looking_more : r ≡ false → Looking new
+      looking_more h = let e = on.0 in moved (left_more old.left looking.left (omega arith) r (rw (← at) r_is) h)
 
-        pub looking_more : r ≡ false → Looking new
-        looking_more h = let e = on.0 in moved (left_more old.left looking.left (omega arith) r (λ _. rw (← at) r_is) h)
-
-    pub looking_end : (l : Likely) → Looking l → l.left ≡ 0 → Are → false ≡ declared_before bytes t i
-    looking_end l looking z = left_end l.left looking.left (omega arith)
+  pub looking_end : (l : Seeking) → Looking l → l.left ≡ 0 → false ≡ declared_before bytes t i
+  looking_end l looking z = left_end l.left looking.left (omega arith)

@@ -7,15 +7,13 @@ use mathlib.Core.List.{List}
 use Prim.Native.Nat.{ℕ, zero, suc, ◌+◌, ◌-◌, ◌≤◌, ◌<◌}
 use native.Mathlib.Omega.{arith}
 use lib.Dec.{ltb}
-use lib.ListN.{length}
 use borrow.Author.Tests.{lt-ltb, le-ltb}
 use Rattle.base.specs.Choose.{choose, choose_case}
 use Rattle.declarations.specs.Rows.{row_at, kind_number}
 use Rattle.declarations.specs.declared.Declaration.{Declaration as Row}
 use Rattle.checksums.specs.Sums.{sum_of}
-use Rattle.type_names.specs.LookUp.{named, wanted, fits, find_from, find_row, found_row, row_sums}
-use Rattle.type_names.specs.RowSums.{Others, Seeks, SeeksOn}
-use Rattle.type_names.specs.declared.Likely.{Likely}
+use Rattle.type_names.specs.LookUp.{named, wanted, fits, find_from, find_row, found_row}
+use Rattle.type_names.specs.RowSums.{Others, Seeking, Seeks, SeeksOn}
 use Rattle.type_names.specs.declared.Sort.{Sort}
 use Rattle.type_names.proofs.RowSumLaws.{name_other}
 
@@ -97,39 +95,47 @@ module _ (bytes : List ℕ) (t : List Row) (name : List ℕ) (sort : Sort) where
         going_more e = let k = going.inside in record { inside = omega arith; below = going.below; is = going.is ∙ sym (one ∙ rw e) }
 
     -- and the rows that may have the checksum of the name
-    module _ (sums : List ℕ) (sum : ℕ) where
-      abbrev Are : Type 0
-      Are = sums ≡ row_sums bytes t (length sums)
-
-      pub record Finding (first : Option ℕ) (l : Likely) : Type 0 where
-        pub kept : (l.sums.now ≡ sums) × (l.sum ≡ Some sum)
+    module _ (sum : ℕ) where
+      pub record Finding (first : Option ℕ) (l : Seeking) : Type 0 where
+        pub set : l.set ≡ bytes
+        pub rows : l.rows ≡ t
+        pub given_sum : l.sum ≡ Some sum
         pub sum_is : sum ≡ sum_of name
-        pub going : Are → Going first l.left
+        pub going : Going first l.left
 
-      pub finding_start : sum ≡ sum_of name → (l : Likely) → Seeks sums (Some sum) count l → Finding None l
-      finding_start sum_is l s = record { kept = s.kept; sum_is = sum_is; going = λ are. going_skip None count going_start sum l.left sum_is s.fewer (s.others bytes t sum are refl) }
+      pub finding_start : sum ≡ sum_of name → (l : Seeking) → Seeks bytes t (Some sum) count l → Finding None l
+      finding_start sum_is l s = record {
+        set = s.set;
+        rows = s.rows;
+        given_sum = s.given_sum;
+        sum_is = sum_is;
+        going = going_skip None count going_start sum l.left sum_is s.fewer (s.others sum refl);
+      }
 
-      module _ (first : Option ℕ) (old new : Likely) (row : ℕ) (finding : Finding first old) (on : SeeksOn old (Some row) new) (r : Bool) (r_is : Are → r ≡ fits bytes t name sort row) where
-        kept : (new.sums.now ≡ sums) × (new.sum ≡ Some sum)
-        kept = (on.1.kept.0 ∙ finding.kept.0, on.1.kept.1 ∙ finding.kept.1)
-
+      module _ (first : Option ℕ) (old new : Seeking) (row : ℕ) (finding : Finding first old) (on : SeeksOn old (Some row) new) (r : Bool) (r_is : r ≡ fits bytes t name sort row) where
         at : row ≡ old.left - 1
         at = let e = on.0 in omega arith
 
-        moved : (found : Option ℕ) → Are → Going found (old.left - 1) → Going found new.left
-        moved found are g =
+        moved : (found : Option ℕ) → Going found (old.left - 1) → Finding found new
+        moved found g =
             let f : new.left ≤ old.left - 1 = rw (← at) on.1.fewer in
-            going_skip found (old.left - 1) g sum new.left finding.sum_is f
-            (rw (← at) (on.1.others bytes t sum (rw finding.kept.0 are) (rw finding.kept.1 refl)))
+            let others : Others bytes t sum new.left row = rw (finding.set, finding.rows) at (on.1.others sum (rw finding.given_sum refl)) in
+            record {
+              set = on.1.set ∙ finding.set;
+              rows = on.1.rows ∙ finding.rows;
+              given_sum = on.1.given_sum ∙ finding.given_sum;
+              sum_is = finding.sum_is;
+              going = going_skip found (old.left - 1) g sum new.left finding.sum_is f (rw (← at) others);
+            }
 
         pub finding_found : r ≡ true → Finding (Some row) new
-        finding_found e = let p = on.0 in record { kept = kept; sum_is = finding.sum_is; going = λ are. moved (Some row) are (rw at (going_found first old.left (finding.going are) (omega arith) r (rw (← at) (r_is are)) e)) }
+        finding_found e = let p = on.0 in moved (Some row) (rw at (going_found first old.left finding.going (omega arith) r (rw (← at) r_is) e))
 
         pub finding_more : r ≡ false → Finding first new
-        finding_more e = let p = on.0 in record { kept = kept; sum_is = finding.sum_is; going = λ are. moved first are (going_more first old.left (finding.going are) (omega arith) r (rw (← at) (r_is are)) e) }
+        finding_more e = let p = on.0 in moved first (going_more first old.left finding.going (omega arith) r (rw (← at) r_is) e)
 
-      pub finding_end : (first : Option ℕ) (l : Likely) → Finding first l → l.left ≡ 0 → Are → first ≡ found_row bytes t name sort count
-      finding_end first l finding z are = going_end first l.left (finding.going are) z
+      pub finding_end : (first : Option ℕ) (l : Seeking) → Finding first l → l.left ≡ 0 → first ≡ found_row bytes t name sort count
+      finding_end first l finding z = going_end first l.left finding.going z
 
 pub found_some : (bytes : List ℕ) (t : List Row) (name : List ℕ) (sort : Sort) (count : ℕ) → is_some (found_row bytes t name sort count) ≡ ltb (find_row bytes t name sort count) count
 unfolding found_row choose

@@ -1,14 +1,13 @@
 -- A full name from its end, byte by byte and one own name after the other. Assumes nothing.
-use Rattle.std.specs.Prelude.{Option, None, Some, reverse}
+use denote.Ref.{Bor}
+use Rattle.std.specs.Prelude.{Option, None, Some, MatchOption, reverse}
 use Rattle.std.specs.Option.{option_eq, is_some}
 use Rattle.std.specs.Iterator.{YieldsFirst}
 use Rattle.std.proofs.lemmas.List.{reverse-append, reverse-reverse, append_cancel_right}
 use mathlib.Core.Path.{◌≡◌, refl, sym, ap, ◌∙◌}
 use mathlib.Core.Bool.{Bool, true, false, not}
 use mathlib.Core.List.{List, [], ◌∷◌, ◌++◌, append_assoc}
-use Prim.Native.Nat.{ℕ, suc, ◌<◌}
-use native.Mathlib.Omega.{arith}
-use lib.ListN.{length, length-append}
+use Prim.Native.Nat.{ℕ, suc}
 use lib.Dec.{eqb}
 use borrow.Author.Tests.{eq-eqb, eqb-true, not-false}
 use Rattle.base.specs.Bytes.{same, same_refl, same_sound, same_step, same_stop}
@@ -19,6 +18,7 @@ use Rattle.declarations.specs.Rows.{row_at}
 use Rattle.declarations.specs.Listed.{above, full, name_of}
 use Rattle.declarations.proofs.FullLaws.{full_none, full_step}
 use Rattle.declarations.specs.declared.Declaration.{Declaration as Row}
+use Rattle.type_names.specs.Fronts.{Stripped}
 
 pub entered_none : (bytes : List ℕ) (t : List Row) → [] ≡ full bytes t 0
 entered_none bytes t = sym (full_none bytes t)
@@ -81,10 +81,14 @@ module _ (bytes : List ℕ) (t : List Row) (name : List ℕ) (i : ℕ) (r : Row)
   other_own none = other (λ e. none (xs ++ (46 ∷ [])) (sym e ∙ sym (append_assoc xs (46 ∷ []) own)))
 
   module _ (last : List ℕ) (last_is : name ≡ last ++ own) where
-    pub no_dot : (((front : List ℕ) → last ≡ front ++ (46 ∷ []) → ⊥)) → same (full bytes t (suc i)) name ≡ false
+    no_dot : (((front : List ℕ) → last ≡ front ++ (46 ∷ []) → ⊥)) → same (full bytes t (suc i)) name ≡ false
     no_dot none = other (λ e. none xs (sym (append_cancel_right (xs ++ (46 ∷ [])) last own (append_assoc xs (46 ∷ []) own ∙ e ∙ last_is))))
 
-    pub stripped : (up : ℕ) → up ≡ above i r → (front : List ℕ) → last ≡ front ++ (46 ∷ []) → (same (full bytes t (suc i)) name ≡ same (full bytes t up) front) × (length front < length name)
-    stripped up up_is front f =
+    stripped : (front : List ℕ) → last ≡ front ++ (46 ∷ []) → same (full bytes t (suc i)) name ≡ same (full bytes t (above i (row_at t i))) front
+    stripped front f =
         let whole : name ≡ front ++ (46 ∷ own) = last_is ∙ ap (λ (s : List ℕ). s ++ own) f ∙ append_assoc front (46 ∷ []) own in
-        (rw (row, up_is, whole) (same_front xs front (46 ∷ own)), (let n = length-append front (46 ∷ own) in let e = ap length whole in omega arith))
+        rw (row, whole, ← r_is) (same_front xs front (46 ∷ own))
+
+    pub rest_stripped : (r : Option (Bor (List ℕ))) → MatchOption r ((front : List ℕ) → last ≡ front ++ (46 ∷ []) → ⊥) (λ x. last ≡ x.now ++ (46 ∷ [])) → Stripped bytes t name i r
+    rest_stripped None none = no_dot none
+    rest_stripped (Some front) f = stripped front.now f

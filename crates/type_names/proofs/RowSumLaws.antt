@@ -1,16 +1,16 @@
 -- Checksums of the full names of rows, and names that they tell apart. Assumes nothing.
-use Rattle.std.specs.Prelude.{None, Some}
-use denote.Ref.{Bor}
+use Rattle.std.specs.Prelude.{Option, None, Some}
+use Rattle.std.specs.Option.{unwrap_or, option_map}
 use mathlib.Core.Path.{◌≡◌, refl, sym, ap, ◌∙◌}
 use mathlib.Core.Bool.{false}
 use mathlib.Core.List.{List, [], ◌∷◌, ◌++◌, append_assoc}
-use Prim.Native.Nat.{ℕ, zero, suc, ◌+◌, ◌-◌, ◌/◌, ◌%◌, ◌^◌, ◌≤◌, ◌<◌}
+use Prim.Native.Nat.{ℕ, ◌+◌, ◌/◌, ◌%◌, ◌^◌, ◌≤◌, ◌<◌}
 use native.Mathlib.Decide.{dec_le}
 use native.Mathlib.Numerals.{add-one}
 use native.Mathlib.Omega.{arith}
-use lib.Dec.{ltb, eqb}
+use lib.Dec.{ltb}
 use lib.ListN.{length, get_or, drop, get_or-append}
-use borrow.Author.Tests.{le-ltb, lt-ltb, ne_eqb}
+use borrow.Author.Tests.{le-ltb, lt-ltb}
 use Rattle.base.specs.Bytes.{same}
 use Rattle.base.specs.Choose.{choose, choose_case}
 use Rattle.message_graph.specs.Tab.{tab, length_tab, tab_at, Filled}
@@ -21,7 +21,8 @@ use Rattle.declarations.specs.Rows.{row_at}
 use Rattle.declarations.specs.Listed.{above, full, name_of}
 use Rattle.declarations.proofs.FullLaws.{full_none, above_before, full_step}
 use Rattle.declarations.specs.declared.Declaration.{Declaration as Row}
-use Rattle.type_names.specs.Chains.{cell_by, chained, cells, Chained}
+use Rattle.type_names.specs.Fronts.{code_of}
+use Rattle.type_names.specs.Chains.{chained, cells, Chained}
 use Rattle.type_names.specs.LookUp.{named, row_sum, row_sums}
 use Rattle.type_names.specs.RowSums.{Summed, Apart, Others, Seeks}
 use Rattle.type_names.proofs.ChainLaws.{sum_cell, behind_last, behind_before}
@@ -45,11 +46,6 @@ module _ (bytes : List ℕ) (t : List Row) where
         ∙ tab_at i (row_sum bytes t) 0 k h;
   }
 
-  -- what `fill_sums` gives, as the look-ups ask for it
-  pub sums_whole : (n : ℕ) (sums : List ℕ) → sums ≡ row_sums bytes t n → sums ≡ row_sums bytes t (length sums)
-  unfolding row_sums cells
-  sums_whole n sums e = e ∙ ap (row_sums bytes t) (sym (ap length e ∙ length_tab n (cell_by (row_sum bytes t) (chained n) (chained n))))
-
   row_small : (i : ℕ) → row_sum bytes t i < 4294967296
   unfolding row_sum
   row_small i = choose_case (λ (r : ℕ). r < 4294967296) (ltb 65535 i) (λ _. omega arith) (λ _. sum_small 0 (full bytes t (i + 1)) (omega arith))
@@ -61,30 +57,24 @@ module _ (bytes : List ℕ) (t : List Row) where
       let e : length sums ≡ n = ap length is ∙ length_tab n (row_sum bytes t) in
       chained.is (row_sum bytes t) row_small (rw e is) ∙ ap (cells (row_sum bytes t)) e
 
-  module _ (sums : List ℕ) (i : ℕ) (summed : Summed bytes t sums i) (few : i ≤ 65535) (row : Row) (row_is : row ≡ row_at t i) (up around : ℕ) (up_is : up ≡ above i row)
-      (around_is : around ≡ choose (eqb up 0) 0 (get_or sums (up - 1) 0)) where
-    before : (k : ℕ) → k ≡ up → k ≤ i
-    before k e = let l = above_before i row in omega (arith, up_is)
-
-    sum_around : around ≡ sum_of (full bytes t up)
-    unfolding choose sum_from
-    sum_around = by up refl
+  module _ (sums : List ℕ) (i : ℕ) (summed : Summed bytes t sums i) (few : i ≤ 65535) (row : Row) (row_is : row ≡ row_at t i) (up : Option ℕ) (around : ℕ) (up_is : code_of up ≡ above i row)
+      (around_is : around ≡ unwrap_or (option_map (λ (k : ℕ). get_or sums k 0) up) 0) where
+    sum_around : around ≡ sum_of (full bytes t (code_of up))
+    unfolding sum_from
+    sum_around = by up up_is around_is
       where
-        by : (k : ℕ) → k ≡ up → around ≡ sum_of (full bytes t up)
-        by zero e = around_is ∙ rw (← e, full_none bytes t)
-        by (suc k) e =
-            let l = before (suc k) e in
-            let there : get_or sums k 0 ≡ sum_of (full bytes t (k + 1)) = summed.is k (omega arith) ∙ sum_is k (omega arith) in
-            let at : up - 1 ≡ k = omega arith in
-            let code : up ≡ k + 1 = omega arith in
-            around_is ∙ rw (ne_eqb up 0 (omega arith), at) (there ∙ ap (λ (n : ℕ). sum_of (full bytes t n)) (sym code))
+        by : (o : Option ℕ) → code_of o ≡ above i row → around ≡ unwrap_or (option_map (λ (k : ℕ). get_or sums k 0) o) 0 → around ≡ sum_of (full bytes t (code_of o))
+        by None e a = a ∙ rw (full_none bytes t)
+        by (Some k) e a =
+            let l = above_before i row in
+            a ∙ summed.is k (omega arith) ∙ sum_is k (omega arith) ∙ ap (λ (n : ℕ). sum_of (full bytes t n)) (add-one k)
 
     -- what it stands in, a dot, and its own name
     pub sum_whole : (dotted r : ℕ) (own : List ℕ) → dotted ≡ sum_from (around % 2 ^ 32) (46 ∷ []) → own ≡ name_of bytes row
         → r ≡ sum_from (dotted % 2 ^ 32) own → r ≡ row_sum bytes t i
     sum_whole dotted r own dotted_is own_is r_is =
-        let name : full bytes t (i + 1) ≡ full bytes t up · own = ap (full bytes t) (add-one i) ∙ full_step bytes t i ∙ rw (own_is, up_is, row_is) in
-        r_is ∙ rw (dotted_is, sum_around, sum_on 0 (full bytes t up) (46 ∷ []) (omega arith), sum_on 0 (full bytes t up ++ (46 ∷ [])) own (omega arith), append_assoc (full bytes t up) (46 ∷ []) own)
+        let name : full bytes t (i + 1) ≡ full bytes t (code_of up) · own = ap (full bytes t) (add-one i) ∙ full_step bytes t i ∙ rw (own_is, up_is, row_is) in
+        r_is ∙ rw (dotted_is, sum_around, sum_on 0 (full bytes t (code_of up)) (46 ∷ []) (omega arith), sum_on 0 (full bytes t (code_of up) ++ (46 ∷ [])) own (omega arith), append_assoc (full bytes t (code_of up)) (46 ∷ []) own)
         (ap sum_of (sym name) ∙ sym (sum_is i few))
 
   -- rows with other checksums
@@ -128,9 +118,8 @@ module _ (bytes : List ℕ) (t : List Row) where
         unlike (full bytes t (j + 1)) (full bytes t (i + 1)) (λ e. apart.other (sum_at j apart.inside few_j ∙ ap sum_of e ∙ sym (sum_at i inside few_i)))
 
 -- the rows before one that has no checksum
-pub seeks_all : (sums : Bor (List ℕ)) (row : ℕ) → Seeks sums.now None row (record { sums = sums; sum = None; left = row })
-seeks_all sums row = record { kept = (refl, refl); fewer = omega arith; others = λ bytes t sum are is. record { other = λ j l h e. omega arith } }
+pub seeks_all : (bytes : List ℕ) (t : List Row) (row : ℕ) → Seeks bytes t None row (record { set = bytes; rows = t; sum = None; left = row })
+seeks_all bytes t row = record { set = refl; rows = refl; given_sum = refl; fewer = omega arith; others = λ sum is. record { other = λ j l h e. omega arith } }
 
-pub seeks_some : (sums : Bor (List ℕ)) (sum row left : ℕ) → left ≤ row → ((bytes : List ℕ) (t : List Row) → sums.now ≡ row_sums bytes t (length sums.now) → Others bytes t sum left row)
-    → Seeks sums.now (Some sum) row (record { sums = sums; sum = Some sum; left = left })
-seeks_some sums sum row left l others = record { kept = (refl, refl); fewer = l; others = λ bytes t x are is. rw is (others bytes t are) }
+pub seeks_some : (bytes : List ℕ) (t : List Row) (sum row left : ℕ) → left ≤ row → Others bytes t sum left row → Seeks bytes t (Some sum) row (record { set = bytes; rows = t; sum = Some sum; left = left })
+seeks_some bytes t sum row left l others = record { set = refl; rows = refl; given_sum = refl; fewer = l; others = λ x is. rw is others }

@@ -2,8 +2,7 @@
 use Rattle.std.specs.Prelude.{ℕ, ◌+◌, ◌%◌, ◌≤◌, ◌<◌, ◌≡◌, List, length, get_or, Option, None, Some, IfSome}
 use Rattle.descriptor.specs.Descriptor.{Bytes}
 use Rattle.declarations.specs.declared.Declaration.{Declaration as Row}
-use Rattle.type_names.specs.LookUp.{row_sum, row_sums}
-use Rattle.type_names.specs.declared.Likely.{Likely}
+use Rattle.type_names.specs.LookUp.{row_sum}
 
 -- it has those of the first n rows
 pub record Summed (bytes : Bytes) (t : List Row) (sums : List ℕ) (n : ℕ) : Type 0 where
@@ -22,13 +21,22 @@ pub record Others (bytes : Bytes) (t : List Row) (sum from to : ℕ) : Type 0 wh
 abbrev pub IsSum : Option ℕ → ℕ → Type 0
 IsSum given sum = IfSome given (λ x. sum ≡ x)
 
--- rows with a checksum are looked for, and those up to the first `end` that are passed over have others
-pub record Seeks (sums : List ℕ) (given : Option ℕ) (end : ℕ) (l : Likely) : Type 0 where
-  pub kept : (l.sums.now ≡ sums) × (l.sum ≡ given)
+-- rows of a table are looked for: those before row `left` that may have a checksum, any where none is given
+pub record Seeking : Type 0 where
+  pub set : Bytes
+  pub rows : List Row
+  pub sum : Option ℕ
+  pub left : ℕ
+
+-- those before row `end`; what is passed over has another checksum
+pub record Seeks (bytes : Bytes) (t : List Row) (given : Option ℕ) (end : ℕ) (l : Seeking) : Type 0 where
+  pub set : l.set ≡ bytes
+  pub rows : l.rows ≡ t
+  pub given_sum : l.sum ≡ given
   pub fewer : l.left ≤ end
-  pub others : (bytes : Bytes) (t : List Row) (sum : ℕ) → sums ≡ row_sums bytes t (length sums) → IsSum given sum → Others bytes t sum l.left end
+  pub others : (sum : ℕ) → IsSum given sum → Others bytes t sum l.left end
 
 -- one row on
-abbrev pub SeeksOn : Likely → Option ℕ → Likely → Type 0
+abbrev pub SeeksOn : Seeking → Option ℕ → Seeking → Type 0
 SeeksOn old None new = old.left ≡ 0
-SeeksOn old (Some row) new = (old.left ≡ row + 1) × Seeks old.sums.now old.sum row new
+SeeksOn old (Some row) new = (old.left ≡ row + 1) × Seeks old.set old.rows old.sum row new

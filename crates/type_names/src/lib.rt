@@ -2,21 +2,20 @@
 // checksums leave one remainder; full names are compared from their ends, and none is built.
 #![tactic(auto)]
 
-ghost use Rattle.std.specs.Prelude.{◌≡◌, true, List, ℕ, ◌+◌, ◌-◌, ◌/◌, ◌%◌, ◌≤◌, ◌<◌, Some, reverse, eqb, length, get_or};
+ghost use Rattle.std.specs.Prelude.{◌≡◌, true, ◌+◌, ◌/◌, ◌%◌, ◌≤◌, ◌<◌, Some, reverse, length, get_or};
+ghost use Rattle.std.specs.Option.{unwrap_or, option_map};
 ghost use Rattle.std.specs.Iterator.{at_most, item_count, YieldsFirst};
-ghost use Rattle.base.specs.Choose.{choose};
 ghost use Rattle.base.specs.Bytes.{same};
 ghost use Rattle.checksums.specs.Sums.{sum_of};
 ghost use Rattle.declarations.specs.Listed.{above, full, name_of};
 ghost use Rattle.declarations.specs.Rows.{kind_number};
-ghost use Rattle.declarations.specs.declared.Declaration.{Declaration};
-ghost use Rattle.type_names.specs.Fronts.{spelled, Stripped};
+ghost use Rattle.type_names.specs.Fronts.{code_of, spelled, Stripped, Climbs};
 ghost use Rattle.message_graph.specs.Tab.{tab};
 ghost use Rattle.type_names.specs.Chains.{packed, chained, Linked, Chained};
 ghost use Rattle.type_names.specs.LookUp.{named, wanted, fits, found_row, same_row, declared_before, row_sum, row_sums};
 ghost use Rattle.type_names.specs.RowSums.{Summed, Apart, Others, Seeks, SeeksOn, IsSum};
 
-use declarations::{Declaration, Kind};
+use declarations::{Declaration, Declarations, Kind};
 use std::marker::Model;
 
 /// The declarations that a name is looked up among: all, the enums or the messages.
@@ -27,18 +26,17 @@ pub enum Sort {
     Message,
 }
 
-// The front of a full name: the full name with the code `up`, a dot, and `own`.
+// The front of a full name: the full name of the row `up`, nothing where there is none, a dot, and `own`.
 #[derive(Clone, Copy)]
 struct Front<'a> {
-    up: usize,
+    up: Option<usize>,
     own: &'a [u8],
 }
 
 // The bytes of a full name that are left, from its end on.
 #[derive(Drop)]
 struct FromEnd<'a> {
-    set: &'a [u8],
-    rows: &'a [Declaration],
+    declared: &'a Declarations<'a>,
     left: Option<Front<'a>>,
 }
 
@@ -48,18 +46,17 @@ impl<'a> Model for FromEnd<'a> {
 
     ghost Value = { List ℕ };
 
-    ghost view = { λ s. reverse (spelled s.set.now s.rows.now s.left) };
+    ghost view = { λ s. reverse (spelled s.declared.now.set.now s.declared.now.rows.now s.left) };
 }
 
 impl<'a> FromEnd<'a> {
-    // Those of the full name with a code.
-    fn new(set: &'a [u8], rows: &'a [Declaration], code: usize) -> Self
-        ensures { result ≡ reverse (full set.now rows.now code) }
+    // Those of the full name of a row.
+    fn new(declared: &'a Declarations<'a>, row: usize) -> Self
+        ensures { result ≡ reverse (full declared.now.set.now declared.now.rows.now (row + 1)) }
     {
         FromEnd {
-            set,
-            rows,
-            left: enter(set, rows, code),
+            declared,
+            left: enter(declared, Some(row)),
         }
     }
 }
@@ -80,31 +77,76 @@ impl<'a> Iterator for FromEnd<'a> {
                 Some(*byte)
             }
             [] => {
-                self.left = enter(self.set, self.rows, up);
+                self.left = enter(self.declared, up);
                 Some(b'.')
             }
         }
     }
 }
 
-// The full name with a code: of nothing for 0, of row i for i + 1.
-fn enter<'a>(set: &'a [u8], rows: &[Declaration], code: usize) -> Option<Front<'a>>
-    ensures { spelled set.now rows.now result ≡ full set.now rows.now code }
+// The full name of a row, if there is one.
+fn enter<'a>(declared: &'a Declarations<'a>, row: Option<usize>) -> Option<Front<'a>>
+    ensures { spelled declared.now.set.now declared.now.rows.now result ≡ full declared.now.set.now declared.now.rows.now (code_of row) }
 {
-    let i = code.checked_sub(1)?;
-    let row = declarations::row_at(rows, i);
+    let i = row?;
+    let row = declared.row(i);
     Some(Front {
         up: above(i, row),
-        own: name_of(set, row),
+        own: name_of(declared.set, row),
     })
 }
 
 // What row `i` stands in; nothing, where that isn't before it.
 #[tactic(auto, unfolding(base::specs::Choose::choose))]
-fn above(i: usize, row: Declaration) -> usize
-    ensures { result ≡ above i row }
+fn above(i: usize, row: Declaration) -> Option<usize>
+    ensures { code_of result ≡ above i row }
 {
-    if i < row.up { 0 } else { row.up }
+    if i < row.up {
+        return None;
+    }
+    row.up.checked_sub(1)
+}
+
+// The rows from one upward: that, what it stands in, and so on.
+#[derive(Drop)]
+struct Upward<'a> {
+    declared: &'a Declarations<'a>,
+    at: Option<usize>,
+}
+
+impl<'a> Model for Upward<'a> {
+    ghost use Rattle.type_names.specs.Fronts.{code_of, Climb};
+
+    ghost Value = { Climb };
+
+    ghost view = { λ u. record { rows = u.declared.now.rows.now; code = code_of u.at } };
+}
+
+impl<'a> Upward<'a> {
+    fn new(declared: &'a Declarations<'a>, row: usize) -> Self
+        ensures rows { result.rows ≡ declared.now.rows.now }
+        ensures code { result.code ≡ row + 1 }
+    {
+        Upward {
+            declared,
+            at: Some(row),
+        }
+    }
+}
+
+impl<'a> Iterator for Upward<'a> {
+    type Item = usize;
+
+    ghost next_gives = { Climbs };
+
+    ghost remaining = { λ s. at_most s.code };
+
+    #[tactic(auto, using(declarations::proofs::FullLaws::above_before))]
+    fn next(&mut self) -> Option<usize> {
+        let i = self.at?;
+        self.at = above(i, self.declared.row(i));
+        Some(i)
+    }
 }
 
 // A row's own name.
@@ -115,12 +157,11 @@ fn name_of(set: &[u8], row: Declaration) -> &[u8]
     &rest[..row.len.min(rest.len())]
 }
 
-// The checksum of the full name with the code `up`: that of nothing for 0, and of a row from its place in `sums`.
-#[tactic(auto, unfolding(base::specs::Choose::choose))]
-fn sum_above(sums: &[u64], up: usize) -> u64
-    ensures { result ≡ choose (eqb up 0) 0 (get_or sums.now (up - 1) 0) }
+// The checksum of the full name of the row `up`, from its place in `sums`; that of nothing where there is none.
+fn sum_above(sums: &[u64], up: Option<usize>) -> u64
+    ensures { result ≡ unwrap_or (option_map (λ i. get_or sums.now i 0) up) 0 }
 {
-    match up.checked_sub(1) {
+    match up {
         Some(i) => sums.get(i).copied().unwrap_or(0),
         None => 0,
     }
@@ -128,30 +169,32 @@ fn sum_above(sums: &[u64], up: usize) -> u64
 
 // The checksum of the full name of row `i`: that of what it stands in, then of a dot and its own name. `sums` has those of the rows
 // before.
-fn row_sum(set: &[u8], rows: &[Declaration], sums: &[u64], i: usize) -> u64
-    requires { Summed set.now rows.now sums.now i }
-    ensures { result ≡ row_sum set.now rows.now i }
+fn row_sum(declared: &Declarations<'_>, sums: &[u64], i: usize) -> u64
+    requires { Summed declared.now.set.now declared.now.rows.now sums.now i }
+    ensures { result ≡ row_sum declared.now.set.now declared.now.rows.now i }
 {
     if 65535 < i {
         return 0;
     }
-    let row = declarations::row_at(rows, i);
+    let row = declared.row(i);
     let around = sum_above(sums, above(i, row));
     let dotted = checksums::checksum_from(around, b".");
-    checksums::checksum_from(dotted, name_of(set, row))
+    checksums::checksum_from(dotted, name_of(declared.set, row))
 }
 
 // For each place of `sums`, the checksum of the full name of the row there.
-fn sum_rows(set: &[u8], rows: &[Declaration], sums: &mut [u64])
-    ensures { sums.new ≡ tab (length sums.old) (row_sum set.now rows.now) }
+fn sum_rows(declared: &Declarations<'_>, sums: &mut [u64])
+    ensures { sums.new ≡ tab (length sums.old) (row_sum declared.now.set.now declared.now.rows.now) }
 {
     for i in 0..sums.len() {
-        sums[i] = row_sum(set, rows, sums, i);
+        sums[i] = row_sum(declared, sums, i);
     }
 }
 
 // A cell's parts: the checksum of its row, the row before in the same bucket, and the last row of the bucket with the cell's number;
 // rows are counted from 1.
+// One number, as its definition packs it: the list has the plain checksums first, and the chains are laid into the same cells.
+// Casts below: a `usize` has no `From` of a `u64`, nor the other way.
 fn sum_in(cell: u64) -> u64
     ensures value { result ≡ cell % 4294967296 }
     ensures upper_bound { result < 4294967296 }
@@ -233,102 +276,11 @@ fn chain(sums: &mut [u64])
 }
 
 // For each place of `sums`, the checksum of the full name of the row there, with the chains of the rows.
-pub fn fill_sums(set: &[u8], rows: &[Declaration], sums: &mut [u64])
-    ensures { sums.new ≡ row_sums set.now rows.now (length sums.old) }
+fn fill_sums(declared: &Declarations<'_>, sums: &mut [u64])
+    ensures { sums.new ≡ row_sums declared.now.set.now declared.now.rows.now (length sums.old) }
 {
-    sum_rows(set, rows, sums);
+    sum_rows(declared, sums);
     chain(sums);
-}
-
-// How many of the first `count` rows are left, where those behind have other checksums.
-fn last_like(sums: &[u64], count: usize, sum: u64) -> usize
-    ensures upper_bound { result ≤ count }
-    ensures by_index { (set : List ℕ) (rows : List Declaration) → sums.now ≡ row_sums set rows (length sums.now) → Others set rows sum result count }
-{
-    let n = chained(sums.len());
-    if count != n || n == 0 {
-        return count;
-    }
-    let b = bucket(sum, n);
-    let last = last_in(sums[b]);
-    if count < last { count } else { last }
-}
-
-// The same of the rows before row `k`, which may have it.
-fn like_before(sums: &[u64], k: usize, sum: u64) -> usize
-    ensures upper_bound { result ≤ k }
-    ensures by_index { (set : List ℕ) (rows : List Declaration) → sums.now ≡ row_sums set rows (length sums.now) → Others set rows sum result k }
-{
-    let n = chained(sums.len());
-    if n <= k {
-        return k;
-    }
-    let cell = sums[k];
-    let own = bucket(sum_in(cell), n);
-    let b = bucket(sum, n);
-    if own != b {
-        return k;
-    }
-    let before = before_in(cell);
-    if k < before { k } else { before }
-}
-
-/// The rows that may have a checksum, from the last to the first: all, where that is `None`. Where `sums` has the checksums of the
-/// rows, those that are passed over have others.
-#[derive(Drop)]
-pub struct Likely<'a> {
-    pub sums: &'a [u64],
-    pub sum: Option<u64>,
-    pub left: usize,
-}
-
-impl<'a> Likely<'a> {
-    /// Those of the first `count` rows.
-    pub fn among(sums: &'a [u64], count: usize, sum: u64) -> Self
-        ensures { Seeks sums.now (Some sum) count result }
-    {
-        Likely {
-            sums,
-            sum: Some(sum),
-            left: last_like(sums, count, sum),
-        }
-    }
-
-    /// Those before a row that may have the checksum of that.
-    pub fn before(sums: &'a [u64], row: usize) -> Self
-        ensures { Seeks sums.now result.sum row result × ((set : List ℕ) (rows : List Declaration) → sums.now ≡ row_sums set rows (length sums.now) → IsSum result.sum (row_sum set rows row)) }
-    {
-        let Some(cell) = sums.get(row) else {
-            return Likely {
-                sums,
-                sum: None,
-                left: row,
-            };
-        };
-        let sum = sum_in(*cell);
-        Likely {
-            sums,
-            sum: Some(sum),
-            left: like_before(sums, row, sum),
-        }
-    }
-}
-
-impl<'a> Iterator for Likely<'a> {
-    type Item = usize;
-
-    ghost next_gives = { SeeksOn };
-
-    ghost remaining = { λ s. at_most s.left };
-
-    fn next(&mut self) -> Option<usize> {
-        let row = self.left.checked_sub(1)?;
-        self.left = match self.sum {
-            Some(sum) => like_before(self.sums, row, sum),
-            None => row,
-        };
-        Some(row)
-    }
 }
 
 // Has row `i` another checksum than `sum`? Most rows are told apart so.
@@ -338,49 +290,20 @@ fn sums_apart(sums: &[u64], i: usize, sum: u64) -> bool
     i < sums.len() && sum_in(sums[i]) != sum
 }
 
-// A name without a dot and the own name of row `i` at its end, where it ends so, and the code of what the row stands in: what is
-// left is to be the full name of that.
-fn strip<'a>(
-    set: &[u8],
-    rows: &[Declaration],
-    name: &'a [u8],
-    i: usize,
-) -> Option<(usize, &'a [u8])>
-    ensures { Stripped set.now rows.now name.now i result }
+// Have two rows other checksums?
+fn rows_apart(sums: &[u64], i: usize, j: usize) -> bool
+    ensures { result ≡ true → (i < length sums.now) × Apart sums.now j (get_or sums.now i 0 % 4294967296) }
 {
-    let row = declarations::row_at(rows, i);
-    let own = name_of(set, row);
-    let front = name.strip_suffix(own)?.strip_suffix(b".")?;
-    Some((above(i, row), front))
+    i < sums.len() && sums_apart(sums, j, sum_in(sums[i]))
 }
 
-// Is this the full name of the row? The answer is right where `sums` has the checksums of the rows and `sum` is that of the name.
-pub fn is_named(
-    set: &[u8],
-    rows: &[Declaration],
-    sums: &[u64],
-    name: &[u8],
-    sum: u64,
-    row: usize,
-) -> bool
-    ensures { sums.now ≡ row_sums set.now rows.now (length sums.now) → sum ≡ sum_of name.now → result ≡ named set.now rows.now name.now row }
+// A name without a dot and the own name of row `i` at its end, where it ends so: what is left is to be the full name of what the
+// row stands in.
+fn strip<'a>(declared: &Declarations<'_>, name: &'a [u8], i: usize) -> Option<&'a [u8]>
+    ensures { Stripped declared.now.set.now declared.now.rows.now name.now i result }
 {
-    if 65535 < row {
-        return false;
-    }
-    if sums_apart(sums, row, sum) {
-        return false;
-    }
-    let mut code = row + 1;
-    let mut left = name;
-    while let Some(i) = code.checked_sub(1) {
-        let Some((up, front)) = strip(set, rows, left, i) else {
-            return false;
-        };
-        code = up;
-        left = front;
-    }
-    left.is_empty()
+    let own = name_of(declared.set, declared.row(i));
+    name.strip_suffix(own)?.strip_suffix(b".")
 }
 
 // Is a row of this kind looked for?
@@ -395,53 +318,13 @@ fn is_wanted(sort: Sort, kind: Kind) -> bool
     }
 }
 
-fn row_fits(
-    set: &[u8],
-    rows: &[Declaration],
-    sums: &[u64],
-    name: &[u8],
-    sum: u64,
-    sort: Sort,
-    row: usize,
-) -> bool
-    ensures { sums.now ≡ row_sums set.now rows.now (length sums.now) → sum ≡ sum_of name.now → result ≡ fits set.now rows.now name.now sort row }
-{
-    if sums_apart(sums, row, sum) {
-        return false;
-    }
-    is_wanted(sort, declarations::row_at(rows, row).kind)
-        && is_named(set, rows, sums, name, sum, row)
-}
-
-/// The first of so many rows that has this full name and is a declaration of the sort. The answer is right where `sums` has the
-/// checksums of the rows.
-pub fn find_row(
-    set: &[u8],
-    rows: &[Declaration],
-    count: usize,
-    sums: &[u64],
-    name: &[u8],
-    sort: Sort,
-) -> Option<usize>
-    ensures { sums.now ≡ row_sums set.now rows.now (length sums.now) → result ≡ found_row set.now rows.now name.now sort count }
-{
-    let sum = checksums::checksum(name);
-    let mut first = None;
-    for row in Likely::among(sums, count, sum) {
-        if row_fits(set, rows, sums, name, sum, sort, row) {
-            first = Some(row);
-        }
-    }
-    first
-}
-
 // Do two rows have one full name?
-fn same_name(set: &[u8], rows: &[Declaration], i: usize, j: usize) -> bool
+fn same_name(declared: &Declarations<'_>, i: usize, j: usize) -> bool
     requires { (i < 65536) × (j < 65536) }
-    ensures { result ≡ same (full set.now rows.now (i + 1)) (full set.now rows.now (j + 1)) }
+    ensures { result ≡ same (full declared.now.set.now declared.now.rows.now (i + 1)) (full declared.now.set.now declared.now.rows.now (j + 1)) }
 {
-    let mut second = FromEnd::new(set, rows, j + 1);
-    for byte in FromEnd::new(set, rows, i + 1) {
+    let mut second = FromEnd::new(declared, j);
+    for byte in FromEnd::new(declared, i) {
         if second.next() != Some(byte) {
             return false;
         }
@@ -451,34 +334,188 @@ fn same_name(set: &[u8], rows: &[Declaration], i: usize, j: usize) -> bool
 
 // Does the declaration in row `j` have the full name of row `i`?
 #[tactic(auto, unfolding(crate::specs::LookUp::same_row, declarations::specs::Rows::kind_number, base::specs::Choose::choose))]
-fn row_same(set: &[u8], rows: &[Declaration], i: usize, j: usize) -> bool
+fn row_same(declared: &Declarations<'_>, i: usize, j: usize) -> bool
     requires { (i < 65536) × (j < 65536) }
-    ensures { result ≡ same_row set.now rows.now i j }
+    ensures { result ≡ same_row declared.now.set.now declared.now.rows.now i j }
 {
-    match declarations::row_at(rows, j).kind {
+    match declared.row(j).kind {
         Kind::Package => false,
-        Kind::Enum | Kind::Message(_) => same_name(set, rows, j, i),
+        Kind::Enum | Kind::Message(_) => same_name(declared, j, i),
     }
 }
 
-// Have two rows other checksums?
-fn rows_apart(sums: &[u64], i: usize, j: usize) -> bool
-    ensures { result ≡ true → (i < length sums.now) × Apart sums.now j (get_or sums.now i 0 % 4294967296) }
-{
-    i < sums.len() && sums_apart(sums, j, sum_in(sums[i]))
+/// A set's declarations, and the checksums of the rows' full names with the chains of the rows: by these names are looked up.
+#[derive(Clone, Copy)]
+pub struct Names<'a> {
+    pub declared: Declarations<'a>,
+    sums: &'a [u64],
+    ghost summed: { sums.now ≡ row_sums declared.set.now declared.rows.now (length sums.now) },
 }
 
-// Is the full name of the row declared in a row before it? The answer is right where `sums` has the checksums of the rows.
-pub fn declared_before(set: &[u8], rows: &[Declaration], sums: &[u64], row: usize) -> bool
-    ensures { sums.now ≡ row_sums set.now rows.now (length sums.now) → result ≡ declared_before set.now rows.now row }
-{
-    if 65535 < row {
-        return false;
+impl<'a> Names<'a> {
+    /// Of these declarations; the checksums go into `sums`, as far as there is room.
+    pub fn new(declared: Declarations<'a>, sums: &'a mut [u64]) -> Self
+        ensures { result.declared ≡ declared.entry }
+    {
+        let used = declared.count.min(sums.len());
+        let sums = &mut sums[0..used];
+        fill_sums(&declared, sums);
+        Names { declared, sums }
     }
-    for other in Likely::before(sums, row) {
-        if !rows_apart(sums, row, other) && row_same(set, rows, row, other) {
-            return true;
+
+    // How many of the rows are left, where those behind have other checksums.
+    fn last_like(&self, sum: u64) -> usize
+        ensures upper_bound { result ≤ self.now.declared.count }
+        ensures others { Others self.now.declared.set.now self.now.declared.rows.now sum result self.now.declared.count }
+    {
+        let count = self.declared.count;
+        let n = chained(self.sums.len());
+        if count != n || n == 0 {
+            return count;
+        }
+        let b = bucket(sum, n);
+        let last = last_in(self.sums[b]);
+        if count < last { count } else { last }
+    }
+
+    // The same of the rows before row `k`, which may have it.
+    fn like_before(&self, k: usize, sum: u64) -> usize
+        ensures upper_bound { result ≤ k }
+        ensures others { Others self.now.declared.set.now self.now.declared.rows.now sum result k }
+    {
+        let n = chained(self.sums.len());
+        if n <= k {
+            return k;
+        }
+        let cell = self.sums[k];
+        let own = bucket(sum_in(cell), n);
+        let b = bucket(sum, n);
+        if own != b {
+            return k;
+        }
+        let before = before_in(cell);
+        if k < before { k } else { before }
+    }
+
+    /// The rows that may have this checksum, from the last to the first.
+    pub fn likely(&'a self, sum: u64) -> Likely<'a>
+        ensures { Seeks self.now.declared.set.now self.now.declared.rows.now (Some sum) self.now.declared.count result }
+    {
+        Likely {
+            names: self,
+            sum: Some(sum),
+            left: self.last_like(sum),
         }
     }
-    false
+
+    /// The rows before this one that may have its checksum, from the last to the first.
+    pub fn likely_before(&'a self, row: usize) -> Likely<'a>
+        ensures seeks { Seeks self.now.declared.set.now self.now.declared.rows.now result.sum row result }
+        ensures sum { IsSum result.sum (row_sum self.now.declared.set.now self.now.declared.rows.now row) }
+    {
+        let Some(cell) = self.sums.get(row) else {
+            return Likely {
+                names: self,
+                sum: None,
+                left: row,
+            };
+        };
+        let sum = sum_in(*cell);
+        Likely {
+            names: self,
+            sum: Some(sum),
+            left: self.like_before(row, sum),
+        }
+    }
+
+    /// Is this the full name of the row? The answer is right where `sum` is the checksum of the name.
+    pub fn is_named(&self, name: &[u8], sum: u64, row: usize) -> bool
+        ensures { sum ≡ sum_of name.now → result ≡ named self.now.declared.set.now self.now.declared.rows.now name.now row }
+    {
+        if 65535 < row {
+            return false;
+        }
+        if sums_apart(self.sums, row, sum) {
+            return false;
+        }
+        let mut left = name;
+        for i in Upward::new(&self.declared, row) {
+            let Some(front) = strip(&self.declared, left, i) else {
+                return false;
+            };
+            left = front;
+        }
+        left.is_empty()
+    }
+
+    fn row_fits(&self, name: &[u8], sum: u64, sort: Sort, row: usize) -> bool
+        ensures { sum ≡ sum_of name.now → result ≡ fits self.now.declared.set.now self.now.declared.rows.now name.now sort row }
+    {
+        if sums_apart(self.sums, row, sum) {
+            return false;
+        }
+        is_wanted(sort, self.declared.row(row).kind) && self.is_named(name, sum, row)
+    }
+
+    /// The first row that has this full name and is a declaration of the sort.
+    pub fn find(&self, name: &[u8], sort: Sort) -> Option<usize>
+        ensures { result ≡ found_row self.now.declared.set.now self.now.declared.rows.now name.now sort self.now.declared.count }
+    {
+        let sum = checksums::checksum(name);
+        let mut first = None;
+        for row in self.likely(sum) {
+            if self.row_fits(name, sum, sort, row) {
+                first = Some(row);
+            }
+        }
+        first
+    }
+
+    /// Is the full name of the row declared in a row before it?
+    pub fn declared_before(&self, row: usize) -> bool
+        ensures { result ≡ declared_before self.now.declared.set.now self.now.declared.rows.now row }
+    {
+        if 65535 < row {
+            return false;
+        }
+        for other in self.likely_before(row) {
+            if !rows_apart(self.sums, row, other) && row_same(&self.declared, row, other) {
+                return true;
+            }
+        }
+        false
+    }
+}
+
+/// The rows that may have a checksum, from the last to the first: all, where that is `None`. Those that are passed over have others.
+#[derive(Drop)]
+pub struct Likely<'a> {
+    names: &'a Names<'a>,
+    sum: Option<u64>,
+    left: usize,
+}
+
+impl<'a> Model for Likely<'a> {
+    ghost use Rattle.type_names.specs.RowSums.{Seeking};
+
+    ghost Value = { Seeking };
+
+    ghost view = { λ l. record { set = l.names.now.declared.set.now; rows = l.names.now.declared.rows.now; sum = l.sum; left = l.left } };
+}
+
+impl<'a> Iterator for Likely<'a> {
+    type Item = usize;
+
+    ghost next_gives = { SeeksOn };
+
+    ghost remaining = { λ s. at_most s.left };
+
+    fn next(&mut self) -> Option<usize> {
+        let row = self.left.checked_sub(1)?;
+        self.left = match self.sum {
+            Some(sum) => self.names.like_before(row, sum),
+            None => row,
+        };
+        Some(row)
+    }
 }

@@ -8,7 +8,7 @@ pub loop-row-init : goal.loop-row-init
 loop-row-init c = going_start _ _ _ _
 
 pub returns-then-not-is_row_named : goal.returns-then-not-is_row_named
-returns-then-not-is_row_named c = going_found _ _ _ _ _ c.loop-row.invariant c.loop-row-test.true _ c.is_row_named.ensures (ap not c.if-not-is_row_named.true) _ (ap (λ (r : Row). r.file) c.row_at.ensures)
+returns-then-not-is_row_named c = going_found _ _ _ _ _ c.loop-row.invariant c.loop-row-test.true _ c.is_row_named.ensures (ap not c.if-not-is_row_named.true) _ (ap (λ (r : Row). r.file) c.row.ensures)
 
 pub loop-row-preserved : goal.loop-row-preserved
 loop-row-preserved c = going_more _ _ _ _ _ c.loop-row.invariant c.loop-row-test.true _ c.is_row_named.ensures (ap not c.if-not-is_row_named.false)

@@ -1,6 +1,0 @@
-use Rattle.map_entries.specs.Numbers.{numbers}
-use Rattle.map_entries.proofs.PassLaws.{Passed}
-use Rattle.map_entries.proofs.note_by.Given as goal
-
-abbrev pub invariant-loop-row : goal.invariant-loop-row
-invariant-loop-row l = Passed l.set l.rows l.count (numbers l.initial.who) (numbers l.who) l.row

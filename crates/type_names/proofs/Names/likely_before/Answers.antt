@@ -1,0 +1,15 @@
+use Prim.Native.Nat.{ℕ, ◌%◌}
+use mathlib.Core.Path.{sym, ap, ◌∙◌}
+use Rattle.type_names.proofs.RowSumLaws.{seeks_all, seeks_some, sum_row}
+use Rattle.type_names.proofs.Names.likely_before.Goals as goal
+
+pub returns-in_default : goal.returns-in_default
+returns-in_default c = record { seeks = seeks_all _ _ _; sum = tt }
+
+pub returns : goal.returns
+returns c =
+    let h = c.in-Some.ensures in
+    record {
+      seeks = seeks_some _ _ _ _ _ c.like_before.ensures.upper_bound c.like_before.ensures.others;
+      sum = sym (sum_row _ _ _ c.args.self.now.summed _ h.lookup.3.0) ∙ ap (λ (x : ℕ). x % 4294967296) (sym (h.lookup.3.1 0)) ∙ sym c.sum_in-sum.ensures.value;
+    }
