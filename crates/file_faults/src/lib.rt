@@ -1,28 +1,32 @@
 //! Refusals 8 and 9 of a file.
 #![tactic(auto)]
 
-ghost use Rattle.std.specs.Prelude.{◌≡◌, leb, length, ◌||◌, ◌+◌, ◌-◌, ◌≤◌, ◌<◌, ◌^◌};
+ghost use Rattle.std.specs.Prelude.{◌≡◌, eqb, leb, length, ◌||◌, ◌+◌, ◌-◌, ◌≤◌, ◌<◌, ◌^◌};
 ghost use Rattle.base.specs.Lists.{any};
 ghost use Rattle.field_types.specs.Types.{sort_of, bytes};
 ghost use Rattle.descriptor.specs.Decode.{entries, parts};
 ghost use Rattle.descriptor.specs.Seen.{text_seen};
+ghost use Rattle.name_rules.specs.Accessors.{type};
 ghost use Rattle.text_tables.specs.Rows.{is_plain};
 ghost use Rattle.members.specs.Members.{map_entry_at, numbers_where};
 ghost use Rattle.code_generator.specs.Refusals.{is_given, given_fails};
 ghost use Rattle.file_faults.specs.FileFaults.{no_faults, ◌or◌, default_fails_at, enums_meet, own_faults, message_faults, messages_faults, faults_of_file};
 
 use context::Context;
+use descriptor::FieldDescriptor;
 use descriptor::field_number::{
     FILE_ENUM_TYPE, FILE_MESSAGE_TYPE, MESSAGE_ENUM_TYPE, MESSAGE_FIELD, MESSAGE_NESTED_TYPE,
 };
 use enum_text::overlap::enum_overlaps;
 use extern_paths::resolve::takes;
-use joined::FullName;
+use field_types::Sort;
+use file_parts::Numbered;
+use joined::Name;
 use members::{Message, field_at, is_entry};
 use options::Options;
 use parts::Parts;
 use std::ops::Range;
-use text_tables::{field_row, message_row};
+use text_tables::field_row;
 
 /// Variants of a written enum overlap (8); a bytes default to be written doesn't unescape (9).
 #[derive(Clone, Copy)]
@@ -84,6 +88,13 @@ fn given_fails(default: Option<&[u8]>) -> bool
     }
 }
 
+// Are its values bytes?
+fn is_bytes(field: &FieldDescriptor<'_>) -> bool
+    ensures { result ≡ eqb (sort_of (type field.now)) bytes }
+{
+    matches!(field_types::sort_of(field.kind()), Some(Sort::Bytes))
+}
+
 // Does the bytes default of field k not unescape?
 #[tactic(auto, unfolding(crate::specs::FileFaults::default_fails_at))]
 fn default_fails_at(context: &Context<'_>, k: usize) -> bool
@@ -93,7 +104,7 @@ fn default_fails_at(context: &Context<'_>, k: usize) -> bool
         return false;
     }
     let field = field_at(context, k);
-    field.sort() == b'y' && given_fails(field.default_value)
+    is_bytes(&field) && given_fails(field.default_value)
 }
 
 // Does that of one of the fields that are in no oneof?
@@ -103,6 +114,8 @@ fn defaults_fail(context: &Context<'_>, fields: &Range<usize>) -> bool
     (fields.start..fields.end).any(|k| field_row(context.fields, k).is_plain()
         && default_fails_at(context, k))
 }
+
+// Here and below a bound on the levels left and the number: a struct of both would be made anew at each level.
 
 // A message alone.
 #[tactic(auto, unfolding(crate::specs::FileFaults::own_faults))]
@@ -129,13 +142,13 @@ fn message_faults(
     part: &[u8],
     left: usize,
 ) -> Faults
-    requires { (number + left < 2 ^ 33) × (left ≤ 16) }
+    requires { (number + 1 + left < 2 ^ 64) × (left ≤ 16) }
     ensures { result ≡ message_faults context.now.options context.now.set context.now.messages context.now.fields (messages_faults context.now.options context.now.set context.now.messages context.now.fields left) scope.now number part.now }
 {
     if is_entry(part) {
         return NO_FAULTS;
     }
-    let full = FullName::new(scope, joined::name_of(part));
+    let full = Name::new(scope, joined::name_of(part));
     let full = full.as_bytes();
     if takes(&context.options, full) {
         return NO_FAULTS;
@@ -166,35 +179,29 @@ fn messages_faults(
     messages: Parts<'_>,
     left: usize,
 ) -> Faults
-    requires { (first + left ≤ 2 ^ 33) × (left ≤ 16) }
+    requires { (first + left < 2 ^ 64) × (left ≤ 16) }
     ensures { result ≡ messages_faults context.now.options context.now.set context.now.messages context.now.fields left scope.now first messages.entry }
 {
     let mut found = NO_FAULTS;
     if left == 0 {
         return found;
     }
-    let mut number = first;
-    for part in messages {
+    for (number, part) in Numbered::new(context.messages, first, messages) {
         found = found.or(message_faults(context, scope, number, part, left - 1));
-        number = usize::from(message_row(context.messages, number).after);
     }
     found
 }
 
 /// A file whose first message has the number `first`.
-#[tactic(auto, unfolding(crate::specs::FileFaults::faults_of_file))]
-pub fn file_faults(context: &Context<'_>, first: u32, part: &[u8]) -> Faults
+pub fn file_faults(context: &Context<'_>, first: usize, part: &[u8]) -> Faults
     ensures { result ≡ faults_of_file context.now.options context.now.set context.now.messages context.now.fields first part.now }
 {
-    let scope = FullName::package(part);
+    let scope = Name::package(part);
     let scope = scope.as_bytes();
-    let found = messages_faults(
-        context,
-        scope,
-        first as usize,
-        Parts::new(part, FILE_MESSAGE_TYPE),
-        16,
-    );
+    let messages = Parts::new(part, FILE_MESSAGE_TYPE);
+    // all numbers past the table's end have one row
+    let first = first.min(context.messages.len());
+    let found = messages_faults(context, scope, first, messages, 16);
     let overlap = enums_meet(part, FILE_ENUM_TYPE, &context.options, scope);
     found.or(Faults {
         overlap,

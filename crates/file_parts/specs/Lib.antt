@@ -1,1 +1,2 @@
 pub mod FileParts
+pub mod Numbered

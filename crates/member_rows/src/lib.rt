@@ -14,7 +14,8 @@ use descriptor::field_number::{
     FILE_MESSAGE_TYPE, MESSAGE_NESTED_TYPE, MESSAGE_ONEOF_DECL, SET_FILE,
 };
 use extern_paths::resolve::takes;
-use joined::FullName;
+use file_parts::Numbered;
+use joined::Name;
 use members::Message;
 use name_rows::{Spelling, put_row};
 use parts::Parts;
@@ -49,7 +50,8 @@ fn put_fields(
     }
 }
 
-// The rows of a message's oneofs: one left without fields has none.
+// The rows of a message's oneofs: one left without fields has none. (`Message::oneofs` would also meet each name with those of the
+// nested types.)
 fn put_oneofs(text: &mut Text<'_>, context: &Context<'_>, message: &Message<'_>)
     ensures { text.new ≡ text.old ▻ oneof_rows context.now.messages context.now.fields message.now.number message.now.part }
 {
@@ -108,6 +110,8 @@ fn oneofs_meet(rows: &mut [u8], context: &Context<'_>, message: &Message<'_>) ->
     false
 }
 
+// Here and below a bound on the levels left and the number: a struct of both would be made anew at each level.
+
 // A message alone.
 #[tactic(auto, unfolding(crate::specs::MemberRows::own_meet))]
 fn own_meet(rows: &mut [u8], context: &Context<'_>, message: &Message<'_>) -> bool
@@ -132,7 +136,7 @@ fn message_meets(
     if members::is_entry(part) {
         return false;
     }
-    let full = FullName::new(scope, joined::name_of(part));
+    let full = Name::new(scope, joined::name_of(part));
     if takes(&context.options, full.as_bytes()) {
         return false;
     }
@@ -165,12 +169,10 @@ fn messages_meet(
     if left == 0 {
         return false;
     }
-    let mut number = first;
-    for part in messages {
+    for (number, part) in Numbered::new(context.messages, first, messages) {
         if message_meets(rows, context, scope, number, part, left - 1) {
             return true;
         }
-        number = usize::from(text_tables::message_row(context.messages, number).after);
     }
     false
 }
@@ -180,7 +182,7 @@ fn file_meets(rows: &mut [u8], context: &Context<'_>, first: usize, part: &[u8])
     requires { first < 65536 }
     ensures { result ≡ file_meets context.now.options (length rows.old) context.now.set context.now.messages context.now.fields first part.now }
 {
-    let scope = FullName::package(part);
+    let scope = Name::package(part);
     let messages = Parts::new(part, FILE_MESSAGE_TYPE);
     messages_meet(rows, context, scope.as_bytes(), first, messages, 16)
 }

@@ -1,5 +1,7 @@
 -- The text of a message and of its module, piece by piece, and one level of messages. Assumes nothing.
-use Rattle.std.proofs.Common.{◌≡◌, refl, sym, ap, ◌∙◌, ℕ, zero, suc, ◌+◌, ◌-◌, ◌≤◌, Bool, true, false, not, eqb, List, [], ◌++◌, append-nil, take, arith, add-one, sub-one}
+use Rattle.std.proofs.Common.{◌≡◌, refl, sym, ap, ap₂, ◌∙◌, ℕ, zero, suc, ◌+◌, ◌-◌, ◌≤◌, min, Bool, true, false, not, eqb, List, [], ◌∷◌, ◌++◌, append-nil, length, take, arith, add-one, sub-one}
+use Rattle.std.proofs.lemmas.List.{get_or_past}
+use Rattle.std.proofs.Math.Decide.{dec_le}
 use Rattle.writer.specs.declared.text.Text.{Text}
 use Rattle.writer.specs.Text.{pick}
 use Rattle.writer.specs.Draft.{draft, extended, Filled}
@@ -9,15 +11,20 @@ use Rattle.descriptor.specs.Descriptor.{Bytes}
 use Rattle.descriptor.specs.Decode.{entries, parts, decode_file}
 use Rattle.syntax.specs.Syntax.{syntax_of}
 use Rattle.name_rules.specs.FullNames.{package_scope}
+use Rattle.options.specs.Settings.{Setting}
 use Rattle.context.specs.Given.{Given}
+use Rattle.text_tables.specs.Rows.{message_row, no_message}
+use Rattle.text_tables.specs.declared.MessageRow.{MessageRow}
+use Rattle.text_tables.specs.declared.FieldRow.{FieldRow}
 use Rattle.extern_paths.specs.ExternPaths.{taken}
 use Rattle.walks.specs.Walked.{walked}
 use Rattle.joined.specs.Joined.{max_path, ◌⊙◌}
 use Rattle.members.specs.Members.{name_in}
 use Rattle.members.specs.Seen.{MessageSeen}
-use Rattle.struct_text.specs.StructText.{struct_text}
+use Rattle.oneof_fields.specs.OneofFields.{oneof_field_part, oneof_field_texts}
+use Rattle.struct_text.specs.StructText.{struct_head, struct_text}
 use Rattle.enum_text.specs.EnumText.{enums_in, enum_texts}
-use Rattle.oneof_text.specs.OneofText.{oneof_texts}
+use Rattle.oneof_text.specs.OneofText.{oneof_part, oneof_texts}
 use Rattle.code_generator.specs.Attributes.{end}
 use Rattle.code_generator.specs.Generate.{push_mod, is_proto3}
 use Rattle.code_generator.specs.Writing.{◌⊳◌}
@@ -92,11 +99,63 @@ module _ (g : Given) (proto3 : Bool) where
         unfolding message_text
         text_written k e = rw (← is, h, ← fe, ← te, k, ← e)
 
--- ---- a file. g₁: the context as the code has it
-pub file_written : (g : Given) (first : ℕ) (p : Bytes) (u u₁ u₂ : Text) {g₁ : Given} {proto3 : Bool} {scope : Bytes} {ps : List Bytes} → g₁ ≡ g → proto3 ≡ is_proto3 (syntax_of (decode_file p).syntax) → scope ≡ take max_path (package_scope (decode_file p).package_name) → ps ≡ parts 4 (entries p)
-    → u₁ ≡ u ▻ message_texts g.options g.set g.messages g.fields proto3 16 0 scope first ps
+-- ---- a message's text by its row alone
+walked_same : (g h : ℕ → Bytes → Bytes) (next : ℕ → Bytes → ℕ) → ((x : ℕ) (q : Bytes) → g x q ≡ h x q) → (x : ℕ) (ps : List Bytes) → walked g next x ps ≡ walked h next x ps
+unfolding walked
+walked_same g h next e x [] = refl
+walked_same g h next e x (p ∷ ps) = ap₂ ◌++◌ (e x p) (walked_same g h next e (next x p) ps)
+
+module _ (rs : List Setting) (set : List ℕ) (messages : List MessageRow) (t : List FieldRow) (proto3 : Bool) where
+  module _ (i j : ℕ) (e : message_row messages i ≡ message_row messages j) (deeper : Bool) (p : Bytes) where
+    field_same : (d : ℕ) (full : Bytes) (x : ℕ) (q : Bytes) → oneof_field_part rs set messages t d full deeper i p x q ≡ oneof_field_part rs set messages t d full deeper j p x q
+    unfolding oneof_field_part
+    field_same d full x q = rw e
+
+    struct_same : (d : ℕ) (scope full : Bytes) → struct_text rs set messages t proto3 d scope full deeper i p ≡ struct_text rs set messages t proto3 d scope full deeper j p
+    unfolding struct_text struct_head oneof_field_texts
+    struct_same d scope full = rw (walked_same _ _ _ (field_same (suc d) full) 0 (parts 8 (entries p)), e)
+
+    enum_same : (d : ℕ) (full : Bytes) (x : ℕ) (q : Bytes) → oneof_part rs set messages t d full deeper i p x q ≡ oneof_part rs set messages t d full deeper j p x q
+    unfolding oneof_part
+    enum_same d full x q = rw e
+
+    there_same : module_for messages t deeper i p ≡ module_for messages t deeper j p
+    unfolding module_for
+    there_same = rw e
+
+    module _ (left : ℕ) (nested : (d : ℕ) (scope : Bytes) (ps : List Bytes) → message_texts rs set messages t proto3 left d scope (suc i) ps ≡ message_texts rs set messages t proto3 left d scope (suc j) ps) where
+      module_same : (d : ℕ) (full : Bytes) → module_text rs set messages t proto3 (message_texts rs set messages t proto3 left) d full deeper i p ≡ module_text rs set messages t proto3 (message_texts rs set messages t proto3 left) d full deeper j p
+      unfolding module_text oneof_texts
+      module_same d full = rw (nested (suc d) full (parts 3 (entries p)), walked_same _ _ _ (enum_same (suc d) full) 0 (parts 8 (entries p)))
+
+      message_same : (d : ℕ) (scope : Bytes) → message_text rs set messages t proto3 (message_texts rs set messages t proto3 left) d scope deeper i p ≡ message_text rs set messages t proto3 (message_texts rs set messages t proto3 left) d scope deeper j p
+      unfolding message_text
+      message_same d scope = rw (struct_same d scope (scope ⊙ name_in p), there_same, module_same d (scope ⊙ name_in p))
+
+  -- past the table's end all numbers have one row
+  past_end : (left d : ℕ) (scope : Bytes) (i j : ℕ) (ps : List Bytes) → length messages ≤ i → length messages ≤ j → message_texts rs set messages t proto3 left d scope i ps ≡ message_texts rs set messages t proto3 left d scope j ps
+  unfolding message_texts walked
+  past_end zero d scope i j ps a b = refl
+  past_end (suc left) d scope i j [] a b = refl
+  past_end (suc left) d scope i j (p ∷ ps) a b =
+      let e : message_row messages i ≡ message_row messages j = get_or_past messages i no_message a ∙ sym (get_or_past messages j no_message b) in
+      ap₂ (λ (x : Bytes) (k : ℕ). x ++ walked (message_text rs set messages t proto3 (message_texts rs set messages t proto3 left) d scope (not (eqb left 0))) (number_after rs set messages t proto3) k ps)
+      (message_same i j e (not (eqb left 0)) p left (λ d' s qs. past_end left d' s (suc i) (suc j) qs (omega arith) (omega arith)) d scope)
+      (ap (λ (r : MessageRow). r.after) e)
+
+  first_within : (left d : ℕ) (scope : Bytes) (first n : ℕ) (ps : List Bytes) → n ≡ min first (length messages) → message_texts rs set messages t proto3 left d scope n ps ≡ message_texts rs set messages t proto3 left d scope first ps
+  first_within left d scope first n ps is = on (dec_le first (length messages))
+    where
+      on : Dec (first ≤ length messages) → message_texts rs set messages t proto3 left d scope n ps ≡ message_texts rs set messages t proto3 left d scope first ps
+      on (yes h) = let e : n ≡ first = omega arith in ap (λ (k : ℕ). message_texts rs set messages t proto3 left d scope k ps) e
+      on (no h) = past_end left d scope n first ps (omega arith) (omega arith)
+
+-- ---- a file. g₁: the context as the code has it; n: the number as far as the table goes
+pub file_written : (g : Given) (first : ℕ) (p : Bytes) (u u₁ u₂ : Text) {g₁ : Given} {n : ℕ} {proto3 : Bool} {scope : Bytes} {ps : List Bytes} → g₁ ≡ g → n ≡ min first (length g₁.messages) → proto3 ≡ is_proto3 (syntax_of (decode_file p).syntax) → scope ≡ take max_path (package_scope (decode_file p).package_name) → ps ≡ parts 4 (entries p)
+    → u₁ ≡ u ▻ message_texts g.options g.set g.messages g.fields proto3 16 0 scope n ps
     → u₂ ≡ u₁ ▻ enum_texts g₁.options 0 scope (enums_in 5 p)
     → u₂ ≡ u ▻ text_of_file g.options g.set g.messages g.fields first p
 unfolding text_of_file
-file_written g first p u u₁ u₂ {g₁} {proto3} {scope} {ps} ge pe se le messages enums =
-    rw (← pe, ← se, ← le) (appended u u₁ u₂ _ _ messages (enums ∙ ap (λ (y : Given). u₁ ▻ enum_texts y.options 0 scope (enums_in 5 p)) ge))
+file_written g first p u u₁ u₂ {g₁} {n} {proto3} {scope} {ps} ge within pe se le messages enums =
+    let messages₁ = messages ∙ ap (λ (l : Bytes). u ▻ l) (first_within g.options g.set g.messages g.fields proto3 16 0 scope first n ps (within ∙ ap (λ (y : Given). min first (length y.messages)) ge)) in
+    rw (← pe, ← se, ← le) (appended u u₁ u₂ _ _ messages₁ (enums ∙ ap (λ (y : Given). u₁ ▻ enum_texts y.options 0 scope (enums_in 5 p)) ge))

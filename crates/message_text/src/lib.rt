@@ -21,14 +21,14 @@ use descriptor::field_number::{
 };
 use enum_text::append_enums;
 use extern_paths::resolve::takes;
+use file_parts::Numbered;
 use ident::text::put_snake;
-use joined::FullName;
+use joined::Name;
 use members::{Message, in_oneofs, is_entry};
 use oneof_text::append_oneofs;
 use parts::Parts;
 use struct_text::append_struct;
 use syntax::known::Syntax;
-use text_tables::message_row;
 use writer::Text;
 
 // Is a message nested in it that is no map entry?
@@ -73,6 +73,8 @@ fn is_proto3(part: &[u8]) -> bool
     matches!(Syntax::try_from(header.syntax), Ok(Syntax::Proto3))
 }
 
+// `proto3` goes beside the context: it is of the file, and a struct of both would serve this crate alone.
+
 // The struct of a message with so many levels of messages in it, lent the rest of the text's buffer. Messages with 15 levels in
 // them stand at the depth 0.
 fn put_struct(
@@ -81,7 +83,7 @@ fn put_struct(
     proto3: bool,
     scope: &[u8],
     message: &Message<'_>,
-    left: u32,
+    left: usize,
 )
     requires { left ≤ 15 }
     ensures { text.new ≡ text.old ▻ struct_text context.now.options context.now.set context.now.messages context.now.fields proto3 (15 - left) scope.now message.now.full message.now.nested message.now.number message.now.part }
@@ -92,6 +94,8 @@ fn put_struct(
     text.skip(length);
 }
 
+// Here and below a bound on the levels left and the number: a struct of both would be made anew at each level.
+
 // The module of a message, with so many levels of messages in it.
 #[cycle(append_message_append_messages_append_module_lend_message)]
 fn append_module(
@@ -99,27 +103,27 @@ fn append_module(
     context: &Context<'_>,
     proto3: bool,
     message: &Message<'_>,
-    left: u32,
+    left: usize,
 )
-    requires { (left ≤ 15) × (message.now.number + left < 2 ^ 33) }
+    requires { (left ≤ 15) × (message.now.number + 1 + left < 2 ^ 64) }
     ensures { text.new ≡ text.old ▻ module_text context.now.options context.now.set context.now.messages context.now.fields proto3 (message_texts context.now.options context.now.set context.now.messages context.now.fields proto3 left) (15 - left) message.now.full message.now.nested message.now.number message.now.part }
 {
     let depth = 15 - left;
     let inner = 16 - left;
     let first = message.number + 1;
     let nested = Parts::new(message.part, MESSAGE_NESTED_TYPE);
-    push_mod(text, depth as usize, message.name());
+    push_mod(text, depth, message.name());
     append_messages(text, context, proto3, message.full, first, nested, left);
     append_enums(
         text,
         message.part,
         &context.options,
-        inner as usize,
+        inner,
         message.full,
         MESSAGE_ENUM_TYPE,
     );
     append_oneofs(text, context, inner, message);
-    end(text, depth as usize);
+    end(text, depth);
 }
 
 // A message with so many levels of messages in it, into the lent buffer, and its length.
@@ -131,15 +135,15 @@ fn append_message(
     scope: &[u8],
     number: usize,
     part: &[u8],
-    left: u32,
+    left: usize,
 ) -> usize
-    requires { (left ≤ 15) × (number + left < 2 ^ 33) }
+    requires { (left ≤ 15) × (number + 1 + left < 2 ^ 64) }
     ensures { Filled buffer.old (message_text context.now.options context.now.set context.now.messages context.now.fields proto3 (message_texts context.now.options context.now.set context.now.messages context.now.fields proto3 left) (15 - left) scope.now (not (eqb left 0)) number part.now) buffer.new result }
 {
     if is_entry(part) {
         return 0;
     }
-    let full = FullName::new(scope, joined::name_of(part));
+    let full = Name::new(scope, joined::name_of(part));
     let full = full.as_bytes();
     let taken = takes(&context.options, full);
     if taken {
@@ -169,9 +173,9 @@ fn lend_message(
     scope: &[u8],
     number: usize,
     part: &[u8],
-    left: u32,
+    left: usize,
 )
-    requires { (left ≤ 15) × (number + left < 2 ^ 33) }
+    requires { (left ≤ 15) × (number + 1 + left < 2 ^ 64) }
     ensures { text.new ≡ text.old ▻ message_text context.now.options context.now.set context.now.messages context.now.fields proto3 (message_texts context.now.options context.now.set context.now.messages context.now.fields proto3 left) (15 - left) scope.now (not (eqb left 0)) number part.now }
 {
     let at = text.place();
@@ -189,39 +193,31 @@ fn append_messages(
     scope: &[u8],
     first: usize,
     messages: Parts<'_>,
-    left: u32,
+    left: usize,
 )
-    requires { (left ≤ 16) × (first + left ≤ 2 ^ 33) }
+    requires { (left ≤ 16) × (first + left < 2 ^ 64) }
     ensures { text.new ≡ text.old ▻ message_texts context.now.options context.now.set context.now.messages context.now.fields proto3 left (16 - left) scope.now first messages.entry }
 {
     if left == 0 {
         return;
     }
-    let mut number = first;
-    for part in messages {
+    for (number, part) in Numbered::new(context.messages, first, messages) {
         lend_message(text, context, proto3, scope, number, part, left - 1);
-        number = usize::from(message_row(context.messages, number).after);
     }
 }
 
 /// The text of a file whose first message has the number `first`, into the lent buffer, and its length.
-pub fn append_file(buffer: &mut [u8], context: &Context<'_>, first: u32, part: &[u8]) -> usize
+pub fn append_file(buffer: &mut [u8], context: &Context<'_>, first: usize, part: &[u8]) -> usize
     ensures { Filled buffer.old (text_of_file context.now.options context.now.set context.now.messages context.now.fields first part.now) buffer.new result }
 {
-    let scope = FullName::package(part);
+    let scope = Name::package(part);
     let scope = scope.as_bytes();
     let proto3 = is_proto3(part);
     let messages = Parts::new(part, FILE_MESSAGE_TYPE);
     let mut text = Text::new(buffer);
-    append_messages(
-        &mut text,
-        context,
-        proto3,
-        scope,
-        first as usize,
-        messages,
-        16,
-    );
+    // all numbers past the table's end have one row
+    let first = first.min(context.messages.len());
+    append_messages(&mut text, context, proto3, scope, first, messages, 16);
     append_enums(&mut text, part, &context.options, 0, scope, FILE_ENUM_TYPE);
     text.length
 }

@@ -1,6 +1,6 @@
 -- Whether names differ, step by step; and of an accepted set, with its tables: names are found to differ exactly if the name check says yes. Assumes nothing.
-use Rattle.std.specs.Prelude.{◌≡◌, refl, ℕ, Bool, true, false, ◌&&◌, not, List, length, replicate}
-use Rattle.std.proofs.Common.{◌∙◌, arith}
+use Rattle.std.specs.Prelude.{◌≡◌, refl, ℕ, Bool, true, false, ◌||◌, ◌&&◌, not, List, length, replicate}
+use Rattle.std.proofs.Common.{arith}
 use Rattle.descriptor.specs.Descriptor.{Bytes}
 use Rattle.descriptor.specs.Decode.{decode_set}
 use Rattle.options.specs.Settings.{Setting}
@@ -23,24 +23,17 @@ and_assoc : (a b c : Bool) → (a && (b && c)) ≡ ((a && b) && c)
 and_assoc true b c = refl
 and_assoc false b c = refl
 
--- ---- a chain, each of which must not hold
-module _ (a b : Bool) where
-  pub second : a ≡ false → (y v : Bool) → y ≡ b → v ≡ not y → v ≡ (not a && not b)
-  second h y v e w = w ∙ rw (h, e) refl
-
-  pub first_alone : a ≡ true → (v : Bool) → v ≡ not a → v ≡ (not a && not b)
-  first_alone h v w = w ∙ rw h refl
+not_any : (a b c : Bool) → not (a || (b || c)) ≡ (not a && (not b && not c))
+not_any true b c = refl
+not_any false true c = refl
+not_any false false c = refl
 
 -- s: the rows that are laid
-module _ (rs : List Setting) (room : ℕ) (set : List ℕ) (messages : List MessageRow) (t : List FieldRow) (s : List ℕ) (laid : s ≡ rows_laid rs room set messages t) (a : Bool) (overlaps : a ≡ overlap (rows_in (length s) s))
-    (v : Bool) (two : v ≡ (not a && not (packages_meet set))) where
-  pub third : v ≡ true → (y : Bool) → y ≡ packages_stand (length s) s set → not y ≡ places_differ rs room set messages t
-  unfolding places_differ rows_overlap
-  third h y e = rw (← laid, ← overlaps, and_assoc (not a) (not (packages_meet set)) (not (packages_stand (length s) s set)), ← two, h, ← e) refl
-
-  pub two_alone : v ≡ false → v ≡ places_differ rs room set messages t
-  unfolding places_differ rows_overlap
-  two_alone h = rw (← laid, ← overlaps, and_assoc (not a) (not (packages_meet set)) (not (packages_stand (length s) s set)), ← two, h) refl
+pub places_are : (rs : List Setting) (room : ℕ) (set : List ℕ) (messages : List MessageRow) (t : List FieldRow) (s : List ℕ) → s ≡ rows_laid rs room set messages t
+    → (met : Bool) → met ≡ (overlap (rows_in (length s) s) || (packages_meet set || packages_stand (length s) s set)) → not met ≡ places_differ rs room set messages t
+unfolding places_differ rows_overlap
+places_are rs room set messages t s laid met is =
+    rw (← laid, is) (not_any (overlap (rows_in (length s) s)) (packages_meet set) (packages_stand (length s) s set))
 
 -- ---- members last
 module _ (rs : List Setting) (room : ℕ) (set : List ℕ) (messages : List MessageRow) (t : List FieldRow) (p : Bool) (is : p ≡ places_differ rs room set messages t) where

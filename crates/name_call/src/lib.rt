@@ -1,8 +1,11 @@
 //! The name check: a set and options give yes or no, or a refusal.
 #![tactic(auto)]
 
-ghost use Rattle.std.specs.Prelude.{◌≡◌, length};
+ghost use Rattle.std.specs.Prelude.{◌≡◌, ◌||◌, length};
 ghost use Rattle.descriptor.specs.Decode.{decode_set};
+ghost use Rattle.code_generator.specs.Refusals.{overlap};
+ghost use Rattle.name_rows.specs.Rows.{rows_in};
+ghost use Rattle.package_names.specs.Packages.{packages_meet, packages_stand};
 ghost use Rattle.name_check.specs.NameCheck.{name_check};
 ghost use Rattle.calls.specs.NameCall.{name_answer};
 ghost use Rattle.name_call.specs.Differ.{places_differ, names_differ};
@@ -22,6 +25,15 @@ const FIELDS: usize = 2048;
 // 384 bytes for each of 256 structs, 256 modules, 256 enums and 2,048 oneof enums.
 const ROW_BYTES: usize = 1081344;
 
+// Are two of the rows the same, or two modules of packages, or a row and a module?
+fn places_meet(places: &[u8], set: &[u8]) -> bool
+    ensures { result ≡ (overlap (rows_in (length places.now) places.now) || (packages_meet set.now || packages_stand (length places.now) places.now set.now)) }
+{
+    name_rows::rows_meet(places)
+        || package_names::packages_meet(set)
+        || package_names::packages_stand(places, set)
+}
+
 // Do the declared places differ, and the modules of packages from each other and from them?
 fn places_differ(rows: &mut [u8], context: &Context<'_>) -> bool
     ensures { result ≡ places_differ context.now.options (length rows.old) context.now.set context.now.messages context.now.fields }
@@ -29,10 +41,7 @@ fn places_differ(rows: &mut [u8], context: &Context<'_>) -> bool
     let mut text = Text::new(rows);
     place_rows::put_places(&mut text, context);
     let end = text.place();
-    let places = &text.buffer[..end];
-    !name_rows::rows_meet(places)
-        && !package_names::packages_meet(context.set)
-        && !package_names::packages_stand(places, context.set)
+    !places_meet(&text.buffer[..end], context.set)
 }
 
 /// Do all names differ? rows: room for the rows.

@@ -17,7 +17,7 @@ use attributes::{
 };
 use context::Context;
 use derives::Derive;
-use joined::FullName;
+use joined::Name;
 use members::{Message, Oneof, all_derive};
 use options::Kind;
 use variants::append_variants;
@@ -52,33 +52,39 @@ fn derives(context: &Context<'_>, oneof: &Oneof<'_>, derive: Derive) -> bool
 }
 
 // The full name of a oneof. full: the message's.
-fn path_of(full: &[u8], oneof: &Oneof<'_>) -> FullName
+fn path_of(full: &[u8], oneof: &Oneof<'_>) -> Name
     ensures { result ≡ full.now ⊙ oneof.now.name }
 {
-    FullName::new(full, oneof.name)
+    Name::new(full, oneof.name)
 }
 
 // The enum of a oneof. full: the message's full name.
-fn put_enum(text: &mut Text<'_>, context: &Context<'_>, depth: u32, full: &[u8], oneof: &Oneof<'_>)
+fn put_enum(
+    text: &mut Text<'_>,
+    context: &Context<'_>,
+    depth: usize,
+    full: &[u8],
+    oneof: &Oneof<'_>,
+)
     ensures { text.new ≡ text.old ⊳ oneof_text context.now.options context.now.set context.now.messages context.now.fields depth full.now oneof.now.name oneof.now.conflict (oneof_members context.now.fields oneof.now) }
 {
     let path = path_of(full, oneof);
     let copy = derives(context, oneof, Derive::Copy);
     let eq = derives(context, oneof, Derive::Eq);
-    let levels = depth as usize;
-    lines_before(text, context, levels, full, path.as_bytes(), copy, eq);
-    put_line(text, levels, b"pub enum ");
+    let inner = depth.saturating_add(1);
+    lines_before(text, context, depth, full, path.as_bytes(), copy, eq);
+    put_line(text, depth, b"pub enum ");
     oneof.put_type(text);
     text.put(b" {\n");
-    append_variants(text, context, levels + 1, full, path.as_bytes(), oneof);
-    end(text, levels);
+    append_variants(text, context, inner, full, path.as_bytes(), oneof);
+    end(text, depth);
 }
 
 /// The enum of a oneof, into the lent buffer, and its length. full: the message's full name.
 pub fn append_oneof(
     buffer: &mut [u8],
     context: &Context<'_>,
-    depth: u32,
+    depth: usize,
     full: &[u8],
     oneof: &Oneof<'_>,
 ) -> usize
@@ -90,7 +96,13 @@ pub fn append_oneof(
 }
 
 // The same in the rest of the text's buffer.
-fn put_oneof(text: &mut Text<'_>, context: &Context<'_>, depth: u32, full: &[u8], oneof: &Oneof<'_>)
+fn put_oneof(
+    text: &mut Text<'_>,
+    context: &Context<'_>,
+    depth: usize,
+    full: &[u8],
+    oneof: &Oneof<'_>,
+)
     ensures { text.new ≡ text.old ⊳ oneof_text context.now.options context.now.set context.now.messages context.now.fields depth full.now oneof.now.name oneof.now.conflict (oneof_members context.now.fields oneof.now) }
 {
     let at = text.place();
@@ -99,7 +111,12 @@ fn put_oneof(text: &mut Text<'_>, context: &Context<'_>, depth: u32, full: &[u8]
 }
 
 /// The enums of the oneofs of a message: one left without fields is left out.
-pub fn append_oneofs(text: &mut Text<'_>, context: &Context<'_>, depth: u32, message: &Message<'_>)
+pub fn append_oneofs(
+    text: &mut Text<'_>,
+    context: &Context<'_>,
+    depth: usize,
+    message: &Message<'_>,
+)
     ensures { text.new ≡ text.old ▻ oneof_texts context.now.options context.now.set context.now.messages context.now.fields depth message.now.full message.now.nested message.now.number message.now.part }
 {
     if !message.declares_oneofs() {

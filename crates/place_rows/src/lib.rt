@@ -4,16 +4,17 @@
 ghost use Rattle.std.specs.Prelude.{◌≡◌, ◌+◌, ◌≤◌, ◌<◌, ◌^◌, not, eqb};
 ghost use Rattle.writer.specs.Writing.{◌▻◌};
 ghost use Rattle.descriptor.specs.Decode.{entries, parts};
+ghost use Rattle.code_generator.specs.Piece.{spelt, oneof_type};
+ghost use Rattle.name_rows.specs.Rows.{row};
 ghost use Rattle.place_rows.specs.PlaceRows.{enum_row, enum_rows, oneof_rows, module_rows, message_rows, messages_rows, file_rows, set_rows};
 
 use context::Context;
 use descriptor::field_number::{
-    FILE_ENUM_TYPE, FILE_MESSAGE_TYPE, MESSAGE_ENUM_TYPE, MESSAGE_NESTED_TYPE, MESSAGE_ONEOF_DECL,
-    SET_FILE,
+    FILE_ENUM_TYPE, FILE_MESSAGE_TYPE, MESSAGE_ENUM_TYPE, MESSAGE_NESTED_TYPE, SET_FILE,
 };
 use extern_paths::resolve::takes;
-use joined::FullName;
-use members::camel::CamelSums;
+use file_parts::Numbered;
+use joined::Name;
 use members::{Message, Oneof};
 use name_rows::{Spelling, put_row};
 use options::Options;
@@ -25,7 +26,7 @@ fn put_enum(text: &mut Text<'_>, options: &Options<'_>, home: &[u8], part: &[u8]
     ensures { text.new ≡ text.old ▻ enum_row options.now home.now 0 part.now }
 {
     let name = joined::name_of(part);
-    let path = FullName::new(home, name);
+    let path = Name::new(home, name);
     if !takes(options, path.as_bytes()) {
         put_row(text, home, Spelling::UpperCamel, name);
     }
@@ -39,6 +40,14 @@ fn put_enums(text: &mut Text<'_>, options: &Options<'_>, home: &[u8], enums: Par
     }
 }
 
+// The enum of a oneof.
+fn put_oneof(text: &mut Text<'_>, home: &[u8], oneof: &Oneof<'_>)
+    ensures { text.new ≡ text.old ▻ row home.now (spelt (oneof_type oneof.now.conflict oneof.now.name)) }
+{
+    let spelling = Spelling::OneofType(oneof.conflict);
+    put_row(text, home, spelling, oneof.name);
+}
+
 // The enums of a message's oneofs: one left without fields is left out.
 fn put_oneofs(text: &mut Text<'_>, context: &Context<'_>, message: &Message<'_>)
     ensures { text.new ≡ text.old ▻ oneof_rows context.now.messages context.now.fields message.now.full message.now.nested message.now.number message.now.part }
@@ -46,21 +55,12 @@ fn put_oneofs(text: &mut Text<'_>, context: &Context<'_>, message: &Message<'_>)
     if !message.declares_oneofs() {
         return;
     }
-    let fields = message.fields(context.messages);
-    let sums = CamelSums::of(message.part, message.nested);
-    for (index, part) in Parts::new(message.part, MESSAGE_ONEOF_DECL).enumerate() {
-        let range = fields.start..fields.end;
-        let oneof = Oneof::new(context.fields, range, &sums, index, part);
-        if let Some(oneof) = oneof {
-            put_row(
-                text,
-                message.full,
-                Spelling::OneofType(oneof.conflict),
-                oneof.name,
-            );
-        }
+    for oneof in message.oneofs(context) {
+        put_oneof(text, message.full, &oneof);
     }
 }
+
+// Here and below a bound on the levels left and the number: a struct of both would be made anew at each level.
 
 // The module of a message in a scope, with so many levels of messages in it.
 #[cycle(put_message_put_messages_put_module)]
@@ -69,7 +69,7 @@ fn put_module(
     context: &Context<'_>,
     scope: &[u8],
     message: &Message<'_>,
-    left: u32,
+    left: usize,
 )
     requires { (left ≤ 15) × (message.now.number + left < 2 ^ 33) }
     ensures { text.new ≡ text.old ▻ module_rows context.now.options context.now.messages context.now.fields (messages_rows context.now.options context.now.messages context.now.fields left) scope.now message.now.full message.now.nested message.now.number message.now.part }
@@ -101,7 +101,7 @@ fn put_message(
     scope: &[u8],
     number: usize,
     part: &[u8],
-    left: u32,
+    left: usize,
 )
     requires { (left ≤ 15) × (number + left < 2 ^ 33) }
     ensures { text.new ≡ text.old ▻ message_rows context.now.options context.now.messages context.now.fields (messages_rows context.now.options context.now.messages context.now.fields left) scope.now (not (eqb left 0)) number part.now }
@@ -110,7 +110,7 @@ fn put_message(
         return;
     }
     let name = joined::name_of(part);
-    let full = FullName::new(scope, name);
+    let full = Name::new(scope, name);
     if takes(&context.options, full.as_bytes()) {
         return;
     }
@@ -134,7 +134,7 @@ fn put_messages(
     scope: &[u8],
     first: usize,
     messages: Parts<'_>,
-    left: u32,
+    left: usize,
 )
     requires { (left ≤ 16) × (first + left ≤ 2 ^ 33) }
     ensures { text.new ≡ text.old ▻ messages_rows context.now.options context.now.messages context.now.fields left scope.now first messages.entry }
@@ -142,10 +142,8 @@ fn put_messages(
     if left == 0 {
         return;
     }
-    let mut number = first;
-    for part in messages {
+    for (number, part) in Numbered::new(context.messages, first, messages) {
         put_message(text, context, scope, number, part, left - 1);
-        number = usize::from(text_tables::message_row(context.messages, number).after);
     }
 }
 
@@ -154,7 +152,7 @@ fn put_file(text: &mut Text<'_>, context: &Context<'_>, first: usize, part: &[u8
     requires { first < 65536 }
     ensures { text.new ≡ text.old ▻ file_rows context.now.options context.now.messages context.now.fields first part.now }
 {
-    let scope = FullName::package(part);
+    let scope = Name::package(part);
     put_messages(
         text,
         context,

@@ -41,16 +41,15 @@ pub fn append_struct(
     buffer: &mut [u8],
     context: &Context<'_>,
     proto3: bool,
-    depth: u32,
+    depth: usize,
     scope: &[u8],
     message: &Message<'_>,
 ) -> usize
     ensures { Filled buffer.old (struct_text context.now.options context.now.set context.now.messages context.now.fields proto3 depth scope.now message.now.full message.now.nested message.now.number message.now.part) buffer.new result }
 {
-    let depth = depth as usize;
     let of = Struct {
         proto3,
-        depth: depth + 1,
+        depth: depth.saturating_add(1),
         scope,
         full: message.full,
     };

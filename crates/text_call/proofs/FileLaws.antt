@@ -31,7 +31,7 @@ use Rattle.std.specs.Prelude.{Result, Ok, Err}
 use Rattle.base.specs.declared.refusal.Refusal.{Refusal}
 use Rattle.base.specs.declared.refusal.Refusal.TheVariants.{Variants, BytesDefault}
 use Rattle.calls.specs.TextCall.{by_room, by_text, file_at, call_text}
-use Rattle.call_laws.specs.CallLaws.{file_is as file_by_bytes, call_number_within, call_text_is, call_faults_are, call_bounded}
+use Rattle.call_laws.specs.CallLaws.{file_is as file_by_bytes, call_text_is, call_faults_are, call_bounded}
 use Rattle.text_call.specs.Answer.{Accepted, Roomy, Answers, Whole}
 use Rattle.text_call.proofs.RoomLaws.{refuses}
 
@@ -84,9 +84,6 @@ module _ (set o : Bytes) (file : ℕ) (accepted : Accepted set o file) (messages
 
   there : file < length (parts 1 (entries set))
   there = let a = files_counted set in let h = accepted.there in omega arith
-
-  pub number_fits : first_number messages 0 (parts 1 (entries set)) file < 2 ^ 32
-  number_fits = let h = call_number_within (settings o) set messages fields accepted.limits accepted.named says file there in omega arith
 
   module _ (i : ℕ) (p : Bytes) (numbered : i ≡ first_number messages 0 (parts 1 (entries set)) file) (part_is : p ≡ part_at (parts 1 (entries set)) file) where
     text_is : text_of_file (settings o) set messages fields i p ≡ call_text set o file

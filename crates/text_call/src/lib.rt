@@ -29,13 +29,6 @@ const FIELDS: usize = 2048;
 
 const SHORT_FIELDS: usize = 150;
 
-fn narrow(n: usize) -> u32
-    requires { n < 2 ^ 32 }
-    ensures { result ≡ n }
-{
-    n as u32
-}
-
 // A text, at the buffer's start.
 fn copy_front(buffer: &mut [u8], text: &[u8])
     requires { length text.now ≤ length buffer.old }
@@ -62,7 +55,7 @@ fn copy_whole(buffer: &mut [u8], text: &[u8]) -> Result<usize, Refusal>
 fn put_whole(
     buffer: &mut [u8],
     context: &Context<'_>,
-    first: u32,
+    first: usize,
     part: &[u8],
 ) -> Result<usize, Refusal>
     requires { length (text_of_file context.now.options context.now.set context.now.messages context.now.fields first part.now) < 2 ^ 63 }
@@ -104,7 +97,7 @@ fn answer_by(
         messages,
         fields,
     };
-    let first = narrow(file_parts::first_number(context.messages, set, file));
+    let first = file_parts::first_number(context.messages, set, file);
     let part = file_parts::file_part(set, file);
     let faults = file_faults::file_faults(&context, first, part);
     if faults.overlap {

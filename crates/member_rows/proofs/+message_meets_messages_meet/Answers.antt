@@ -33,16 +33,33 @@ pub messages_meet-returns-then-left-eq0 : goal.messages_meet-returns-then-left-e
 unfolding rows.messages_meet
 messages_meet-returns-then-left-eq0 t c = rw c.if-left-eq0.true refl
 
-pub messages_meet-loop-part-init : goal.messages_meet-loop-part-init
-messages_meet-loop-part-init t c = (ap (ahead _ _ _ _ _ _ _ _) c.into_iter-part-iterator.ensures.into_iter_gives ∙ ahead_all _ _ _ _ _ _ _ _ _ c.if-left-eq0.false, c.requires.0, refl)
+pub messages_meet-loop-number-init : goal.messages_meet-loop-number-init
+messages_meet-loop-number-init t c =
+    rw (c.into_iter-number-iterator.ensures.into_iter_gives, c.new-number-items.ensures)
+    (record {
+      meets = ahead_all _ _ _ _ _ _ _ _ _ c.if-left-eq0.false;
+      small = c.requires.0;
+      table = ap (λ (x : Given). x.messages) c.context.view_is;
+      room = refl;
+    })
 
 pub messages_meet-returns-then-message_meets : goal.messages_meet-returns-then-message_meets
-messages_meet-returns-then-message_meets t c = ahead_hit _ _ _ _ _ _ _ _ _ _ _ c.loop-part.invariant.2 _ c.message_meets.ensures c.if-message_meets.true ∙ ap (ahead _ _ _ _ _ _ _ _) (sym c.in-Some.ensures.steps) ∙ c.loop-part.invariant.0
+messages_meet-returns-then-message_meets t c =
+    let step = c.in-Some.ensures.steps in
+    let held = c.loop-number.invariant in
+    ahead_hit _ _ _ _ _ _ _ _ _ _ _ held.room _ (rw step.0 at c.message_meets.ensures) c.if-message_meets.true ∙ ap (ahead _ _ _ _ _ _ _ _) (sym step.1) ∙ held.meets
 
-pub messages_meet-loop-part-preserved : goal.messages_meet-loop-part-preserved
-messages_meet-loop-part-preserved t c =
-    let next = c.from-number.ensures ∙ ap (λ (r : MessageRow). r.after) c.message_row.ensures ∙ ap (λ (x : Given). (message_row x.messages c.loop-part.number).after) c.context.view_is in
-    (rw next (ahead_miss _ _ _ _ _ _ _ _ _ _ _ c.loop-part.invariant.2 _ c.message_meets.ensures c.if-message_meets.false ∙ ap (ahead _ _ _ _ _ _ _ _) (sym c.in-Some.ensures.steps) ∙ c.loop-part.invariant.0), omega (arith, c.from-number.ensures, c.message_row.type_inv, c.requires.1), c.message_meets.auto.rows ∙ c.loop-part.invariant.2)
+pub messages_meet-loop-number-preserved : goal.messages_meet-loop-number-preserved
+messages_meet-loop-number-preserved t c =
+    let step = c.in-Some.ensures.steps in
+    let held = c.loop-number.invariant in
+    let next = step.2 ∙ ap (λ (l : List MessageRow). (message_row l c.loop-number.number-iterator.number).after) held.table in
+    record {
+      meets = rw next (ahead_miss _ _ _ _ _ _ _ _ _ _ _ held.room _ (rw step.0 at c.message_meets.ensures) c.if-message_meets.false ∙ ap (ahead _ _ _ _ _ _ _ _) (sym step.1) ∙ held.meets);
+      small = let b = step.3 in omega arith;
+      table = step.4 ∙ held.table;
+      room = c.message_meets.auto.rows ∙ held.room;
+    }
 
 pub messages_meet-returns : goal.messages_meet-returns
-messages_meet-returns t c = ahead_none _ _ _ _ _ _ _ _ ∙ ap (ahead _ _ _ _ _ _ _ _) (sym c.in-None.ensures.steps.0) ∙ c.loop-part.invariant.0
+messages_meet-returns t c = ahead_none _ _ _ _ _ _ _ _ ∙ ap (ahead _ _ _ _ _ _ _ _) (sym c.in-None.ensures.steps.0) ∙ c.loop-number.invariant.meets

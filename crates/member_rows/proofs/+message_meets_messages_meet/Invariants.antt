@@ -9,7 +9,10 @@ decreases-message_meets l = 2 * l.left + 1
 abbrev pub decreases-messages_meet : goal.decreases-messages_meet
 decreases-messages_meet l = 2 * l.left
 
-abbrev pub invariant-messages_meet-loop-part : goal.invariant-messages_meet-loop-part
-invariant-messages_meet-loop-part l =
-    (ahead l.context.options (length l.initial.rows) l.context.set l.context.messages l.context.fields l.left l.scope l.number l.part-iterator ≡ messages_meet l.context.options (length l.initial.rows) l.context.set l.context.messages l.context.fields l.left l.scope l.fn.first l.fn.messages)
-    × (l.number + l.left ≤ 2 ^ 33) × (length l.rows ≡ length l.initial.rows)
+abbrev pub invariant-messages_meet-loop-number : goal.invariant-messages_meet-loop-number
+invariant-messages_meet-loop-number l = record {
+  meets : ahead l.context.options (length l.initial.rows) l.context.set l.context.messages l.context.fields l.left l.scope l.number-iterator.number l.number-iterator.parts ≡ messages_meet l.context.options (length l.initial.rows) l.context.set l.context.messages l.context.fields l.left l.scope l.fn.first l.fn.messages;
+  small : l.number-iterator.number + l.left ≤ 2 ^ 33;
+  table : l.number-iterator.messages ≡ l.context.messages;
+  room : length l.rows ≡ length l.initial.rows;
+}

@@ -38,24 +38,28 @@ append_message-returns t c =
 pub append_messages-returns-then-left-eq0 : goal.append_messages-returns-then-left-eq0
 append_messages-returns-then-left-eq0 t c = no_level c.args.context.now _ c.args.text.now _ _ _ _ _ c.if-left-eq0.true
 
-pub append_messages-loop-part-init : goal.append_messages-loop-part-init
-append_messages-loop-part-init t c = record {
-  written = ap (λ (p : List ℕ). c.args.text.now ▻ p) (one_level c.args.context.now _ _ _ _ _ c.if-left-eq0.false);
-  small = c.requires.1;
-}
+pub append_messages-loop-number-init : goal.append_messages-loop-number-init
+append_messages-loop-number-init t c =
+    rw (c.into_iter-number-iterator.ensures.into_iter_gives, c.new-number-items.ensures)
+    (record {
+      written = ap (λ (p : List ℕ). c.args.text.now ▻ p) (one_level c.args.context.now _ _ _ _ _ c.if-left-eq0.false);
+      small = c.requires.1;
+      table = ap (λ (x : Given). x.messages) c.context.view_is;
+    })
 
-pub append_messages-loop-part-preserved : goal.append_messages-loop-part-preserved
-append_messages-loop-part-preserved t c =
-    let next = c.from-number.ensures ∙ ap (λ (x : MessageRow). x.after) c.message_row.ensures ∙ ap (λ (x : Given). (message_row x.messages c.loop-part.number).after) c.context.view_is in
+pub append_messages-loop-number-preserved : goal.append_messages-loop-number-preserved
+append_messages-loop-number-preserved t c =
+    let step = c.in-Some.ensures.steps in
+    let held = c.loop-number.invariant in
+    let next = step.2 ∙ ap (λ (l : List MessageRow). (message_row l c.loop-number.number-iterator.number).after) held.table in
     record {
-      written = written_on _ _ c.loop-part.text _ _ _ c.loop-part.invariant.written c.lend_message.new.text _ _ _ c.in-Some.ensures.steps next c.lend_message.ensures;
-      small = omega arith;
+      written = written_on _ _ c.loop-number.text _ _ _ held.written c.lend_message.new.text _ _ _ step.1 next (rw step.0 at c.lend_message.ensures);
+      small = let b = step.3 in omega arith;
+      table = step.4 ∙ held.table;
     }
 
 pub append_messages-returns : goal.append_messages-returns
-append_messages-returns t c =
-    let all = rw c.into_iter-part-iterator.ensures.into_iter_gives at c.loop-part.invariant.written in
-    written_all _ _ c.loop-part.text _ _ _ all c.in-None.ensures.steps.0
+append_messages-returns t c = written_all _ _ c.loop-number.text _ _ _ c.loop-number.invariant.written c.in-None.ensures.steps.0
 
 pub append_module-returns : goal.append_module-returns
 append_module-returns t c =

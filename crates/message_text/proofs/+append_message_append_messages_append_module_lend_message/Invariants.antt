@@ -1,4 +1,4 @@
-use Rattle.std.proofs.Common.{◌≡◌, ◌+◌, ◌-◌, ◌*◌, ◌≤◌, ◌^◌, not, eqb}
+use Rattle.std.proofs.Common.{◌≡◌, ◌+◌, ◌-◌, ◌*◌, ◌<◌, ◌^◌, not, eqb}
 use Rattle.writer.specs.Writing.{◌▻◌}
 use Rattle.walks.specs.Walked.{walked}
 use Rattle.message_text.specs.MessageText.{message_text, message_texts, number_after}
@@ -16,10 +16,11 @@ decreases-append_module l = 4 * l.left + 1
 abbrev pub decreases-lend_message : goal.decreases-lend_message
 decreases-lend_message l = 4 * l.left + 3
 
-abbrev pub invariant-append_messages-loop-part : goal.invariant-append_messages-loop-part
-invariant-append_messages-loop-part l = record {
+abbrev pub invariant-append_messages-loop-number : goal.invariant-append_messages-loop-number
+invariant-append_messages-loop-number l = record {
   written :
-      l.text ▻ walked (message_text l.context.options l.context.set l.context.messages l.context.fields l.proto3 (message_texts l.context.options l.context.set l.context.messages l.context.fields l.proto3 (l.left - 1)) (15 - (l.left - 1)) l.scope (not (eqb (l.left - 1) 0))) (number_after l.context.options l.context.set l.context.messages l.context.fields l.proto3) l.number l.part-iterator
-      ≡ l.initial.text ▻ message_texts l.context.options l.context.set l.context.messages l.context.fields l.proto3 l.left (16 - l.left) l.scope l.first l.initial.part-iterator;
-  small : l.number + l.left ≤ 2 ^ 33;
+      l.text ▻ walked (message_text l.context.options l.context.set l.context.messages l.context.fields l.proto3 (message_texts l.context.options l.context.set l.context.messages l.context.fields l.proto3 (l.left - 1)) (15 - (l.left - 1)) l.scope (not (eqb (l.left - 1) 0))) (number_after l.context.options l.context.set l.context.messages l.context.fields l.proto3) l.number-iterator.number l.number-iterator.parts
+      ≡ l.initial.text ▻ message_texts l.context.options l.context.set l.context.messages l.context.fields l.proto3 l.left (16 - l.left) l.scope l.fn.first l.fn.messages;
+  small : l.number-iterator.number + l.left < 2 ^ 64;
+  table : l.number-iterator.messages ≡ l.context.messages;
 }

@@ -6,10 +6,10 @@ use Rattle.descriptor.specs.Decode.{entries, parts}
 use Rattle.context.specs.Given.{Given}
 use Rattle.members.specs.Seen.{MessageSeen}
 use Rattle.extern_paths.specs.ExternPaths.{taken}
-use Rattle.walks.specs.Walked.{walked, written_on, written_all}
+use Rattle.walks.specs.Walked.{written_on, written_all}
 use Rattle.text_tables.specs.Rows.{message_row}
 use Rattle.text_tables.specs.declared.MessageRow.{MessageRow}
-use Rattle.place_rows.specs.PlaceRows.{enum_rows, module_rows, message_rows, messages_rows, number_after}
+use Rattle.place_rows.specs.PlaceRows.{enum_rows, module_rows, messages_rows}
 use Rattle.place_rows.proofs.RowLaws.{level, rows_of_module, rows_of_entry, rows_of_taken, rows_of_struct, rows_with_module}
 use Rattle.place_rows.proofs.+put_message_put_messages_put_module.Goals as goal
 
@@ -38,21 +38,28 @@ pub put_messages-returns-then-left-eq0 : goal.put_messages-returns-then-left-eq0
 unfolding messages_rows
 put_messages-returns-then-left-eq0 t c = rw c.if-left-eq0.true (sym (put-nothing c.args.text.now))
 
-pub put_messages-loop-part-init : goal.put_messages-loop-part-init
-put_messages-loop-part-init t c =
-    let g = c.args.context.now in (
-      ap (λ (ps : List Bytes). c.args.text.now ▻ walked (message_rows g.options g.messages g.fields (messages_rows g.options g.messages g.fields (c.args.left - 1)) c.args.scope.now (not (eqb (c.args.left - 1) 0))) (number_after g.options g.messages g.fields) c.args.first ps) c.into_iter-part-iterator.ensures.into_iter_gives
-          ∙ ap (λ (l : Bytes). c.args.text.now ▻ l) (level _ _ _ _ _ _ _ c.if-left-eq0.false),
-      c.requires.1,
-    )
+pub put_messages-loop-number-init : goal.put_messages-loop-number-init
+put_messages-loop-number-init t c =
+    rw (c.into_iter-number-iterator.ensures.into_iter_gives, c.new-number-items.ensures)
+    (record {
+      written = ap (λ (l : Bytes). c.args.text.now ▻ l) (level _ _ _ _ _ _ _ c.if-left-eq0.false);
+      small = c.requires.1;
+      table = ap (λ (x : Given). x.messages) c.context.view_is;
+    })
 
-pub put_messages-loop-part-preserved : goal.put_messages-loop-part-preserved
-put_messages-loop-part-preserved t c =
-    let next = c.from-number.ensures ∙ ap (λ (r : MessageRow). r.after) c.message_row.ensures ∙ ap (λ (x : Given). (message_row x.messages c.loop-part.number).after) c.context.view_is in
-    (written_on _ _ _ _ _ _ c.loop-part.invariant.0 _ _ _ _ c.in-Some.ensures.steps next c.put_message.ensures, omega (arith, c.from-number.ensures, c.message_row.type_inv, c.requires.0))
+pub put_messages-loop-number-preserved : goal.put_messages-loop-number-preserved
+put_messages-loop-number-preserved t c =
+    let step = c.in-Some.ensures.steps in
+    let held = c.loop-number.invariant in
+    let next = step.2 ∙ ap (λ (l : List MessageRow). (message_row l c.loop-number.number-iterator.number).after) held.table in
+    record {
+      written = written_on _ _ _ _ _ _ held.written _ _ _ _ step.1 next (rw step.0 at c.put_message.ensures);
+      small = let b = step.3 in omega arith;
+      table = step.4 ∙ held.table;
+    }
 
 pub put_messages-returns : goal.put_messages-returns
-put_messages-returns t c = written_all _ _ _ _ _ _ c.loop-part.invariant.0 c.in-None.ensures.steps.0
+put_messages-returns t c = written_all _ _ _ _ _ _ c.loop-number.invariant.written c.in-None.ensures.steps.0
 
 pub put_module-returns : goal.put_module-returns
 put_module-returns t c =

@@ -13,7 +13,11 @@ decreases-put_messages l = 3 * l.left
 abbrev pub decreases-put_module : goal.decreases-put_module
 decreases-put_module l = 3 * l.left + 1
 
-abbrev pub invariant-put_messages-loop-part : goal.invariant-put_messages-loop-part
-invariant-put_messages-loop-part l =
-    (l.text ▻ walked (message_rows l.context.options l.context.messages l.context.fields (messages_rows l.context.options l.context.messages l.context.fields (l.left - 1)) l.scope (not (eqb (l.left - 1) 0))) (number_after l.context.options l.context.messages l.context.fields) l.number l.part-iterator
-    ≡ l.fn.text ▻ messages_rows l.context.options l.context.messages l.context.fields l.left l.scope l.fn.first l.fn.messages) × (l.number + l.left ≤ 2 ^ 33)
+abbrev pub invariant-put_messages-loop-number : goal.invariant-put_messages-loop-number
+invariant-put_messages-loop-number l = record {
+  written :
+      l.text ▻ walked (message_rows l.context.options l.context.messages l.context.fields (messages_rows l.context.options l.context.messages l.context.fields (l.left - 1)) l.scope (not (eqb (l.left - 1) 0))) (number_after l.context.options l.context.messages l.context.fields) l.number-iterator.number l.number-iterator.parts
+      ≡ l.fn.text ▻ messages_rows l.context.options l.context.messages l.context.fields l.left l.scope l.fn.first l.fn.messages;
+  small : l.number-iterator.number + l.left ≤ 2 ^ 33;
+  table : l.number-iterator.messages ≡ l.context.messages;
+}

@@ -1,11 +1,13 @@
 use Rattle.std.specs.Prelude.{◌≡◌}
-use Rattle.std.specs.Iterator.Adapters.{enumerate_source, enumerate_count}
+use Rattle.base.specs.Lists.{all_of}
 use Rattle.writer.specs.Writing.{◌▻◌}
-use Rattle.walks.specs.Walked.{walked}
-use Rattle.place_rows.specs.PlaceRows.{oneof_row, next_index, oneof_rows}
+use Rattle.members.specs.Seen.{OneofSeen}
+use Rattle.code_generator.specs.Piece.{flat}
+use Rattle.place_rows.specs.PlaceRows.{oneof_rows}
+use Rattle.place_rows.proofs.PartLaws.{type_row}
 use Rattle.place_rows.proofs.put_oneofs.Given as goal
 
-abbrev pub invariant-loop-index : goal.invariant-loop-index
-invariant-loop-index l =
-    l.text ▻ walked (oneof_row l.context.messages l.context.fields l.message.full l.message.nested l.message.number l.message.part) (next_index l.context.messages l.context.fields) (enumerate_count l.index-iterator) (enumerate_source l.index-iterator)
-    ≡ l.fn.text ▻ oneof_rows l.context.messages l.context.fields l.message.full l.message.nested l.message.number l.message.part
+abbrev pub invariant-loop-oneof : goal.invariant-loop-oneof
+invariant-loop-oneof l =
+    l.text ▻ all_of (λ (o : OneofSeen). flat (type_row l.context l.message o)) l.oneof-iterator
+    ≡ l.initial.text ▻ oneof_rows l.context.messages l.context.fields l.message.full l.message.nested l.message.number l.message.part
