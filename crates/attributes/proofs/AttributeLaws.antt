@@ -5,7 +5,7 @@ use Rattle.std.specs.List.{list_any}
 use Rattle.base.specs.Choose.{choose}
 use Rattle.base.specs.Tests.{or_false_left, or_false_right}
 use Rattle.writer.specs.declared.text.Text.{Text as Buffered}
-use Rattle.options.specs.declared.Found.{Found}
+use Rattle.options.specs.Found.{Found}
 use Rattle.options.specs.Settings.{Setting}
 use Rattle.options.specs.Rows.{is_of}
 use Rattle.path.specs.PathMap.{number_of, get_in}

@@ -4,14 +4,14 @@
 ghost use Rattle.std.specs.Prelude.{◌≡◌};
 ghost use Rattle.writer.specs.Text.{pick};
 ghost use Rattle.options.specs.Kind.{kind_number};
-ghost use Rattle.path.specs.PathMap.{get};
+ghost use Rattle.path.specs.PathMap.{get, get_first};
 ghost use Rattle.joined.specs.Joined.{fits};
 ghost use Rattle.code_generator.specs.Piece.{◌⟫◌, piece, raw, when, push_indent};
 ghost use Rattle.code_generator.specs.Writing.{◌⊳◌};
 ghost use Rattle.code_generator.specs.Attributes.{line, end, attributes, derive, append_field_attributes, append_prost_path_attribute, append_skip_debug};
 ghost use Rattle.attributes.specs.Lines.{attribute};
 
-use joined::FullName;
+use joined::Name;
 use options::{Kind, Options};
 use path::Values;
 use resolve::put_prost;
@@ -82,7 +82,7 @@ pub fn append_field_attributes(
     if !options.has(Kind::FieldAttribute) {
         return;
     }
-    if let Some(path) = FullName::whole(full, name) {
+    if let Some(path) = Name::whole(full, name) {
         append_attributes(text, options, Kind::FieldAttribute, path.as_bytes(), depth);
     }
 }
@@ -126,11 +126,19 @@ pub fn append_prost_path_attribute(text: &mut Text<'_>, options: &Options<'_>)
     }
 }
 
+/// Does a row ask that the `Debug` of a type is left to the user?
+#[tactic(auto, using(crate::proofs::AttributeLaws::number_there))]
+pub fn should_skip_debug(options: &Options<'_>, full: &[u8]) -> bool
+    ensures { result ≡ (get_first 9 full.now options.now).found }
+{
+    path::get_first(options, Kind::SkipDebug, full).is_some()
+}
+
 /// The line that leaves `Debug` to the user, where a row asks for it.
-#[tactic(auto, unfolding(code_generator::specs::Attributes::append_skip_debug), using(crate::proofs::AttributeLaws::number_there))]
+#[tactic(auto, unfolding(code_generator::specs::Attributes::append_skip_debug))]
 pub fn append_skip_debug(text: &mut Text<'_>, options: &Options<'_>, depth: usize, full: &[u8])
     ensures { text.new ≡ text.old ⊳ append_skip_debug options.now depth full.now }
 {
-    let skips = path::get_first(options, Kind::SkipDebug, full).is_some();
+    let skips = should_skip_debug(options, full);
     put_line_if(text, depth, skips, b"#[prost(skip_debug)]\n");
 }

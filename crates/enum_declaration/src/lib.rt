@@ -2,24 +2,18 @@
 #![tactic(auto)]
 
 ghost use Rattle.std.specs.Prelude.{◌≡◌, ◌<◌, ◌^◌};
-ghost use Rattle.context.specs.Context.{should_skip_debug};
 ghost use Rattle.code_generator.specs.Writing.{◌⊳◌};
 ghost use Rattle.code_generator.specs.Enums.{enum_derive};
 ghost use Rattle.enum_declaration.specs.DeclarationText.{behind_derive, declaration_text};
 
-use attributes::{append_attributes, append_prost_path_attribute, end, put_line};
+use attributes::{
+    append_attributes, append_prost_path_attribute, end, put_line, should_skip_debug,
+};
 use enum_arms::{Arm, DEEPEST, put_values};
 use enum_values::Enumeration;
 use options::{Kind, Options};
 use resolve::put_prost;
 use writer::Text;
-
-#[tactic(auto, unfolding(path::specs::PathMap::number_of))]
-fn should_skip_debug(options: &Options<'_>, full: &[u8]) -> bool
-    ensures { result ≡ should_skip_debug options.now full.now }
-{
-    path::get_first(options, Kind::SkipDebug, full).is_some()
-}
 
 #[tactic(auto, unfolding(code_generator::specs::Enums::enum_derive))]
 fn put_enum_derive(text: &mut Text<'_>, options: &Options<'_>, depth: usize, full: &[u8])

@@ -17,12 +17,16 @@ use parts::Parts;
 use std::marker::Model;
 use writer::Text;
 
-/// Which values of an enum are kept: how many were met, their numbers, and a mark for each whose number none before it has.
+// Limit 6: an enum's values.
+const MAX_VALUES: usize = 256;
+
+/// Which values of an enum are kept: how many were met, their numbers, and a mark for each whose number none before it has. The marks
+/// are an array of their own, since an `Enumeration` is lent them.
 #[derive(Clone, Copy)]
 pub struct Kept {
     pub count: usize,
-    pub numbers: [u32; 256],
-    pub marks: [bool; 256],
+    pub numbers: [u32; MAX_VALUES],
+    pub marks: [bool; MAX_VALUES],
 }
 
 impl Kept {
@@ -31,8 +35,8 @@ impl Kept {
     {
         Kept {
             count: 0,
-            numbers: [0; 256],
-            marks: [false; 256],
+            numbers: [0; MAX_VALUES],
+            marks: [false; MAX_VALUES],
         }
     }
 
@@ -49,7 +53,7 @@ impl Kept {
         ensures { self.new ≡ note number self.old }
     {
         let count = self.count;
-        if count < 256 {
+        if count < MAX_VALUES {
             self.marks[count] = !self.is_used(number);
             self.numbers[count] = number;
             self.count = count + 1;
@@ -123,6 +127,7 @@ impl<'a> Iterator for Values<'a> {
     ghost remaining = { item_count (λ rest. rest) };
 
     fn next(&mut self) -> Option<EnumValueDescriptor<'a>> {
+        // no `find`: its law says what was found, and not what is left
         while let Some(part) = self.parts.next() {
             let Some((kept, marks)) = self.marks.split_first() else {
                 return None;

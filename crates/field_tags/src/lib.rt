@@ -41,6 +41,7 @@ fn is_unpacked(proto3: bool, field: &FieldDescriptor<'_>) -> bool
 fn label_tag(text: &mut Text<'_>, proto3: bool, field: &FieldDescriptor<'_>)
     ensures { text.new ≡ text.old ⊳ label_tag proto3 field.now }
 {
+    // labels and types by number: a set may give another one, which refusal 6 judges later
     match field.label() {
         LABEL_OPTIONAL => text.put_if(optional(proto3, field), b", optional"),
         LABEL_REQUIRED => text.put(b", required"),

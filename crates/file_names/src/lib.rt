@@ -17,6 +17,11 @@ use field_types::Sort;
 use name_rules::rules::{is_number, package_good, syntax_good};
 use parts::Parts;
 
+// The fields of a map entry
+const KEY: u32 = 1;
+
+const VALUE: u32 = 2;
+
 /// Is a text given, and are these its bytes?
 #[tactic(auto, unfolding(base::specs::Bytes::same))]
 fn is_text(text: Option<&[u8]>, wanted: &[u8]) -> bool
@@ -54,7 +59,7 @@ fn key_field_good(part: &[u8]) -> bool
     ensures { result ≡ key_good (decode_field part.now) }
 {
     let field = FieldDescriptor::new(part);
-    is_optional(&field, b"key", 1) && key_type(field.kind)
+    is_optional(&field, b"key", KEY) && key_type(field.kind)
 }
 
 /// Is it the value of one?
@@ -63,7 +68,7 @@ fn value_field_good(part: &[u8]) -> bool
     ensures { result ≡ value_field_good (decode_field part.now) }
 {
     let field = FieldDescriptor::new(part);
-    is_optional(&field, b"value", 2) && !is_number(field.kind, TYPE_GROUP)
+    is_optional(&field, b"value", VALUE) && !is_number(field.kind, TYPE_GROUP)
 }
 
 /// The first field is the key, the second the value; there is no third.
@@ -104,7 +109,7 @@ fn own_good(s: &[u8], left: usize) -> bool
     file_rules::message_good(s) && (!message.map_entry || entry_good(s, left))
 }
 
-/// The messages of a file (field number 4) or of a message (3), in so many levels.
+/// The messages of a file (`FILE_MESSAGE_TYPE`) or of a message (`MESSAGE_NESTED_TYPE`), in so many levels.
 #[tactic(auto, unfolding(base::specs::Lists::all, crate::specs::Walks::tree_good), using(crate::proofs::TreeLaws::trees))]
 fn messages_good(s: &[u8], number: u64, left: usize) -> bool
     ensures { result ≡ messages_good (decode_messages left (parts number (entries s.now))) }
@@ -112,6 +117,7 @@ fn messages_good(s: &[u8], number: u64, left: usize) -> bool
     if left == 0 {
         return true;
     }
+    // no `all`: a closure that calls this function was tried, and its proof did not close
     for message in Parts::new(s, number) {
         if !own_good(message, left - 1) || !messages_good(message, MESSAGE_NESTED_TYPE, left - 1) {
             return false;
@@ -132,7 +138,8 @@ pub fn file_good(s: &[u8]) -> bool
         && file_rules::enums_good(s, FILE_ENUM_TYPE)
 }
 
-/// The index of the first file at fault, and the count of files where there is none.
+/// The index of the first file at fault, and the count of files where there is none: so the definition has it, and `set_rules` takes the
+/// least of two.
 pub fn first_bad_file(set: &[u8]) -> usize
     ensures { result ≡ first_failing file_good (decode_set set.now) }
 {

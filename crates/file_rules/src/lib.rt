@@ -43,7 +43,7 @@ pub fn enum_good(s: &[u8]) -> bool
     has_name(name_of(s)) && values_good(s)
 }
 
-/// The enums of a message (field number 4) or of a file (5).
+/// The enums of a message (`MESSAGE_ENUM_TYPE`) or of a file (`FILE_ENUM_TYPE`).
 #[tactic(auto, unfolding(base::specs::Lists::all))]
 pub fn enums_good(s: &[u8], number: u64) -> bool
     ensures { result ≡ all enum_part_good (parts number (entries s.now)) }

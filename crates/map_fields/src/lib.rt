@@ -27,7 +27,7 @@ impl<'a> Model for MapEntry<'a> {
     ghost view = { λ entry. record { key = entry.key; value = entry.value } };
 }
 
-/// What the options set for a map field.
+/// What the options set for a map field: flags, since each setting is there or not.
 #[derive(Clone, Copy)]
 pub struct MapSettings {
     /// The map is a `BTreeMap`.

@@ -1,9 +1,11 @@
 -- One step of each loop: a byte of a key, a row of a text; and two rows by their parts. Assumes nothing.
-use Rattle.std.specs.Prelude.{ℕ, zero, suc, ◌+◌, ◌-◌, ◌*◌, ◌%◌, ◌^◌, ◌<◌, ◌≤◌, ◌≡◌, refl, Bool, true, false, ◌&&◌, ltb, List, [], ◌∷◌, ◌++◌, length, get_or, take, drop, replicate}
+use Rattle.std.specs.List.{list_any}
+use Rattle.std.specs.Simd.{first_chunks}
+use Rattle.std.specs.Prelude.{ℕ, zero, suc, ◌+◌, ◌-◌, ◌*◌, ◌/◌, ◌%◌, ◌^◌, ◌<◌, ◌≤◌, ◌≡◌, refl, Bool, true, false, ◌&&◌, ◌||◌, List, [], ◌∷◌, ◌++◌, length, get_or, take, drop, replicate}
 use Rattle.std.proofs.Common.{sym, ap, ap₂, take_all, ◌∙◌, arith, add-one, length-drop, drop_of_length-le, drop-cons, take-append-drop}
 use Rattle.std.proofs.lemmas.List.{length-replicate}
 use Rattle.base.specs.Bytes.{same, same_refl, same_sound}
-use Rattle.base.specs.Choose.{choose, then_lt, else_lt}
+use Rattle.base.specs.Choose.{then_lt, else_lt}
 use Rattle.base.specs.Tests.{and_left, and_right}
 use Rattle.writer.specs.Wrote.{over}
 use Rattle.writer.specs.Draft.{Draft, most, extended, Filled}
@@ -55,50 +57,47 @@ module _ (n m : ℕ) (x y : List ℕ) (hx : length x ≡ n + m) (hy : length y �
   pub same_before : b ≡ true → (c : Bool) → c ≡ same (take n x) (take n y) → c ≡ same x y
   same_before h c e = e ∙ sym (ap (λ (t : Bool). t && same (take n x) (take n y)) (sym last ∙ h)) ∙ same_parts n x y
 
--- ---- the rows of a text, as many as are whole: no more than it has bytes
-fewer : (n m : ℕ) (t : List ℕ) → length t ≤ n → length t ≤ m → rows_in n t ≡ rows_in m t
-unfolding rows_in
-fewer zero zero t h k = refl
-fewer zero (suc m) t h k = then_lt _ _ _ (length t) row_length (omega arith) refl
-fewer (suc n) zero t h k = sym (then_lt _ _ _ (length t) row_length (omega arith) refl)
-fewer (suc n) (suc m) t h k =
-    ap (λ (l : List (List ℕ)). choose (ltb (length t) row_length) [] (take row_length t ∷ l))
-    (fewer n m (drop row_length t) (rw length-drop (omega arith)) (rw length-drop (omega arith)))
-
+-- ---- the rows of a text, as many as are whole
 none_there : (n : ℕ) (t : List ℕ) → length t < row_length → [] ≡ rows_in n t
 unfolding rows_in
 none_there zero t h = refl
 none_there (suc n) t h = then_lt _ _ _ (length t) row_length h refl
 
-pub rows_none : (t : List ℕ) → length t < row_length → [] ≡ rows_in (length t) t
-rows_none t h = none_there (length t) t h
-
 first_there : (n : ℕ) (t : List ℕ) → row_length ≤ length t → rows_in (suc n) t ≡ take row_length t ∷ rows_in n (drop row_length t)
 unfolding rows_in
 first_there n t h = sym (else_lt _ _ _ (length t) row_length h refl)
 
-module _ (t first behind : List ℕ) (some : row_length ≤ length t) (f : first ≡ take row_length t) (g : behind ≡ drop row_length t) where
-  pub rows_next : rows_in (length t) t ≡ first ∷ rows_in (length behind) behind
-  rows_next =
-      let e : length t ≡ suc (length t - 1) = omega arith in
-      ap (λ (n : ℕ). rows_in n t) e ∙ first_there (length t - 1) t some
-      ∙ ap (λ (l : List (List ℕ)). take row_length t ∷ l) (fewer (length t - 1) (length (drop row_length t)) (drop row_length t) (rw length-drop (omega arith)) (omega arith))
-      ∙ rw (f, g) refl
+chunks_from : (n k : ℕ) (t : List ℕ) → length t ≤ n → k * 384 ≤ length t → length t < k * 384 + 384 → first_chunks 384 k t ≡ rows_in n t
+chunks_from n zero t h a c = none_there n t (omega arith)
+chunks_from zero (suc k) t h a c = absurd (omega arith)
+chunks_from (suc n) (suc k) t h a c =
+    let l = length-drop {A = ℕ} 384 t in
+    ap (λ (rows : List (List ℕ)). take 384 t ∷ rows) (chunks_from n k (drop 384 t) (omega arith) (omega arith) (omega arith)) ∙ sym (first_there n t (omega arith))
 
-  module _ (x : List ℕ) (r : Bool) (asked : r ≡ same x first) where
-    pub among_found : r ≡ true → true ≡ among x (rows_in (length t) t)
-    unfolding among
-    among_found h = rw (rows_next, ← asked, h)
+pub chunks_are : (t : List ℕ) → first_chunks 384 (length t / 384) t ≡ rows_in (length t) t
+chunks_are t = chunks_from (length t) (length t / 384) t (omega arith) (omega arith) (omega arith)
 
-    pub among_next : r ≡ false → among x (rows_in (length behind) behind) ≡ among x (rows_in (length t) t)
-    unfolding among
-    among_next h = rw (rows_next, ← asked, h)
+-- ---- a row among rows
+pub any_among : (x : List ℕ) (rows : List (List ℕ)) → list_any (same x) rows ≡ among x rows
+unfolding among
+any_among x [] = refl
+any_among x (row ∷ rows) = ap (λ (t : Bool). same x row || t) (any_among x rows)
 
-  module _ (r : Bool) (asked : r ≡ among first (rows_in (length behind) behind)) where
-    pub meet_found : r ≡ true → true ≡ overlap (rows_in (length t) t)
-    unfolding overlap
-    meet_found h = rw (rows_next, ← asked, h)
+-- ---- two rows that are the same: row n of some, and those behind it
+pub meet_end : (rows : List (List ℕ)) (n : ℕ) → length rows ≤ n → false ≡ overlap (drop n rows)
+unfolding overlap
+meet_end rows n h = rw (drop_of_length-le rows {i = n} h) refl
 
-    pub meet_next : r ≡ false → overlap (rows_in (length behind) behind) ≡ overlap (rows_in (length t) t)
-    unfolding overlap
-    meet_next h = rw (rows_next, ← asked, h)
+module _ (rows : List (List ℕ)) (n : ℕ) (l : n < length rows) (r : Bool) (asked : r ≡ among (get_or rows n []) (take (length rows - (n + 1)) (drop (n + 1) rows))) where
+  behind : r ≡ among (get_or rows n []) (drop (suc n) rows)
+  behind =
+      asked ∙ ap (among (get_or rows n [])) (take_all (length rows - (n + 1)) (drop (n + 1) rows) (rw length-drop (omega arith)))
+      ∙ ap (λ (k : ℕ). among (get_or rows n []) (drop k rows)) (add-one n)
+
+  pub meet_found : r ≡ true → true ≡ overlap (drop n rows)
+  unfolding overlap
+  meet_found h = rw (drop-cons rows n [] l, ← behind, h)
+
+  pub meet_next : r ≡ false → overlap (drop (n + 1) rows) ≡ overlap (drop n rows)
+  unfolding overlap
+  meet_next h = rw (add-one n, drop-cons rows n [] l, ← behind, h)

@@ -12,12 +12,14 @@ ghost use Rattle.name_rows.specs.Spelt.{spelt_by};
 
 use writer::Text;
 
+// The length of what a row says, without its checksum.
 const KEY: usize = 380;
 
 /// The length of a row.
 pub const ROW: usize = 384;
 
-/// The home, a byte 0, the name, zeros, and a checksum of all that in the last four bytes.
+/// The home, a byte 0, the name, zeros, and a checksum of all that in the last four bytes. Rows lie one behind the other in an array
+/// of bytes: no call has a heap.
 pub type Row = [u8; ROW];
 
 /// How a name is spelt.
@@ -47,7 +49,7 @@ impl Spelling {
     }
 }
 
-// A checksum of the key.
+// A checksum of the key. Not that of crate checksums: what a row is is defined with this factor.
 fn checksum(key: &[u8]) -> u32
     ensures { result ≡ checksum 0 key.now }
 {
@@ -55,6 +57,7 @@ fn checksum(key: &[u8]) -> u32
     for byte in key {
         sum = (sum * 31 + u64::from(*byte)) % (1 << 32);
     }
+    // a cast: below 2^32, and a `u32` has no `From` of a `u64`
     sum as u32
 }
 
@@ -67,6 +70,7 @@ fn put_key(text: &mut Text<'_>, home: &[u8], spelling: Spelling, name: &[u8])
     spelling.put(text, name);
 }
 
+// A text is begun, written and measured, here and in `fill_row`: over a closure that is no shorter.
 fn fill_key(buffer: &mut [u8], home: &[u8], spelling: Spelling, name: &[u8]) -> usize
     ensures { Filled buffer.old (key_text home.now (spelt_by spelling name.now)) buffer.new result }
 {
@@ -102,7 +106,8 @@ pub fn row_of(home: &[u8], spelling: Spelling, name: &[u8]) -> Row
     row
 }
 
-// Are these the same? Rows share long beginnings: the checksums are compared first.
+// Are these the same? Rows share long beginnings, and 1,700 oneofs have as many rows to compare two by two: the checksums come
+// first.
 #[tactic(auto, unfolding(base::specs::Bytes::same))]
 fn same_row(x: &Row, y: &Row) -> bool
     ensures { result ≡ same x.now y.now }
@@ -110,30 +115,29 @@ fn same_row(x: &Row, y: &Row) -> bool
     x[KEY..] == y[KEY..] && x[..KEY] == y[..KEY]
 }
 
+// Is it one of these rows?
+fn is_among(rows: &[Row], wanted: &Row) -> bool
+    ensures { result ≡ among wanted.now rows.now }
+{
+    rows.iter().any(|row| same_row(wanted, row))
+}
+
 /// Is it one of these rows, which stand one behind the other?
 pub fn row_among(rows: &[u8], wanted: &Row) -> bool
     ensures { result ≡ among wanted.now (rows_in (length rows.now) rows.now) }
 {
-    let mut rest = rows;
-    while let Some((row, behind)) = rest.split_first_chunk::<ROW>() {
-        if same_row(wanted, row) {
-            return true;
-        }
-        rest = behind;
-    }
-    false
+    is_among(rows.as_chunks::<ROW>().0, wanted)
 }
 
 /// Are two of these rows the same?
 pub fn rows_meet(rows: &[u8]) -> bool
     ensures { result ≡ overlap (rows_in (length rows.now) rows.now) }
 {
-    let mut rest = rows;
-    while let Some((row, behind)) = rest.split_first_chunk::<ROW>() {
-        if row_among(behind, row) {
+    let whole = rows.as_chunks::<ROW>().0;
+    for (n, row) in whole.iter().enumerate() {
+        if is_among(&whole[n + 1..], row) {
             return true;
         }
-        rest = behind;
     }
     false
 }

@@ -1,17 +1,18 @@
 //! Packages of a set whose modules have one name.
 #![tactic(auto)]
 
-ghost use Rattle.std.specs.Prelude.{◌≡◌, ◌<◌, length, []};
+ghost use Rattle.std.specs.Prelude.{◌≡◌, ◌<◌, length, [], take};
 ghost use Rattle.base.specs.Bytes.{b, same};
 ghost use Rattle.extern_paths.specs.Split.{split};
-ghost use Rattle.package_names.specs.Packages.{meets, cut_snake, parts_meet, package_meets, packages_meet, module_of, module_in, part_stands, packages_stand};
+ghost use Rattle.descriptor.specs.Decode.{entries, parts};
+ghost use Rattle.package_names.specs.Packages.{meets, cut_snake, parts_meet, packages_meet, module_of, module_in, part_stands, packages_stand};
 ghost use Rattle.base.specs.Lists.{any};
 ghost use Rattle.name_check.specs.NameCheck.{modules_in};
 ghost use Rattle.name_rows.specs.Rows.{rows_in};
 
 use descriptor::FileHeader;
 use descriptor::field_number::SET_FILE;
-use joined::{FullName, MAX_PATH};
+use joined::{MAX_PATH, Name};
 use name_rows::Spelling;
 use parts::Parts;
 use split::Separator;
@@ -27,20 +28,17 @@ fn same_snake(x: &[u8], y: &[u8]) -> bool
     let m = ident::text::fill_snake(&mut left, x).min(MAX_PATH);
     let mut right = [0u8; MAX_PATH];
     let n = ident::text::fill_snake(&mut right, y).min(MAX_PATH);
-    base::same_bytes(&left[..m], &right[..n])
+    left[..m] == right[..n]
 }
 
 // Do two packages meet? They are gone through segment by segment, up to the first that differs.
 fn names_meet(x: &[u8], y: &[u8]) -> bool
     ensures { result ≡ meets cut_snake (split (b ".") x.now) (split (b ".") y.now) }
 {
-    let segments = split::Parts::new(x, Separator::Dot);
-    for (left, right) in segments.zip(split::Parts::new(y, Separator::Dot)) {
-        if !base::same_bytes(left, right) {
-            return same_snake(left, right);
-        }
-    }
-    false
+    x.split(|&c| c == b'.')
+        .zip(y.split(|&c| c == b'.'))
+        .find(|(left, right)| left != right)
+        .is_some_and(|(left, right)| same_snake(left, right))
 }
 
 // Do the packages of these files? A missing one has no segment.
@@ -55,20 +53,23 @@ fn parts_meet(part: &[u8], other: &[u8]) -> bool
     }
 }
 
-// Does the package of the file meet one of the set's?
-#[tactic(auto, unfolding(base::specs::Lists::any, crate::specs::Packages::package_meets))]
-fn package_meets(set: &[u8], part: &[u8]) -> bool
-    ensures { result ≡ package_meets set.now part.now }
+// Does the package of the file meet one of the first n of the set's?
+fn package_meets(set: &[u8], n: usize, part: &[u8]) -> bool
+    ensures { result ≡ any (parts_meet part.now) (take n (parts 1 (entries set.now))) }
 {
-    Parts::new(set, SET_FILE).any(|other| parts_meet(part, other))
+    Parts::new(set, SET_FILE)
+        .take(n)
+        .any(|other| parts_meet(part, other))
 }
 
-/// Do two packages of the set meet?
-#[tactic(auto, unfolding(base::specs::Lists::any, crate::specs::Packages::packages_meet))]
+/// Do two packages of the set meet? No package meets itself, so each is asked of those before it.
 pub fn packages_meet(set: &[u8]) -> bool
     ensures { result ≡ packages_meet set.now }
 {
-    Parts::new(set, SET_FILE).any(|part| package_meets(set, part))
+    let files = Parts::new(set, SET_FILE);
+    files
+        .enumerate()
+        .any(|(n, part)| package_meets(set, n, part))
 }
 
 // Does the module of a segment in a home stand among these rows? A home of over 256 bytes has no declaration.
@@ -84,7 +85,7 @@ fn module_stands(rows: &[u8], home: &[u8], segment: &[u8]) -> bool
 fn package_stands(rows: &[u8], name: &[u8]) -> bool
     ensures { result ≡ any (module_in (rows_in (length rows.now) rows.now)) (modules_in [] (split (b ".") name.now)) }
 {
-    let mut home = FullName::root();
+    let mut home = Name::root();
     for segment in split::Parts::new(name, Separator::Dot) {
         // The homes behind it are longer.
         if home.as_bytes().len() > MAX_HOME {
@@ -93,7 +94,7 @@ fn package_stands(rows: &[u8], name: &[u8]) -> bool
         if module_stands(rows, home.as_bytes(), segment) {
             return true;
         }
-        home = FullName::new(home.as_bytes(), segment);
+        home = Name::new(home.as_bytes(), segment);
     }
     false
 }

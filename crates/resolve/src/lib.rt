@@ -32,6 +32,9 @@ pub fn resolve_ident(text: &mut Text<'_>, options: &Options<'_>, scope: &[u8], i
     }
 }
 
+// A flag says whether bytes are `Bytes`, here and in the crates above: the setting is there or not, as the options give it, and the
+// definitions take a Bool.
+
 /// The Rust type of bytes: `Bytes`, or a Vec.
 #[tactic(auto, unfolding(code_generator::specs::Resolve::resolve_bytes))]
 fn resolve_bytes(text: &mut Text<'_>, options: &Options<'_>, bytes: bool)
@@ -85,7 +88,7 @@ fn put_enumeration(
     text.put(behind);
 }
 
-/// The type in a field's tag.
+/// The type in a field's tag. It goes by the type's sort, as the definition does, and `FieldDescriptor::is_enum` by its number.
 #[tactic(auto, unfolding(code_generator::specs::Resolve::field_type_tag))]
 pub fn field_type_tag(
     text: &mut Text<'_>,

@@ -131,6 +131,7 @@ pub fn append_each_field(
 )
     ensures { text.new ≡ text.old ⊳ field_texts context.now.options context.now.set context.now.fields of.now.proto3 of.now.depth of.now.scope.now of.now.full.now (numbers_where is_plain context.now.fields (fields.end - fields.start) fields.start) }
 {
+    // by its bounds, which `numbers_where` is defined by
     for k in fields.start..fields.end {
         append_if_free(text, context, of, k);
     }

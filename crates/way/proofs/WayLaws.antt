@@ -1,8 +1,7 @@
 -- The names of a path, one after the other. Assumes nothing.
 use mathlib.Core.Path.{◌≡◌, refl, sym, ap, ◌∙◌}
-use mathlib.Core.Bool.{true, false, not}
-use borrow.Author.Tests.{not-true, not-false}
-use mathlib.Core.List.{List, [], ◌∷◌, ◌++◌, append_assoc}
+use mathlib.Core.Bool.{Bool, true, false, cond}
+use mathlib.Core.List.{List, [], ◌∷◌, ◌++◌, map, append_assoc}
 use Prim.Native.Nat.{ℕ, zero, suc, ◌+◌, ◌-◌, ◌≤◌, ◌<◌, min}
 use native.Mathlib.Omega.{arith}
 use lib.ListN.{length, take, drop, length-drop}
@@ -10,6 +9,8 @@ use lib.Seq.{take_all}
 use Rattle.std.proofs.Common.{Bor, Option, Some, None, add-one}
 use Rattle.std.specs.Str.{bytes_eq}
 use Rattle.std.specs.Option.{MatchOption}
+use Rattle.std.specs.List.{last_or, prefix_len, zip}
+use Rattle.std.proofs.lemmas.List.Folds.{length-prefix_len}
 use Rattle.base.specs.Choose.{choose}
 use Rattle.base.specs.Bytes.{b, same}
 use Rattle.writer.specs.declared.text.Text.{Text}
@@ -29,32 +30,38 @@ use Rattle.way.specs.Names.{common, downwards}
 pub some_name : (s : Bytes) → 0 < length (split (b ".") s)
 some_name s = rw (split_is (b ".") s (omega arith)) (omega arith)
 
--- the last name of those from a name on
-pub last_cons : (x y : Bytes) (ys : List Bytes) → last_name (x ∷ (y ∷ ys)) ≡ last_name (y ∷ ys)
-last_cons x y ys = refl
+-- ---- the last name
+abbrev pub text_of : Option (Bor Bytes) → Bytes
+text_of None = []
+text_of (Some x) = x.now
+
+pub given : (o : Option (Bor Bytes)) (r : Bor Bytes) → ((x : Bor Bytes) → o ≡ Some x → r ≡ x) → (o ≡ None → r.now ≡ []) → (u : Option (Bor Bytes)) → o ≡ u → r.now ≡ text_of u
+given None r f g u e = g refl ∙ ap text_of e
+given (Some x) r f g u e = ap (λ (y : Bor Bytes). y.now) (f x refl) ∙ ap text_of e
+
+pub last_of : (xs : List (Bor Bytes)) → text_of (last_or None xs) ≡ last_name (map (λ (x : Bor Bytes). x.now) xs)
+last_of [] = refl
+last_of (x ∷ xs) = on x xs
+  where
+    on : (x : Bor Bytes) (xs : List (Bor Bytes)) → text_of (last_or (Some x) xs) ≡ last_name (x.now ∷ map (λ (x : Bor Bytes). x.now) xs)
+    on x [] = refl
+    on x (y ∷ ys) = on y ys
 
 -- ---- names in common
-common_none : (ys : List Bytes) → common [] ys ≡ 0
-unfolding common
-common_none ys = refl
+abbrev pub alike : Bytes × Bytes → Bool
+alike p = bytes_eq p.0 p.1
 
-pub common_left : (n : ℕ) (xs ys : List Bytes) → xs ≡ [] → n + common xs ys ≡ n
-unfolding common
-common_left n xs ys e = rw e (omega arith)
+passed : (xs ys : List Bytes) → prefix_len alike (zip xs ys) ≡ common xs ys
+unfolding common choose
+passed [] ys = refl
+passed (x ∷ xs) [] = refl
+passed (x ∷ xs) (y ∷ ys) =
+    let e : prefix_len alike (zip xs ys) ≡ common xs ys = passed xs ys in
+    rw (same_bytes x y)
+    (elim (same x y) as (λ t. cond t (1 + prefix_len alike (zip xs ys)) 0 ≡ choose t (suc (common xs ys)) 0) [ true ↦ omega arith | false ↦ refl ])
 
-pub common_right : (n : ℕ) (xs ys : List Bytes) → ys ≡ [] → n + common xs ys ≡ n
-unfolding common
-common_right n [] ys e = omega arith
-common_right n (x ∷ xs) ys e = rw e (omega arith)
-
-module _ (n : ℕ) (x y : Bytes) (xs ys : List Bytes) where
-  pub common_ends : not (bytes_eq x y) ≡ true → n + common (x ∷ xs) (y ∷ ys) ≡ n
-  unfolding common choose
-  common_ends e = let f : bytes_eq x y ≡ false = not-true (bytes_eq x y) e in rw (← same_bytes x y, f) (omega arith)
-
-  pub common_goes : not (bytes_eq x y) ≡ false → n + 1 + common xs ys ≡ n + common (x ∷ xs) (y ∷ ys)
-  unfolding common choose
-  common_goes e = let f : bytes_eq x y ≡ true = not-false (bytes_eq x y) e in rw (← same_bytes x y, f) (omega arith)
+pub common_is : (xs ys : List Bytes) → length (take (prefix_len alike (zip xs ys)) (zip xs ys)) ≡ common xs ys
+common_is xs ys = length-prefix_len alike (zip xs ys) ∙ passed xs ys
 
 pub common_most : (xs ys : List Bytes) → common xs ys ≤ length xs
 unfolding common choose

@@ -19,11 +19,7 @@ use writer::Text;
 pub fn last_name(path: &[u8]) -> &[u8]
     ensures { result.now ≡ last_name (split (b ".") path.now) }
 {
-    let mut last: &[u8] = &[];
-    for name in Parts::new(path, Separator::Dot) {
-        last = name;
-    }
-    last
+    Parts::new(path, Separator::Dot).last().unwrap_or_default()
 }
 
 /// A path without the dot in front.
@@ -44,18 +40,10 @@ fn count_names(path: &[u8]) -> usize
 fn common(scope: &[u8], ident: &[u8]) -> usize
     ensures { result ≡ common (split (b ".") scope.now) (split (b ".") ident.now) }
 {
-    let mut names = Parts::new(ident, Separator::Dot);
-    let mut count = 0;
-    for outer in Parts::new(scope, Separator::Dot) {
-        let Some(name) = names.next() else {
-            return count;
-        };
-        if outer != name {
-            return count;
-        }
-        count += 1;
-    }
-    count
+    Parts::new(scope, Separator::Dot)
+        .zip(Parts::new(ident, Separator::Dot))
+        .take_while(|(outer, name)| outer == name)
+        .count()
 }
 
 /// The names of a path behind the first `n`.
@@ -63,6 +51,7 @@ fn names_behind(ident: &[u8], n: usize) -> Parts<'_>
     ensures { result ≡ drop n (split (b ".") ident.now) }
 {
     let mut names = Parts::new(ident, Separator::Dot);
+    // no `skip`: what is left is a `Parts` itself, as `put_downwards` takes it
     for _ in 0..n {
         names.next();
     }

@@ -1,21 +1,20 @@
-use Rattle.std.proofs.Common.{arith, sym, ◌∙◌}
-use Rattle.way.proofs.WayLaws.{common_left, common_right, common_ends, common_goes}
+use Rattle.std.proofs.Common.{rules, ◌∙◌}
+use Rattle.std.proofs.lemmas.Iterator.{YieldsList-from_zip}
+use Rattle.std.proofs.lemmas.Iterator.Consumers.{YieldsList-at, YieldsList-from_first, count_from_yields_List}
+use Rattle.std.proofs.lemmas.Iterator.Search.{YieldsList-from_take_while}
+use borrow.Author.Tests.{tests}
+use Rattle.base.specs.Bytes.{b}
+use Rattle.split.specs.Split.{split}
+use Rattle.way.proofs.WayLaws.{alike, common_is}
 use Rattle.way.proofs.common.Goals as goal
 
-pub returns-in_default : goal.returns-in_default
-returns-in_default c = sym (common_right _ _ _ c.in_default.ensures.steps.0) ∙ c.loop-outer.invariant.rest
-
-pub returns-then-ne : goal.returns-then-ne
-returns-then-ne c =
-    sym (common_ends _ _ _ _ _ (sym c.ne.ensures ∙ c.if-ne.true))
-    ∙ (rw (c.in-Some.ensures.steps, c.in-Some-next.ensures.steps) at c.loop-outer.invariant.rest)
-
-pub loop-outer-preserved : goal.loop-outer-preserved
-loop-outer-preserved c =
-    record {
-      few = let h = rw c.in-Some.ensures.steps at c.loop-outer.invariant.few in omega arith;
-      rest = common_goes _ _ _ _ _ (sym c.ne.ensures ∙ c.if-ne.false) ∙ (rw (c.in-Some.ensures.steps, c.in-Some-next.ensures.steps) at c.loop-outer.invariant.rest);
-    }
-
 pub returns : goal.returns
-returns c = sym (common_left _ _ _ c.in-None.ensures.steps.0) ∙ c.loop-outer.invariant.rest
+returns c =
+    let outer = split (b ".") c.args.scope.now in
+    let names = split (b ".") c.args.ident.now in
+    count_from_yields_List _ _ c.count.ensures.ran
+    (YieldsList-from_take_while _ alike
+    (YieldsList-at c.take_while.ensures.source
+    (YieldsList-from_zip (YieldsList-from_first (λ x. x.now) (λ rest. rest) outer (c.zip.ensures.first ∙ c.new.ensures.parts)) (YieldsList-from_first (λ x. x.now) (λ rest. rest) names (c.zip.ensures.second ∙ c.new-2.ensures.parts))))
+    c.take_while.ensures.closure c.take_while.ensures.done (λ x b q k. search (rules, tests)))
+    ∙ common_is outer names
