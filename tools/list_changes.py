@@ -51,7 +51,7 @@ def cell(text):
     return "`" + text.replace("|", "\\|").replace("`", "'") + "`" if text else ""
 
 
-def changed_functions(report, public):
+def changed_functions(report, public, still):
     signatures = {row[0]: row[1:] for row in report["signatures changed"]}
     contracts = {row[0]: row[1:] for row in report["contracts changed"]}
     for place in sorted(set(signatures) | set(contracts)):
@@ -66,6 +66,8 @@ def changed_functions(report, public):
             needs, gives, needed, given = contracts[place]
             old += [f"{word} {clauses(parts)}" for word, parts in (("requires", needs), ("ensures", gives)) if parts]
             new += [f"{word} {clauses(parts)}" for word, parts in (("requires", needed), ("ensures", given)) if parts]
+        if name not in still[crate]:
+            new.insert(0, "private:")
         yield place.replace(" src/", " ", 1), " ".join(old), " ".join(new)
 
 
@@ -87,7 +89,7 @@ def main():
     old = pathlib.Path(sys.argv[1]).resolve()
     report = comparison().compare(str(old), str(ROOT))
     print("### Public functions that stand where they stood\n")
-    table(changed_functions(report, public_functions(old)))
+    table(changed_functions(report, public_functions(old), public_functions(ROOT)))
     print("\n### Definitions, and statements of theorems and lemmas in specs/\n")
     table(changed_definitions(report))
     gone = collections.defaultdict(list)
