@@ -1,1 +1,3 @@
 pub mod RefusalLaws
+pub mod BytesLaws
+pub mod FindLaws

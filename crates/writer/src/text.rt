@@ -99,6 +99,7 @@ impl<'a> Text<'a> {
     }
 
     /// `n` bytes from `from` on, as many as there are.
+    // No code calls it now: it stands with its promise.
     pub fn put_part(&mut self, bytes: &[u8], from: usize, n: usize)
         ensures { self.new ≡ self.old ▻ take n (drop from bytes.now) }
     {
