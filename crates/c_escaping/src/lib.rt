@@ -16,10 +16,7 @@ use writer::Text;
 fn byte_of(v: u32, next: usize) -> Option<(u8, usize)>
     ensures { result ≡ byte_of v next }
 {
-    match u8::try_from(v) {
-        Ok(x) => Some((x, next)),
-        Err(_) => None,
-    }
+    u8::try_from(v).ok().map(|byte| (byte, next))
 }
 
 /// The byte that an escape of one letter stands for, with the place behind it.
@@ -57,7 +54,9 @@ fn octal_value(c: u8) -> u32
     u32::from(c.saturating_sub(b'0'))
 }
 
-/// One to three octal digits, by places, as the step's definition is.
+/// One to three octal digits, from the place `p` on.
+// By places, as the steps below: specs/Unescape defines each step by a place and the place behind it. Over the bytes that are left,
+// each clause would have to count back to a place.
 #[tactic(auto, unfolding(crate::specs::Unescape::octal_at, base::specs::Choose::choose))]
 fn octal_at(s: &[u8], p: usize) -> Option<(u8, usize)>
     requires { p ≤ length s.now }
@@ -96,7 +95,7 @@ fn hex_value(c: u8) -> u8
     }
 }
 
-/// Two hexadecimal digits, by places, as the step's definition is.
+/// Two hexadecimal digits, from the place `p` on.
 #[tactic(auto, unfolding(crate::specs::Unescape::hex_at, base::specs::Choose::choose))]
 fn hex_at(s: &[u8], p: usize) -> Option<(u8, usize)>
     requires { p ≤ length s.now + 1 }
@@ -114,7 +113,7 @@ fn hex_at(s: &[u8], p: usize) -> Option<(u8, usize)>
     }
 }
 
-/// An escape whose `\` stands before `p`; by places, as the step's definition is.
+/// An escape whose `\` stands before `p`.
 #[tactic(auto, unfolding(crate::specs::Unescape::escape_at, base::specs::Choose::choose))]
 fn escape_at(s: &[u8], p: usize) -> Option<(u8, usize)>
     requires { p ≤ length s.now }
@@ -130,15 +129,12 @@ fn escape_at(s: &[u8], p: usize) -> Option<(u8, usize)>
     }
 }
 
-/// The byte that stands at `p`, as it is or as an escape, with the place behind it; by places, as the step's definition is.
+/// The byte that stands at `p`, as it is or as an escape, with the place behind it.
 #[tactic(auto, unfolding(crate::specs::Unescape::unescape_at, base::specs::Choose::choose))]
 pub fn unescape_at(s: &[u8], p: usize) -> Option<(u8, usize)>
     ensures { result ≡ unescape_at s.now p }
 {
-    if p >= s.len() {
-        return None;
-    }
-    match s[p] {
+    match *s.get(p)? {
         b'\\' => escape_at(s, p + 1),
         c => Some((c, p + 1)),
     }

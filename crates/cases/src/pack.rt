@@ -49,12 +49,10 @@ impl<'a> Iterator for Pack<'a> {
     ghost remaining = { item_count (λ rest. rest) };
 
     fn next(&mut self) -> Option<Self::Item> {
-        match self.records.next()? {
-            Ok(record) => Some(Ok(Case {
-                number: record.number,
-                bytes: descriptor::bytes_in(record.value),
-            })),
-            Err(fault) => Some(Err(fault)),
-        }
+        let read = self.records.next()?;
+        Some(read.map(|record| Case {
+            number: record.number,
+            bytes: descriptor::bytes_in(record.value),
+        }))
     }
 }

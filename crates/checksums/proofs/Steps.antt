@@ -1,13 +1,13 @@
 -- One step of each loop: a byte of a string, a number of a table. Assumes nothing.
 use Prim.Native.Nat.{ℕ, suc, ◌+◌, ◌-◌, ◌*◌, ◌%◌, ◌^◌, ◌<◌, ◌≤◌}
 use mathlib.Core.Path.{◌≡◌, refl, sym, ap, ◌∙◌}
-use mathlib.Core.Bool.{Bool, true, false, ◌||◌}
+use mathlib.Core.Bool.{Bool, true, false}
 use mathlib.Core.List.{List, [], ◌∷◌}
-use Rattle.std.specs.List.{list_any}
+use Rattle.std.specs.List.{list_any, enumerate_from}
 use native.Mathlib.Numerals.{add-one}
 use native.Mathlib.Omega.{arith}
 use lib.ListN.{length, set, get_or, take, drop, length-drop, drop_of_length-le}
-use lib.Seq.{set_out, drop-cons, take_all}
+use lib.Seq.{set_out, drop-cons, drop-drop, take_all}
 use lib.Dec.{eqb, ltb}
 use Rattle.std.proofs.Common.{length-set, length-take-le, take-suc-set, le-leb}
 use Rattle.std.proofs.Math.Decide.{dec_le}
@@ -38,24 +38,15 @@ unfolding holds
 holds_is x [] = refl
 holds_is x (y ∷ ys) = rw (swapped x y, holds_is x ys)
 
-module _ (t : List ℕ) (i : ℕ) where
-  pub repeats_end : length t ≤ i → false ≡ repeats (drop i t)
-  unfolding repeats
-  repeats_end l = rw (drop_of_length-le t {i = i} l)
-
-  module _ (l : i < length t) (r : Bool) (asked : r ≡ holds (get_or t i 0) (take (length t - (i + 1)) (drop (i + 1) t))) where
-    met : repeats (drop i t) ≡ (r || repeats (drop (i + 1) t))
-    unfolding repeats
-    met =
-        let behind = take_all (length t - (i + 1)) (drop (i + 1) t) (rw length-drop (omega arith)) in
-        ap repeats (drop-cons t i 0 l) ∙ ap (λ (n : ℕ). holds (get_or t i 0) (drop n t) || repeats (drop n t)) (sym (add-one i))
-        ∙ ap (λ (u : Bool). u || repeats (drop (i + 1) t)) (sym (asked ∙ ap (holds (get_or t i 0)) behind))
-
-    pub repeats_found : r ≡ true → true ≡ repeats (drop i t)
-    repeats_found h = rw (met, h)
-
-    pub repeats_next : r ≡ false → repeats (drop (i + 1) t) ≡ repeats (drop i t)
-    repeats_next h = rw (met, h)
+-- from number n on, each number beside those behind it
+pub repeats_from : (t : List ℕ) (n : ℕ) (xs : List ℕ) → drop n t ≡ xs
+    → list_any (λ (p : ℕ × ℕ). holds p.1 (take (length t - (p.0 + 1)) (drop (p.0 + 1) t))) (enumerate_from n xs) ≡ repeats xs
+unfolding repeats
+repeats_from t n [] e = refl
+repeats_from t n (x ∷ xs) e =
+    let next : drop (n + 1) t ≡ xs = sym (drop-drop 1 n t) ∙ ap (drop 1) e in
+    let behind : take (length t - (n + 1)) (drop (n + 1) t) ≡ xs = take_all (length t - (n + 1)) (drop (n + 1) t) (rw length-drop (omega arith)) ∙ next in
+    rw (behind, repeats_from t (n + 1) xs next)
 
 pub put_there : (t : List ℕ) (n x : ℕ) → n < length t → Put t n x (set t n x) (n + 1)
 unfolding choose

@@ -37,16 +37,14 @@ pub fn holds(sums: &[u64], sum: u64) -> bool
 pub fn repeats(sums: &[u64]) -> bool
     ensures { result ≡ repeats sums.now }
 {
-    for (n, sum) in sums.iter().enumerate() {
-        if holds(&sums[n + 1..], *sum) {
-            return true;
-        }
-    }
-    false
+    sums.iter()
+        .enumerate()
+        .any(|(n, sum)| holds(&sums[n + 1..], *sum))
 }
 
 /// Number `n` of a table is `sum`, and so many are there with it: one more than the table has room for, where there is no place.
-// The count, also of what had no room: `Sums` is the list with its count.
+// The count, also of what had no room: `Sums` is the list with its count. One more than there is room for, as `Put` of specs/Sums has
+// it, by which the laws of the list go.
 pub fn put_sum(sums: &mut [u64], n: usize, sum: u64) -> usize
     ensures { Put sums.old n sum sums.new result }
 {

@@ -3,14 +3,13 @@ ghost use Rattle.std.specs.Prelude.{◌≡◌};
 ghost use Rattle.descriptor.specs.Decode.{decode_value};
 ghost use Rattle.descriptor.specs.Steps.{value_step};
 
+use crate::field_number::NAME;
 use crate::reading::{TakeRecord, described};
 use crate::values::{bytes_in, flag_after, number_in};
 use std::marker::Model;
 use wire::records::Record;
 
 // EnumValueDescriptorProto in descriptor.proto
-const NAME: u64 = 1;
-
 const NUMBER: u64 = 2;
 
 const OPTIONS: u64 = 3;
@@ -53,6 +52,7 @@ impl<'a> TakeRecord<'a> for EnumValueDescriptor<'a> {
 impl<'a> EnumValueDescriptor<'a> {
     /// The value that the bytes describe.
     #[tactic(auto, using(crate::proofs::StepLaws::value_is))]
+    #[inline(always)]
     pub fn new(part: &'a [u8]) -> Self
         ensures { result ≡ decode_value part.now }
     {

@@ -4,14 +4,13 @@ ghost use Rattle.descriptor.specs.Accessors.{text, number, label, type, is_repea
 ghost use Rattle.descriptor.specs.Decode.{decode_field};
 ghost use Rattle.descriptor.specs.Steps.{options_step, field_step};
 
+use crate::field_number::{FIELD_DEFAULT_VALUE, NAME};
 use crate::reading::{TakeRecord, described, read_into};
 use crate::values::{bytes_in, flag_in, number_in};
 use std::marker::Model;
 use wire::records::Record;
 
 // FieldDescriptorProto in descriptor.proto
-const NAME: u64 = 1;
-
 const NUMBER: u64 = 3;
 
 const LABEL: u64 = 4;
@@ -19,8 +18,6 @@ const LABEL: u64 = 4;
 const TYPE: u64 = 5;
 
 const TYPE_NAME: u64 = 6;
-
-const DEFAULT_VALUE: u64 = 7;
 
 const OPTIONS: u64 = 8;
 
@@ -32,6 +29,8 @@ const PROTO3_OPTIONAL: u64 = 17;
 const PACKED: u64 = 2;
 
 const DEPRECATED: u64 = 3;
+
+// Numbers, and no enum: a set may give any, and the definitions' rules are over any.
 
 // Label
 pub const LABEL_OPTIONAL: u32 = 1;
@@ -124,7 +123,7 @@ impl<'a> TakeRecord<'a> for FieldDescriptor<'a> {
             LABEL => self.label = Some(number_in(value)),
             TYPE => self.kind = Some(number_in(value)),
             TYPE_NAME => self.type_name = Some(bytes_in(value)),
-            DEFAULT_VALUE => self.default_value = Some(bytes_in(value)),
+            FIELD_DEFAULT_VALUE => self.default_value = Some(bytes_in(value)),
             OPTIONS => {
                 let mut options = self.options.unwrap_or_default();
                 read_into(&mut options, bytes_in(value));
@@ -140,6 +139,7 @@ impl<'a> TakeRecord<'a> for FieldDescriptor<'a> {
 impl<'a> FieldDescriptor<'a> {
     /// The field that the bytes describe.
     #[tactic(auto, using(crate::proofs::StepLaws::field_is))]
+    #[inline(always)]
     pub fn new(part: &'a [u8]) -> Self
         ensures { result ≡ decode_field part.now }
     {
@@ -188,7 +188,7 @@ impl<'a> FieldDescriptor<'a> {
         self.label() == LABEL_REPEATED
     }
 
-    // One for each type that is asked for by name: with the type as a parameter each call would name it.
+    // One for each type that is asked for by name: with the type as a parameter each call would name it. (No code calls `is_enum` now.)
     pub fn is_message(&self) -> bool
         ensures { result ≡ is_message self.now }
     {

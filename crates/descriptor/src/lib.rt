@@ -23,14 +23,5 @@ pub use values::bytes_in;
 pub fn part_of(set: &[u8], start: usize, end: usize) -> &[u8]
     ensures { result.now ≡ part set.now start (end - start) }
 {
-    if end < start {
-        return &set[0..0];
-    }
-    if set.len() <= start {
-        return &set[0..0];
-    }
-    if set.len() < end {
-        return &set[start..];
-    }
-    &set[start..end]
+    set.get(start..end.min(set.len())).unwrap_or_default()
 }

@@ -5,22 +5,19 @@ ghost use Rattle.descriptor.specs.Decode.{decode_message, decode_file, decode_en
 ghost use Rattle.descriptor.specs.Seen.{text_seen};
 ghost use Rattle.descriptor.specs.Steps.{message_step, file_step, name_step};
 
+use crate::field_number::{FILE_PACKAGE, NAME};
 use crate::reading::{TakeRecord, described};
 use crate::values::{bytes_in, flag_after};
 use std::marker::Model;
 use wire::records::Record;
 
-// DescriptorProto in descriptor.proto. A oneof and an enum have their names under the same number.
-const NAME: u64 = 1;
-
+// DescriptorProto in descriptor.proto
 const OPTIONS: u64 = 7;
 
 // MessageOptions
 const MAP_ENTRY: u64 = 7;
 
 // FileDescriptorProto
-const PACKAGE: u64 = 2;
-
 const SYNTAX: u64 = 12;
 
 /// A message's name, `None` where it is missing, and whether it is a map entry.
@@ -56,6 +53,7 @@ impl<'a> TakeRecord<'a> for MessageHeader<'a> {
 impl<'a> MessageHeader<'a> {
     /// Of the message that the bytes describe.
     #[tactic(auto, using(crate::proofs::StepLaws::message_is))]
+    #[inline(always)]
     pub fn new(part: &'a [u8]) -> Self
         ensures { result ≡ message_header (decode_message part.now) }
     {
@@ -85,7 +83,7 @@ impl<'a> TakeRecord<'a> for FileHeader<'a> {
     #[inline(always)]
     fn take(&mut self, next: Record<'a>) {
         match next.number {
-            PACKAGE => self.package = Some(bytes_in(next.value)),
+            FILE_PACKAGE => self.package = Some(bytes_in(next.value)),
             SYNTAX => self.syntax = Some(bytes_in(next.value)),
             _ => {}
         }

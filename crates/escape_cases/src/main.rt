@@ -3,23 +3,15 @@
 //! differs is printed.
 #![tactic(auto)]
 
+use c_escaping::Unescape;
 use std::alloc::Global;
 use std::{fs, io};
 use writer::Text;
 
 /// Are these the bytes that the default stands for?
 fn stands_for(default: &[u8], bytes: &[u8]) -> bool {
-    let mut at = 0;
-    for byte in bytes {
-        let Some((found, next)) = c_escaping::unescape_at(default, at) else {
-            return false;
-        };
-        if found != *byte {
-            return false;
-        }
-        at = next;
-    }
-    default.len() <= at
+    let mut found = Unescape::new(default);
+    bytes.iter().all(|byte| found.next() == Some(Ok(*byte))) && found.next().is_none()
 }
 
 /// A line of unescape.txt.

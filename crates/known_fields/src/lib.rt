@@ -136,14 +136,12 @@ impl Met {
         ensures before { result ≡ get_or self.old.marks number false }
         ensures met { self.new ≡ meet number self.old }
     {
-        // a cast: a `usize` has no `From` of a `u64`
+        // a cast: a `usize` has 64 bits, so nothing is lost, and it has no `From` of a `u64`
         let at = number as usize;
         if at >= self.marks.len() {
             return false;
         }
-        let before = self.marks[at];
-        self.marks[at] = true;
-        before
+        std::mem::replace(&mut self.marks[at], true)
     }
 }
 

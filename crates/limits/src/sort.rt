@@ -58,10 +58,10 @@ impl Sort {
     pub fn holds_none(self) -> bool
         ensures { result ≡ holds_none self }
     {
-        match self {
-            Sort::Set | Sort::File | Sort::Message | Sort::Enum => false,
-            Sort::DeepMessage | Sort::Field | Sort::Oneof | Sort::Value => true,
-        }
+        matches!(
+            self,
+            Sort::DeepMessage | Sort::Field | Sort::Oneof | Sort::Value
+        )
     }
 
     /// Does it count for a limit? Around it stands a full name of a length.

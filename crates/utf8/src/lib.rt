@@ -107,6 +107,7 @@ fn four(a: u32, x: u32, y: u32, z: u32, next: usize) -> Decoded
 }
 
 /// The character at the place `i`.
+// By places, as the step's definition is: over the bytes that are left, each clause would have to count back to a place.
 #[tactic(auto, unfolding(crate::specs::Utf8::char_at, base::specs::Choose::choose))]
 pub fn char_at(s: &[u8], i: usize) -> Decoded
     ensures { result ≡ char_at s.now i }

@@ -16,10 +16,7 @@ pub(crate) fn read_record(bytes: &[u8], key: usize) -> Option<(Record<'_>, &[u8]
     requires { key + length bytes.now < 2 ^ 64 }
     ensures { option_map (λ r. (record_seen r.0, r.1.now)) result ≡ record_at key bytes.now }
 {
-    match read_short(bytes, key) {
-        Some(found) => Some(found),
-        None => read_any(bytes, key),
-    }
+    read_short(bytes, key).or_else(|| read_any(bytes, key))
 }
 
 /// The record at the front, if its key has one byte, and its value or its length one byte too, as most have.
@@ -136,13 +133,7 @@ fn split(bytes: &[u8], len: u64) -> Option<(&[u8], &[u8])>
     ensures value { option_map (λ p. (p.0.now, p.1.now)) result ≡ cut len bytes.now }
     ensures inside { IfSome result (λ p. length p.0.now + length p.1.now ≡ length bytes.now) }
 {
-    // casts: a `u64` has no `From` of a `usize`, nor the other way
-    if len <= bytes.len() as u64 {
-        let end = len as usize;
-        Some((&bytes[..end], &bytes[end..]))
-    } else {
-        None
-    }
+    bytes.split_at_checked(usize::try_from(len).ok()?)
 }
 
 /// The varint at the front, and the bytes after it.

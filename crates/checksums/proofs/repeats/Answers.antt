@@ -1,12 +1,17 @@
-use mathlib.Core.Path.{◌∙◌}
-use Rattle.checksums.proofs.Steps.{repeats_end, repeats_found, repeats_next}
+use Rattle.std.proofs.Common.{rules, ◌∙◌, refl, ℕ, ◌+◌, ◌-◌, length}
+use Rattle.std.specs.Prelude.{take, drop}
+use Rattle.std.proofs.lemmas.Iterator.{YieldsList-from_slice}
+use Rattle.std.proofs.lemmas.Iterator.Consumers.{YieldsList-from_enumerate}
+use Rattle.std.proofs.lemmas.Iterator.Search.{any_from_yields_List}
+use borrow.Author.Tests.{tests}
+use Rattle.checksums.specs.Sums.{holds}
+use Rattle.checksums.proofs.Steps.{repeats_from}
 use Rattle.checksums.proofs.repeats.Goals as goal
 
-pub returns-then-holds : goal.returns-then-holds
-returns-then-holds c = repeats_found _ _ c.loop-n-test.true _ c.holds.ensures c.if-holds.true ∙ c.loop-n.invariant
-
-pub loop-n-preserved : goal.loop-n-preserved
-loop-n-preserved c = repeats_next _ _ c.loop-n-test.true _ c.holds.ensures c.if-holds.false ∙ c.loop-n.invariant
-
 pub returns : goal.returns
-returns c = repeats_end _ _ c.loop-n-test.false ∙ c.loop-n.invariant
+returns c =
+    let t = c.args.sums.now in
+    any_from_yields_List (λ (p : ℕ × ℕ). holds p.1 (take (length t - (p.0 + 1)) (drop (p.0 + 1) t))) _ _ _ c.any.ensures.ran
+    (YieldsList-from_enumerate (YieldsList-from_slice t (cc)) c.enumerate.ensures.count)
+    (λ x b q k. search (rules, tests))
+    ∙ repeats_from t 0 t refl
