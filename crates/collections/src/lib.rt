@@ -11,7 +11,8 @@ pub enum MapType {
     BTreeMap,
 }
 
-// Each type has its own two words, as in collections.rs: a trait over both types would add a declaration and leave both matches.
+// Each type has its own two words, as in collections.rs: a trait over both types would add a declaration and leave both matches. Nor
+// is there one function for `map_type` and `bytes_type`: each gives a type of its own.
 impl MapType {
     /// The word for the map type in a field's tag.
     pub fn annotation(self) -> &'static [u8]

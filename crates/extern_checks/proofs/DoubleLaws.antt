@@ -13,7 +13,6 @@ use Rattle.base.specs.Bytes.{same}
 use Rattle.options.specs.Settings.{Setting}
 use Rattle.std.specs.Str.{bytes_eq}
 use Rattle.std.specs.List.{list_any}
-use Rattle.path.proofs.FormLaws.{same_bytes}
 use Rattle.path.specs.Forms.{among}
 use Rattle.split.specs.Split.{begins, split_behind, split}
 use Rattle.extern_paths.specs.ExternPaths.{extern, prost_types}
@@ -22,6 +21,7 @@ use Rattle.extern_paths.specs.declared.prost_types.ProstType.{ProstType}
 use Rattle.base.specs.Lists.{any}
 use Rattle.extern_checks.specs.Doubles.{has_gap, valid_path, prost_type_paths, lists, doubled, at_fault, externs_from, externs}
 use Rattle.base.specs.declared.refusal.Refusal.TheVariants.{ExternPath}
+use Rattle.base.proofs.BytesLaws.{same_bytes}
 use Rattle.std.specs.Prelude.{Ok, Err}
 use Rattle.split.proofs.SplitLaws.{by_test, eqb_turned}
 

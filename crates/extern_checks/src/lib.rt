@@ -69,10 +69,11 @@ fn lists_path(row: &Row<'_>, x: &[u8]) -> bool
 fn lists_prost_type(row: &Row<'_>) -> bool
     ensures { result ≡ any (λ x. among x (lists (row_seen row.now))) prost_type_paths }
 {
-    if !row.is(Kind::ExternPath) {
-        return row.is(Kind::ProstTypes);
+    if row.is(Kind::ExternPath) {
+        is_prost_type(row.path)
+    } else {
+        row.is(Kind::ProstTypes)
     }
-    is_prost_type(row.path)
 }
 
 /// Have the two rows a path in common?

@@ -9,11 +9,11 @@ use lib.Seq.{take_all}
 use Rattle.base.specs.Choose.{choose}
 use Rattle.base.specs.Tests.{and_left, and_right}
 use Rattle.base.specs.Bytes.{b}
+use Rattle.base.proofs.BytesLaws.{same_bytes}
 use Rattle.split.specs.Split.{begins, split, first_part}
 use Rattle.split.proofs.SplitLaws.{parts_behind, split_is}
 use Rattle.std.specs.Str.{bytes_eq}
 use Rattle.std.specs.List.{list_all}
-use Rattle.path.proofs.FormLaws.{same_bytes}
 use Rattle.rust_paths.specs.Segments.{behind_prefix, extern_text}
 use Rattle.rust_paths.specs.Parts.{led_parts, path_text, is_tail}
 use Rattle.rust_paths.proofs.PartLaws.{text_more, drop_within}

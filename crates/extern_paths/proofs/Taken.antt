@@ -15,12 +15,13 @@ use Rattle.base.specs.Choose.{choose}
 use Rattle.base.specs.Lists.{any}
 use Rattle.base.specs.Tests.{both_ways, and_left, and_right, and_both, or_left, or_right, or_cases}
 use Rattle.base.specs.Bytes.{b, same, same_refl, same_sound}
+use Rattle.base.proofs.BytesLaws.{same_bytes}
 use Rattle.heck.specs.Case.{between, class, lowered, raised, parts, words, to_snake_case, to_upper_camel_case}
 use Rattle.ident.specs.Ident.{among as among_words, raw_words, kept_words, addition, with_addition, sanitize_identifier, to_snake, to_upper_camel}
 use Rattle.options.specs.Settings.{Setting, value_of}
 use Rattle.path.specs.Forms.{before_dots, filled, prefixes, among}
 use Rattle.path.specs.PathMap.{first_with, find_best}
-use Rattle.path.proofs.FormLaws.{same_bytes, prefix_empty, prefix_long, prefix_is}
+use Rattle.path.proofs.FormLaws.{prefix_empty, prefix_long, prefix_is}
 use Rattle.split.proofs.SplitLaws.{by_test}
 use Rattle.split.specs.Split.{begins, split_behind, split}
 use Rattle.extern_paths.specs.ExternPaths.{extern, extern_paths, taken, first_segment, resolve_by, resolve_ident, extern_text}

@@ -16,10 +16,7 @@ pub use kinds::{Sort, Type, UnknownType};
 pub fn sort_of(k: u32) -> Option<Sort>
     ensures { letter_of result ≡ sort_of k }
 {
-    match Type::try_from(k) {
-        Ok(kind) => Some(kind.sort()),
-        Err(UnknownType) => None,
-    }
+    Type::try_from(k).ok().map(|kind| kind.sort())
 }
 
 /// Whether a repeated field of the type `k` can be packed.
@@ -27,22 +24,16 @@ pub fn sort_of(k: u32) -> Option<Sort>
 pub fn can_pack(k: u32) -> bool
     ensures { result ≡ can_pack k }
 {
-    match Type::try_from(k) {
-        Ok(kind) => kind.can_pack(),
-        Err(UnknownType) => false,
-    }
+    Type::try_from(k).is_ok_and(|kind| kind.can_pack())
 }
 
 /// The word of the tag of the type `k`, and nothing where that is no type.
-// A table of its own, like those around it: what they share is the match on a type or none.
+// One chain of std's functions, like those around it: a function over all would take what no type has and a closure, and say no less.
 #[tactic(auto, unfolding(crate::specs::Types::tag_word))]
 pub fn tag_word(k: u32) -> &'static [u8]
     ensures { result.now ≡ tag_word k }
 {
-    match Type::try_from(k) {
-        Ok(kind) => kind.tag_word(),
-        Err(UnknownType) => b"",
-    }
+    Type::try_from(k).map_or(b"", |kind| kind.tag_word())
 }
 
 /// The Rust type of the type `k` where it is one word, and nothing where it is none or that is no type.
@@ -50,8 +41,5 @@ pub fn tag_word(k: u32) -> &'static [u8]
 pub fn rust_word(k: u32) -> &'static [u8]
     ensures { result.now ≡ rust_word k }
 {
-    match Type::try_from(k) {
-        Ok(kind) => kind.rust_word(),
-        Err(UnknownType) => b"",
-    }
+    Type::try_from(k).map_or(b"", |kind| kind.rust_word())
 }

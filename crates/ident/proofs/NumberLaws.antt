@@ -7,11 +7,13 @@ use Prim.Native.Nat.{ℕ, zero, suc, ◌/◌, ◌<◌, ◌≤◌}
 use native.Mathlib.Omega.{arith}
 use native.Mathlib.Decide.{dec_lt}
 use lib.Dec.{ltb, leb}
+use Rattle.std.specs.Str.{bytes_eq}
 use lib.ListN.{length, get_or}
 use borrow.Author.Tests.{le-ltb, lt-leb, not-true}
 use Rattle.base.specs.Choose.{choose}
 use Rattle.base.specs.Bytes.{same, same_sound}
 use Rattle.base.specs.Tests.{and_left, and_right}
+use Rattle.base.proofs.BytesLaws.{same_bytes}
 use Rattle.heck.specs.Case.{between, is_digit}
 use Rattle.ident.specs.Ident.{among, raw_words, kept_words, addition, is_trailing}
 use Rattle.ident.specs.Numbers.{word, numbers, number_of, numbered, begins_kept}
@@ -39,9 +41,9 @@ module _ (x : List ℕ) where
   unfolding all raw_words kept_words numbers number_of
   numberless_none h = no_word (λ (w : List ℕ). ltb (number w) 53) x refl refl (le-ltb (number x) 53 h)
 
-  pub unlike_none : same x (word (number x)) ≡ false → numbered None x ≡ addition x
-  unfolding all raw_words kept_words numbers number_of word same
-  unlike_none h = no_word (λ (w : List ℕ). same w (word (number w))) x refl refl h
+  pub unlike_none : bytes_eq x (word (number x)) ≡ false → numbered None x ≡ addition x
+  unfolding all raw_words kept_words numbers number_of word
+  unlike_none h = no_word (λ (w : List ℕ). bytes_eq w (word (number w))) x refl refl h
 
 -- ---- the listed words
 below : (ℕ → Bool) → ℕ → Bool
@@ -76,9 +78,9 @@ numbered_word k l = on (ltb k 47) refl (below_at in_its_table 53 k each_in_its_t
         let s = and_right (not (among (word k) raw_words)) (among (word k) kept_words) m in
         rw (e, r, s)
 
-pub is_listed : (x : List ℕ) (k : ℕ) → k < 53 → same x (word k) ≡ true → numbered (Some k) x ≡ addition x
+pub is_listed : (x : List ℕ) (k : ℕ) → k < 53 → bytes_eq x (word k) ≡ true → numbered (Some k) x ≡ addition x
 is_listed x k l h =
-    let f : x ≡ word k = same_sound x (word k) h in
+    let f : x ≡ word k = same_sound x (word k) (sym (same_bytes x (word k)) ∙ h) in
     ap (numbered (Some k)) f ∙ numbered_word k l ∙ ap addition (sym f)
 
 pub ruleset number_laws = (empty_none, long_none, numberless_none, unlike_none, is_listed)

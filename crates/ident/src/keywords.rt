@@ -111,8 +111,7 @@ fn word_number(name: &[u8]) -> Option<usize>
         return None;
     }
     let number = number_of(name[0], name[length / 2], length);
-    // `same_bytes`, which the laws of the words speak of: with `==` the proof did not close
-    if number < 53 && base::same_bytes(name, word(number)) {
+    if number < 53 && name == word(number) {
         Some(number)
     } else {
         None

@@ -10,6 +10,7 @@ mod prefix;
 pub mod text;
 
 /// The most bytes of a name that the convert call takes.
+// Its own, and not limits': the convert call reads no set.
 pub const MAX_NAME: usize = 64;
 
 /// The most bytes of the snake name of such a name.
@@ -76,6 +77,8 @@ impl From<Result<Spellings, NotConvertible>> for Converted {
     #[tactic(auto, unfolding(crate::specs::Convert::answered, crate::specs::Convert::refused, crate::specs::Convert::padded))]
     fn from(answer: Result<Spellings, NotConvertible>) -> Converted {
         match answer {
+            // Two variables first: tried with `spelt.snake` in the literal, and with a pattern's names there; the proof closed
+            // with neither, since an array may not go from a field straight into a literal.
             Ok(spelt) => {
                 let snake = spelt.snake;
                 let camel = spelt.camel;

@@ -23,6 +23,7 @@ fn is_written<F: Fn(&mut [u8]) -> usize>(want: &[u8], fill: F) -> bool
     buffer.get(..end) == Some(want)
 }
 
+// A text is begun, written and measured: over a closure that is no shorter.
 fn fill_stripped(buffer: &mut [u8], prefix: &[u8], name: &[u8]) -> usize {
     let mut text = Text::new(buffer);
     put_stripped(&mut text, prefix, name);
@@ -39,19 +40,17 @@ fn is_converted(name: &[u8], snake: &[u8], camel: &[u8]) -> bool {
 }
 
 fn names_are(line: &str) -> bool {
-    let Some((name, snake, camel)) = words(line) else {
-        return false;
-    };
-    is_written(snake, |buffer| fill_snake(buffer, name))
-        && is_written(camel, |buffer| fill_upper_camel(buffer, name))
-        && is_converted(name, snake, camel)
+    words(line).is_some_and(|(name, snake, camel)| {
+        is_written(snake, |buffer| fill_snake(buffer, name))
+            && is_written(camel, |buffer| fill_upper_camel(buffer, name))
+            && is_converted(name, snake, camel)
+    })
 }
 
 fn is_stripped(line: &str) -> bool {
-    let Some((prefix, name, stripped)) = words(line) else {
-        return false;
-    };
-    is_written(stripped, |buffer| fill_stripped(buffer, prefix, name))
+    words(line).is_some_and(|(prefix, name, stripped)| {
+        is_written(stripped, |buffer| fill_stripped(buffer, prefix, name))
+    })
 }
 
 fn run<F: Fn(&str) -> bool + Drop>(

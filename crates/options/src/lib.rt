@@ -82,10 +82,8 @@ impl<'a> Options<'a> {
     pub fn prost_path(&self) -> &'a [u8]
         ensures { result.now ≡ prost_path self.now }
     {
-        match self.find(Kind::ProstPath) {
-            Some(row) => row.value,
-            None => b"::prost",
-        }
+        self.find(Kind::ProstPath)
+            .map_or(b"::prost", |row| row.value)
     }
 
     /// Is an enum's name stripped from its values' names?

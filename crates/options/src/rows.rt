@@ -80,6 +80,8 @@ impl Header {
         ensures { result ≡ header bytes.now row }
     {
         let at = COUNT_BYTES + row * HEAD_BYTES;
+        // Tried by `number_at` alone, which misses the bar that no text call gets slower: that of 2,048 fields with 64 field attributes
+        // takes 16 percent longer.
         if let Some([a, b, c, d, e, f, g, h]) = bytes.get(at..at + HEAD_BYTES) {
             return Header {
                 kind: u16::from_le_bytes([*a, *b]),

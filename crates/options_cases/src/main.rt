@@ -19,12 +19,12 @@ fn check(options: &[u8]) -> Result<(), Refusal> {
 
 /// The values of all rows that a path finds, with commas between them.
 fn put_values(text: &mut Vec<u8>, options: &Options<'_>, path: &[u8]) -> Result<(), AllocError> {
-    let mut is_first = true;
-    for value in Values::new(options, Kind::TypeAttribute, path) {
-        if !is_first {
-            text.push(b',')?;
-        }
-        is_first = false;
+    let mut values = Values::new(options, Kind::TypeAttribute, path);
+    if let Some(first) = values.next() {
+        text.extend_from_slice(first)?;
+    }
+    for value in values {
+        text.push(b',')?;
         text.extend_from_slice(value)?;
     }
     Ok(())

@@ -10,6 +10,7 @@ use borrow.Author.Tests.{le-ltb, lt-ltb, ne_eqb}
 use Rattle.base.specs.Choose.{choose, choose_case, then_is, else_is}
 use Rattle.base.specs.Tests.{both_ways, and_left, and_right}
 use Rattle.base.specs.Bytes.{b, same, same_sound}
+use Rattle.base.proofs.BytesLaws.{same_bytes}
 use Rattle.options.specs.Settings.{Setting, found_at}
 use Rattle.options.specs.Found.{Found}
 use Rattle.path.specs.Forms.{filled, behind_dots, before_dots, suffixes, prefixes, sub_path_iter, among}
@@ -17,7 +18,7 @@ use Rattle.path.specs.PathMap.{get, get_in, first_with, find_best}
 use Rattle.path.specs.Worth.{Form, weigh, global, weighed, worth_in, worth_of, improve, best_of, none_yet, found_of}
 use Rattle.path.specs.declared.Best.{Best}
 use Rattle.std.specs.Str.{bytes_eq}
-use Rattle.path.proofs.FormLaws.{same_bytes, Falls, behind_falls, before_falls}
+use Rattle.path.proofs.FormLaws.{Falls, behind_falls, before_falls}
 
 -- by the two cases of a test
 by_test : (P : Bool → Type 0) (t : Bool) → (t ≡ true → P true) → (t ≡ false → P false) → P t

@@ -12,15 +12,8 @@ use borrow.Author.Tests.{eqb-true, eqb-false}
 use Rattle.std.specs.Str.{bytes_eq}
 use Rattle.base.specs.Choose.{choose}
 use Rattle.base.specs.Bytes.{same, same_length}
+use Rattle.base.proofs.BytesLaws.{same_bytes}
 use Rattle.path.specs.Forms.{behind_dots, before_dots, filled, suffixes, prefixes, among}
-
--- the library's equality of two byte strings
-pub same_bytes : (x y : List ℕ) → bytes_eq x y ≡ same x y
-unfolding same
-same_bytes [] [] = refl
-same_bytes [] (y ∷ ys) = refl
-same_bytes (x ∷ xs) [] = refl
-same_bytes (x ∷ xs) (y ∷ ys) = ap (λ (t : Bool). eqb x y && t) (same_bytes xs ys)
 
 -- ---- lengths fall, from below n on
 abbrev pub Falls : ℕ → List (List ℕ) → Type 0

@@ -1,3 +1,4 @@
 pub mod FormLaws
 pub mod BestLaws
 pub mod MatchLaws
+mod FoundLaws

@@ -37,5 +37,3 @@ module _ (kind : ℕ) (path : List ℕ) (r : Setting) (rs : List Setting) where
   pub get_other : eqb r.kind kind ≡ false → get kind path (r ∷ rs) ≡ get kind path rs
   unfolding get_in choose
   get_other k = rw k refl
-
-pub ruleset gets = (get_none, get_hit, get_miss, get_other)

@@ -97,8 +97,8 @@ fn row_worth(row: &Row<'_>, kind: u16, path: &[u8], all: bool) -> usize
     }
 }
 
-/// The row of a kind whose path is worth most, the first of several. `kind` may be any number: rows may have one that is no
-/// `Kind`.
+/// The row of a kind whose path is worth most, the first of several.
+// A number, and no `Kind`, as the definition `best_of` has it: rows may have a number that is no `Kind`.
 #[tactic(auto, unfolding(crate::specs::Worth::best_of))]
 pub fn best_row(options: &Options<'_>, kind: u16, path: &[u8], all: bool) -> Best
     ensures best { result ≡ best_of (weighed all path.now) kind none_yet 0 options.now }

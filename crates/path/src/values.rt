@@ -47,14 +47,10 @@ impl<'a> Iterator for Values<'a> {
 
     ghost remaining = { item_count (λ rest. rest) };
 
-    #[tactic(auto, using(crate::proofs::MatchLaws::gets))]
     fn next(&mut self) -> Option<&'a [u8]> {
-        // no `find`: its law says which row was found, and not which are left
-        while let Some(row) = self.rows.next() {
-            if row.is(self.kind) && crate::worth(self.path, true, row.path) != 0 {
-                return Some(row.value);
-            }
-        }
-        None
+        let kind = self.kind;
+        let path = self.path;
+        let found = self.rows.find(|row| row.is(kind) && crate::worth(path, true, row.path) != 0);
+        found.map(|row| row.value)
     }
 }

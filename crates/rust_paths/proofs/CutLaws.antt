@@ -11,8 +11,8 @@ use Rattle.base.specs.Choose.{choose, choose_case}
 use Rattle.base.specs.Tests.{both_ways, and_left, and_right}
 use borrow.Author.Tests.{eqb-true}
 use Rattle.std.specs.Str.{bytes_eq}
-use Rattle.path.proofs.FormLaws.{same_bytes}
 use Rattle.base.specs.Bytes.{b, same, same_sound}
+use Rattle.base.proofs.BytesLaws.{same_bytes}
 use Rattle.split.specs.Split.{begins, push, split_behind, split}
 use Rattle.rust_paths.specs.Parts.{cut, is_tail}
 use Rattle.split.proofs.SplitLaws.{begins_starts, by_test, split_is}

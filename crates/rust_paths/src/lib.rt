@@ -41,6 +41,8 @@ fn is_rest(q: &[u8]) -> bool
     q.is_empty() || q.starts_with(b"::")
 }
 
+// `camel` is a flag, as the definition `segments` takes it: with an enum each clause would turn it into one.
+
 /// The last part: in camel case where it is a type.
 #[tactic(auto, unfolding(writer::specs::Text::pick))]
 fn put_last(text: &mut Text<'_>, camel: bool, part: &[u8])

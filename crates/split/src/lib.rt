@@ -40,10 +40,12 @@ impl Separator {
 pub fn part_end(s: &[u8], separator: &[u8]) -> usize
     ensures { result ≡ first_part separator.now s.now }
 {
-    // no `windows`: it asks for a separator that isn't empty
+    // no `windows`: it asks for a separator that isn't empty, and this function asks nothing
     if let [byte] = separator {
         return s.iter().position(|own| own == byte).unwrap_or(s.len());
     }
+    // tried by `find` over the places, which misses the bar that no text call gets slower: descriptor.proto's takes 1.3 percent more
+    // instructions
     for i in 0..s.len() {
         if s[i..].starts_with(separator) {
             return i;
@@ -100,6 +102,8 @@ impl<'a> Iterator for Parts<'a> {
         Some(&rest[..end])
     }
 }
+
+// No code calls these two now: they stand with their promises.
 
 /// Is x one of the words of s, with blanks between them?
 pub fn is_word(s: &[u8], x: &[u8]) -> bool

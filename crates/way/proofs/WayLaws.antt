@@ -13,13 +13,13 @@ use Rattle.std.specs.List.{last_or, prefix_len, zip}
 use Rattle.std.proofs.lemmas.List.Folds.{length-prefix_len}
 use Rattle.base.specs.Choose.{choose}
 use Rattle.base.specs.Bytes.{b, same}
+use Rattle.base.proofs.BytesLaws.{same_bytes}
 use Rattle.writer.specs.declared.text.Text.{Text}
 use Rattle.writer.specs.Text.{each}
 use Rattle.writer.specs.Writing.{◌▻◌}
 use Rattle.writer.proofs.TextLaws.{appended}
 use Rattle.ident.specs.Ident.{to_snake, to_upper_camel}
 use Rattle.descriptor.specs.Descriptor.{Bytes}
-use Rattle.path.proofs.FormLaws.{same_bytes}
 use Rattle.split.specs.Split.{split}
 use Rattle.split.proofs.SplitLaws.{split_is}
 use Rattle.code_generator.specs.Piece.{through, way_text}

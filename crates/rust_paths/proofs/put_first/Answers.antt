@@ -1,7 +1,7 @@
 use Rattle.std.proofs.Common.{◌≡◌, false, sym, ◌∙◌}
 use Rattle.base.specs.Bytes.{b, same}
 use Rattle.base.specs.Choose.{choose}
-use Rattle.path.proofs.FormLaws.{same_bytes}
+use Rattle.base.proofs.BytesLaws.{same_bytes}
 use Rattle.rust_paths.specs.Segments.{first_segment}
 use Rattle.rust_paths.proofs.put_first.Goals as goal
 

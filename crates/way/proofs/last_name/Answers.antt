@@ -1,5 +1,3 @@
-use Rattle.std.specs.Prelude.{None}
-use Rattle.std.specs.List.{last_or}
 use Rattle.std.proofs.Common.{rules, ap, ◌∙◌}
 use Rattle.std.proofs.lemmas.Iterator.{items_from_drains}
 use Rattle.std.proofs.lemmas.Iterator.Consumers.{YieldsList-from_first}
