@@ -74,7 +74,8 @@ fn put_files(text: &mut Text<'_>, options: &Options<'_>, set: &[u8])
 }
 
 /// The fields of a set in declaration order, in a buffer, as far as it goes; how many there are.
-// Bytes of 1 and 0, and no truth values: a `Text` writes them, and counts what has no room.
+// Bytes of 1 and 0, and no truth values: a `Text` writes them, and counts what has no room. A text is begun, written and measured: over
+// a closure that is no shorter.
 pub fn boxed_settings(bytes: &mut [u8], options: &Options<'_>, set: &[u8]) -> usize
     ensures { Filled bytes.old (set_flags options.now set.now) bytes.new result }
 {

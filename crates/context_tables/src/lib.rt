@@ -28,10 +28,22 @@ fn fill<T: Copy, F: Fn(usize) -> T>(table: &mut [T], made: F)
 }
 
 // The flag that a table has at i, and false past its end.
+// One chain of std's functions, as for each table: a function over all would take what stands past the end too, and say no less.
 fn flag_at(flags: &[bool], i: usize) -> bool
     ensures { result ≡ get_or flags.now i false }
 {
     flags.get(i).copied().unwrap_or(false)
+}
+
+// Where a row's declaration lies.
+// No `From`: neither of the two types is of this crate.
+fn place_of(row: Row) -> Place
+    ensures { result ≡ record { start = row.start; end = row.end } }
+{
+    Place {
+        start: row.start,
+        end: row.end,
+    }
 }
 
 // Is message `i` a map entry?
@@ -127,10 +139,7 @@ impl Fields<'_> {
         }
         let field = message_graph::field_at(self.fields, k);
         let entry = index::row_of(self.rows, message_graph::place_of(field.target));
-        Some(Place {
-            start: entry.start,
-            end: entry.end,
-        })
+        Some(place_of(entry))
     }
 
     // The index of the oneof of field `k`; proto3_optional takes it out of its oneof. An index over 65,535 is left out.
@@ -156,10 +165,7 @@ impl Fields<'_> {
             looped: flag_at(self.boxed, k),
             copy: self.can(Derive::Copy, &self.can.copy, k),
             eq: self.can(Derive::Eq, &self.can.eq, k),
-            place: Place {
-                start: row.start,
-                end: row.end,
-            },
+            place: place_of(row),
             entry: self.entry(k),
             oneof: self.oneof(k),
         }
@@ -172,6 +178,8 @@ impl Fields<'_> {
         fill(rows, |k| self.row(k));
     }
 }
+
+// `n` stands beside the places: fields that their table has no room for are counted too.
 
 /// Both tables, from the rows of the messages' places and of the fields' places, of which there are `n`, the fields, and which
 /// messages are map entries. `boxed` is left with the fields that are boxed by a loop.

@@ -1,5 +1,6 @@
 pub mod PartLaws
 pub mod PlaceLaws
+pub mod FindLaws
 pub mod RoomLaws
 pub mod LengthLaws
 pub mod EnumLaws

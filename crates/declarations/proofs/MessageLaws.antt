@@ -2,14 +2,14 @@
 use mathlib.Core.Path.{◌≡◌, refl, sym, ap, ◌∙◌}
 use mathlib.Core.Bool.{Bool, true, false}
 use mathlib.Core.List.{List, [], ◌∷◌}
-use Prim.Native.Nat.{ℕ, zero, suc, ◌+◌, ◌-◌, ◌≤◌}
+use Prim.Native.Nat.{ℕ, zero, suc, ◌+◌, ◌-◌}
 use native.Mathlib.Numerals.{sub-one}
 use lib.ListN.{length, length-set}
 use Rattle.base.specs.Choose.{choose}
 use Rattle.declarations.specs.declared.places.Place.{Place}
 use Rattle.declarations.specs.Rows.{State, state, Became, has_room, room, push_message, places, declaration_row, declare_enums, declare_messages}
 use Rattle.declarations.specs.declared.Declaration.{Declaration as Row}
-use Rattle.declarations.specs.declared.Count.{Count}
+use Rattle.declarations.specs.declared.counts.Count.{Count}
 use Rattle.declarations.specs.declared.Kind.TheVariants.{Message}
 use Rattle.declarations.proofs.LengthLaws.{enums_length, messages_length}
 
@@ -37,12 +37,11 @@ module _ (bytes : List ℕ) (file up : ℕ) (x : State) where
 module _ (bytes : List ℕ) (left file up : ℕ) (all : State) where
   pub record Going (size : ℕ) (ps : List Place) (t : List Row) (c : Count) : Type 0 where
     pub long : length t ≡ size
-    pub fewer : c.messages ≤ c.rows
     pub left_over : declare_messages bytes file left up ps (state t c) ≡ all
 
   module _ (size : ℕ) (ps : List Place) (t : List Row) (c : Count) (going : Going size ps t c) where
     pub going_end : ps ≡ [] → Became all t c
-    going_end e = record { is = sym (messages_none bytes file up (state t c) left) ∙ sym (ap (λ (ps : List Place). declare_messages bytes file left up ps (state t c)) e) ∙ going.left_over; fewer = going.fewer }
+    going_end e = record { is = sym (messages_none bytes file up (state t c) left) ∙ sym (ap (λ (ps : List Place). declare_messages bytes file left up ps (state t c)) e) ∙ going.left_over; fewer = c.fewer }
 
     module _ (ne : left ≡ 0 → ⊥) (p : Place) (qs : List Place) (e : ps ≡ p ∷ qs) (r : Bool) (r_is : r ≡ has_room t c.rows) where
       abbrev row : Row
@@ -57,7 +56,7 @@ module _ (bytes : List ℕ) (left file up : ℕ) (all : State) where
 
       pub going_full : r ≡ false → Became all t c
       unfolding choose
-      going_full h = record { is = (let z : has_room t c.rows ≡ false = sym r_is ∙ h in rw z at opened); fewer = going.fewer }
+      going_full h = record { is = (let z : has_room t c.rows ≡ false = sym r_is ∙ h in rw z at opened); fewer = c.fewer }
 
       pub going_more : r ≡ true → (u v : List Row) (own next : Count)
           → Became (declare_enums bytes file (c.rows + 1) (places bytes 4 p) (push_message row (state t c))) u own
@@ -71,6 +70,5 @@ module _ (bytes : List ℕ) (left file up : ℕ) (all : State) where
                 ap (λ (y : State). length y.table) next_is.is ∙ messages_length bytes file (left - 1) (c.rows + 1) (places bytes 3 p) (state u own)
                 ∙ ap (λ (y : State). length y.table) own_is.is ∙ enums_length bytes file (c.rows + 1) (places bytes 4 p) (push_message row (state t c))
                 ∙ length-set t c.rows row ∙ going.long;
-            fewer = next_is.fewer;
             left_over = rw (next_is.is, own_is.is) (rw z at opened);
           }

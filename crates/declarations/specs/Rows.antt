@@ -10,7 +10,7 @@ use Rattle.declarations.specs.declared.places.Place.{Place}
 use Rattle.declarations.specs.declared.Kind.{Kind}
 use Rattle.declarations.specs.declared.Kind.TheVariants.{Package, Enum, Message}
 use Rattle.declarations.specs.declared.Declaration.{Declaration as Row}
-use Rattle.declarations.specs.declared.Count.{Count}
+use Rattle.declarations.specs.declared.counts.Count.{Count}
 
 -- the bytes at a place of the set
 abbrev pub bytes_at : List ℕ → Place → List ℕ

@@ -5,17 +5,15 @@ ghost use Rattle.std.specs.Prelude.{◌≡◌, true, ℕ, ◌+◌, ◌-◌, ◌<
 ghost use Rattle.wire.specs.Records.{part};
 ghost use Rattle.declarations.specs.Rows.{row_at, has_room, kind_number, push_message, state, Became, places, last_place, declaration_row, declare_enums, declare_messages, declare_members, declare_file, declared};
 
+pub use counts::Count;
 use descriptor::field_number::{
-    FILE_ENUM_TYPE, FILE_MESSAGE_TYPE, MESSAGE_ENUM_TYPE, MESSAGE_NESTED_TYPE,
+    FILE_ENUM_TYPE, FILE_MESSAGE_TYPE, FILE_PACKAGE, MESSAGE_ENUM_TYPE, MESSAGE_NESTED_TYPE, NAME,
+    SET_FILE,
 };
 use places::{Place, Places};
 
+pub mod counts;
 pub mod places;
-
-// The name of a message or an enum, and the package of a file, in descriptor.proto.
-const NAME: u64 = 1;
-
-const PACKAGE: u64 = 2;
 
 /// What a row declares: a file's package, an enum, or the message with a number in declaration order. No table has room for
 /// more messages than such a number counts.
@@ -28,6 +26,7 @@ pub enum Kind {
 
 /// A row: what it declares; where its name starts in the set, and its length; what it stands in (0, or one more than the
 /// row of that); the index of its file; and where its bytes lie.
+// Places in two numbers each: the definitions `no_row` and `declaration_row` are by these fields.
 // `up` is no `Option`, here and where rows are made: full names are defined by this number, which falls from a row to what it
 // stands in.
 #[derive(Clone, Copy)]
@@ -52,13 +51,6 @@ pub const NO_DECLARATION: Declaration = Declaration {
     end: 0,
 };
 
-/// How many rows there are, and how many of them are messages.
-#[derive(Clone, Copy)]
-pub struct Count {
-    pub rows: usize,
-    pub messages: usize,
-}
-
 impl Kind {
     /// The number of a kind: 0 for a package, 1 for an enum, 2 and its number for a message.
     #[tactic(auto, unfolding(crate::specs::Rows::kind_number))]
@@ -74,6 +66,7 @@ impl Kind {
 }
 
 /// A set and the table of its declarations, of which the first `count` rows are used.
+// The count beside the rows: the definitions of names and of refusals 6 and 7 take both.
 #[derive(Clone, Copy)]
 pub struct Declarations<'a> {
     pub set: &'a [u8],
@@ -83,6 +76,7 @@ pub struct Declarations<'a> {
 
 impl<'a> Declarations<'a> {
     /// The row with number `i`. No table has a row past 65,535.
+    // Its own, as for each table: a function over all would take the row past the end too, and say no less.
     #[tactic(auto, unfolding(crate::specs::Rows::row_at, base::specs::Choose::choose))]
     pub fn row(&self, i: usize) -> Declaration
         ensures { result ≡ row_at self.now.rows.now i }
@@ -90,10 +84,7 @@ impl<'a> Declarations<'a> {
         if 65535 < i {
             return NO_DECLARATION;
         }
-        match self.rows.get(i) {
-            Some(row) => *row,
-            None => NO_DECLARATION,
-        }
+        self.rows.get(i).copied().unwrap_or(NO_DECLARATION)
     }
 
     /// The bytes of what a row declares; what lies past the set's end is left out.
@@ -109,10 +100,7 @@ impl<'a> Declarations<'a> {
 fn has_room(rows: &[Declaration], i: usize) -> bool
     ensures { result ≡ has_room rows.now i }
 {
-    if 65535 < i {
-        return false;
-    }
-    i < rows.len()
+    i <= 65535 && i < rows.len()
 }
 
 // Where the last string with a field number of the message at a place lies.
@@ -140,6 +128,7 @@ fn declaration_row(set: &[u8], place: Place, file: usize, up: usize, kind: Kind)
 }
 
 // The enums with this field number of the message at a place.
+// A table and its count go in and out, here and below, as `state` and `Became` of the definitions have them.
 fn declare_enums(
     set: &[u8],
     part: Place,
@@ -149,7 +138,6 @@ fn declare_enums(
     rows: &mut [Declaration],
     counted: Count,
 ) -> Count
-    requires { counted.messages ≤ counted.rows }
     ensures { Became (declare_enums set.now file up (places set.now number part) (state rows.old counted)) rows.new result }
 {
     let mut count = counted;
@@ -159,7 +147,7 @@ fn declare_enums(
             return count;
         }
         rows[row] = declaration_row(set, place, file, up, Kind::Enum);
-        count.rows = row + 1;
+        count = count.with_row();
     }
     count
 }
@@ -173,17 +161,13 @@ fn declare_message(
     rows: &mut [Declaration],
     count: Count,
 ) -> Count
-    requires counted { count.messages ≤ count.rows }
-    requires room { has_room rows.old count.rows ≡ true }
+    requires { has_room rows.old count.rows ≡ true }
     ensures { Became (declare_enums set.now file (count.rows + 1) (places set.now 4 place) (push_message (declaration_row set.now file up (Kind.Message count.messages) place) (state rows.old count))) rows.new result }
 {
     // a cast: there is room for the row, so that the number is below 65,536
     let kind = Kind::Message(count.messages as u16);
     rows[count.rows] = declaration_row(set, place, file, up, kind);
-    let own = Count {
-        rows: count.rows + 1,
-        messages: count.messages + 1,
-    };
+    let own = count.with_message();
     declare_enums(set, place, MESSAGE_ENUM_TYPE, file, own.rows, rows, own)
 }
 
@@ -198,7 +182,6 @@ fn declare_messages(
     rows: &mut [Declaration],
     counted: Count,
 ) -> Count
-    requires { counted.messages ≤ counted.rows }
     ensures { Became (declare_messages set.now file left up (places set.now number part) (state rows.old counted)) rows.new result }
 {
     if left == 0 {
@@ -235,7 +218,6 @@ fn declare_members(
     rows: &mut [Declaration],
     count: Count,
 ) -> Count
-    requires { count.messages ≤ count.rows }
     ensures { Became (declare_members set.now file up part (state rows.old count)) rows.new result }
 {
     let messages = declare_messages(set, part, FILE_MESSAGE_TYPE, 16, file, up, rows, count);
@@ -249,10 +231,9 @@ fn declare_file(
     rows: &mut [Declaration],
     count: Count,
 ) -> Count
-    requires { count.messages ≤ count.rows }
     ensures { Became (declare_file set.now file part (state rows.old count)) rows.new result }
 {
-    let Some(package) = last_string(set, part, PACKAGE) else {
+    let Some(package) = last_string(set, part, FILE_PACKAGE) else {
         return declare_members(set, part, file, 0, rows, count);
     };
     if !has_room(rows, count.rows) {
@@ -267,10 +248,7 @@ fn declare_file(
         start: part.start,
         end: part.end,
     };
-    let own = Count {
-        rows: count.rows + 1,
-        messages: count.messages,
-    };
+    let own = count.with_row();
     declare_members(set, part, file, own.rows, rows, own)
 }
 
@@ -282,11 +260,8 @@ pub fn declare_set(set: &[u8], rows: &mut [Declaration]) -> Count
         start: 0,
         end: set.len(),
     };
-    let mut count = Count {
-        rows: 0,
-        messages: 0,
-    };
-    for (file, part) in Places::new(set, whole, 1).enumerate() {
+    let mut count = Count::none();
+    for (file, part) in Places::new(set, whole, SET_FILE).enumerate() {
         count = declare_file(set, part, file, rows, count);
     }
     count

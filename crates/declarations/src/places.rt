@@ -58,17 +58,14 @@ impl<'a> Iterator for Places<'a> {
 
     #[tactic(auto, unfolding(crate::specs::Places::places_in, base::specs::Choose::choose))]
     fn next(&mut self) -> Option<Place> {
-        // no `find`: its law says what was found, and not what is left
-        while let Some(record) = self.records.next() {
-            if let Ok(record) = record
-                && record.number == self.number
-            {
-                return Some(Place {
-                    start: record.start,
-                    end: record.start + bytes_in(record.value).len(),
-                });
-            }
-        }
-        None
+        let number = self.number;
+        let record = self
+            .records
+            .find(|record| record.is_ok_and(|record| record.number == number))?
+            .ok()?;
+        Some(Place {
+            start: record.start,
+            end: record.start + bytes_in(record.value).len(),
+        })
     }
 }

@@ -7,21 +7,18 @@ ghost use Rattle.message_graph.specs.Tab.{tab};
 ghost use Rattle.field_columns.specs.Columns.{owner_of, owner_at, byte_of, rows_counted, first_rows, before, start_at};
 
 use index::Row;
-use message_graph::{Index, MESSAGES};
+use message_graph::Index;
 
 // The most rows that a table has.
 const MOST_ROWS: usize = 65535;
 
 // The number of the message that a row with this `up` (see index's `Row`) stands in; 0 for a number that no message can have.
+#[tactic(auto, unfolding(crate::specs::Columns::owner_of, base::specs::Choose::choose))]
 fn owner_of(up: u16) -> Index
     ensures { result ≡ owner_of up }
 {
-    let i = usize::from(up).saturating_sub(1);
-    if i < MESSAGES {
-        // a cast: an `Index` holds each number below `MESSAGES`, by which the definition cuts it
-        return i as Index;
-    }
-    0
+    // An `Index` holds each number that a message can have. No Option: the definition gives 0.
+    Index::try_from(up.saturating_sub(1)).unwrap_or(0)
 }
 
 /// The number of the message that has field `i`.
@@ -32,6 +29,7 @@ pub fn owner_at(fields: &[Row], i: usize) -> Index
 }
 
 /// A number in one byte; 0 where it is over 255.
+// No Option: the definition gives 0.
 #[tactic(auto, unfolding(crate::specs::Columns::byte_of, base::specs::Choose::choose))]
 pub fn byte_of(n: u32) -> u8
     ensures { result ≡ byte_of n }
@@ -44,6 +42,8 @@ fn rows_counted(count: usize) -> usize
 {
     count.min(MOST_ROWS)
 }
+
+// A count stands beside the rows, here and below: rows that their table has no room for are counted too.
 
 // The first row from row `k` on that belongs to message `i` or a later one.
 fn start_from(fields: &[Row], count: usize, i: usize, k: usize) -> usize

@@ -5,9 +5,18 @@ use Prim.Native.Nat.{ℕ, ◌+◌, ◌≤◌, ◌<◌}
 use native.Mathlib.Omega.{arith}
 use lib.ListN.{length}
 use borrow.Author.Tests.{le-ltb, lt-ltb, eq-eqb, ne_eqb}
-use Rattle.std.specs.Prelude.{Result, Ok}
+use mathlib.Core.Bool.{true≢false}
+use mathlib.Core.Logic.{◌≢◌}
+use denote.Param.Members.{Mut, Called}
+use Rattle.std.specs.Prelude.{Result, Ok, Err, Option, None, Some, IsSome, IfOk, MatchOption}
+use Rattle.std.proofs.lemmas.Option.{none-some}
+use Rattle.std.specs.List.{FoldsTo}
+use Rattle.std.specs.Iterator.{Yields, YieldsThen, YieldsFirstBy}
+use Rattle.std.specs.Iterator.Adapters.{filter_map_source, filter_map_callee, filter_map_steps}
+use Rattle.std.specs.declared.iter.FilterMap.{FilterMap}
+use Rattle.wire.specs.declared.records.record.Record.{Record}
 use Rattle.base.specs.Choose.{choose}
-use Rattle.wire.specs.Message.{Entry, records_at, fields_in}
+use Rattle.wire.specs.Message.{Entry, record_seen, seen, records_at, fields_in}
 use Rattle.wire.specs.declared.records.record.Fault.{Fault as FaultAt}
 use Rattle.descriptor.specs.Descriptor.{Bytes, Forest}
 use Rattle.descriptor.proofs.EntriesLaws.{entries_read}
@@ -17,6 +26,9 @@ use Rattle.index.proofs.RoomLaws.{field_bytes, entries_take}
 use Rattle.index.proofs.SeenLaws.{held, Within, files_of, records_lie, files_seen}
 use Rattle.index.proofs.TreeLaws.{rows_length, fill_append}
 use Rattle.index.proofs.IndexLaws.{indexed_length, room_of}
+
+abbrev Left : Type 0
+Left = List (Result Entry FaultAt)
 
 module _ (number left : ℕ) (s : List ℕ) (t₀ : List Row) where
   pub record Going (t : List Row) (rs : List (Result Entry FaultAt)) (n file : ℕ) : Type 0 where
@@ -52,6 +64,10 @@ module _ (number left : ℕ) (s : List ℕ) (t₀ : List Row) where
   going_large h = rw (lt-ltb 32768 (length s) h) (record { table = refl; counted = refl })
 
   module _ (t : List Row) (n file : ℕ) where
+    going_fault : (f : FaultAt) (rs : List (Result Entry FaultAt)) → Going t (Err f ∷ rs) n file → Going t rs n file
+    unfolding fields_in field_bytes files_of
+    going_fault f rs going = record { small = going.small; few = going.few; files = going.files; within = going.within; long = going.long; table = going.table; counted = going.counted }
+
     pub going_end : (all : List (Result Entry FaultAt)) → all ≡ [] → Going t all n file → IndexedFiles (file_forests number left s) t₀ t n
     unfolding rows_of fill total files_of
     going_end all is before = let going : Going t [] n file = subst (λ (x : List (Result Entry FaultAt)). Going t x n file) is before in let c = going.counted in record { table = going.table; counted = omega arith }
@@ -88,9 +104,6 @@ module _ (number left : ℕ) (s : List ℕ) (t₀ : List Row) where
         pub file_fits : (k : ℕ) → k ≡ length (held e) → (e.start + k < 65536) × (n + k < 65536)
         file_fits k k_is = let w = going.within.0 in let a = few_left in let small = going.small in (omega arith, omega arith)
 
-        pub few_files : file < 65535
-        few_files = let b = files_left in let small = going.small in omega arith
-
         pub going_file : e.field.number ≡ 1 → (x : Bytes) → x ≡ held e
             → (w : List Row) (next : ℕ) → Indexed (forest_in left number x e.start) file 0 t n w next → next ≤ n + length x → Going w rs next (file + 1)
         unfolding files_of choose rows_of total
@@ -120,3 +133,44 @@ module _ (number left : ℕ) (s : List ℕ) (t₀ : List Row) where
                   ∙ table_all;
               counted = (let z : next + total following ≡ n + (size F + total following) = omega arith in z) ∙ count_all;
             }
+
+    -- what `filter_map` over the records passes over, and what it gives
+    module _ {F : Type 0} (g : Mut F (Result Record FaultAt × Unit {0}) (Option Record))
+        (called : (p : F) (x : Result Record FaultAt) (r : Option Record) (q : F) → Called g p (x, tt) r q
+        → MatchOption r (IfOk x (λ e. e.number ≢ 1)) (λ e. (x ≡ Ok e) × (e.number ≡ 1))) where
+      abbrev Steps : Left → Option (Result Record FaultAt) → Left → Type 0
+      Steps = YieldsFirstBy seen (λ (rest : Left). rest)
+
+      going_pass : (x : Result Record FaultAt) (all rs : Left) → all ≡ seen x ∷ rs → IfOk x (λ e. e.number ≢ 1) → Going t all n file → Going t rs n file
+      going_pass (Ok e) all rs is h before = going_skip all rs (record_seen e) is before h
+      going_pass (Err f) all rs is h before = going_fault f rs (subst (λ (l : Left). Going t l n file) is before)
+
+      going_over : (xs : List (Result Record FaultAt)) (s u : Left) (p q : F) → Yields Steps s xs u → FoldsTo (λ p x q. Called g p (x, tt) None q) p xs q → Going t s n file → Going t u n file
+      going_over [] s u p q y z before = subst (λ (l : Left). Going t l n file) y before
+      going_over (x ∷ xs) s u p q y z before = going_over xs y.0 u z.0 q y.2 z.2 (going_pass x s y.0 y.1 (called p x None z.0 z.1) before)
+
+      module _ (from to : FilterMap Left F) where
+        first_file : (e : Record) (xs : List (Result Record FaultAt)) (o : Option (Result Record FaultAt)) (q : F) → YieldsThen Steps (filter_map_source from) xs o (filter_map_source to)
+            → FoldsTo (λ p x q. Called g p (x, tt) None q) (filter_map_callee from) xs q
+            → MatchOption o (◌≡◌ {A = Option Record} (Some e) None × (filter_map_callee to ≡ q)) (λ x. Called g q (x, tt) (Some e) (filter_map_callee to) × IsSome (Some e))
+            → Going t (filter_map_source from) n file → (e.number ≡ 1) × Going t (Ok (record_seen e) ∷ filter_map_source to) n file
+        first_file e xs None q y z h before = absurd (none-some e (sym h.0))
+        first_file e xs (Some x) q y z h before =
+            let mid = going_over xs (filter_map_source from) y.0 (filter_map_callee from) q y.1 z before in
+            let is = called q x (Some e) (filter_map_callee to) h.0 in
+            (is.1, subst (λ (l : Left). Going t l n file) (y.2 ∙ ap (λ (r : Result Record FaultAt). seen r ∷ filter_map_source to) is.0) mid)
+
+        pub next_file : (e : Record) → filter_map_steps Steps g from (Some e) to → Going t (filter_map_source from) n file
+            → (e.number ≡ 1) × Going t (Ok (record_seen e) ∷ filter_map_source to) n file
+        next_file e ran = first_file e ran.0 ran.1 ran.2 ran.3 ran.4 ran.5
+
+        last_file : (xs : List (Result Record FaultAt)) (o : Option (Result Record FaultAt)) (q : F) → YieldsThen Steps (filter_map_source from) xs o (filter_map_source to)
+            → FoldsTo (λ p x q. Called g p (x, tt) None q) (filter_map_callee from) xs q
+            → MatchOption o (◌≡◌ {A = Option Record} None None × (filter_map_callee to ≡ q)) (λ x. Called g q (x, tt) None (filter_map_callee to) × IsSome {T = Record} None)
+            → Going t (filter_map_source from) n file → Going t [] n file
+        last_file xs None q y z h before =
+            subst (λ (l : Left). Going t l n file) y.2.0 (going_over xs (filter_map_source from) y.0 (filter_map_callee from) q y.1 z before)
+        last_file xs (Some x) q y z h before = absurd (true≢false (sym h.1))
+
+        pub no_file : filter_map_steps Steps g from None to → Going t (filter_map_source from) n file → Going t [] n file
+        no_file ran = last_file ran.0 ran.1 ran.2 ran.3 ran.4 ran.5

@@ -1,12 +1,12 @@
 //! Where the declarations of a set lie: how many there are, and a table of them in declaration order.
 #![tactic(auto)]
 
-ghost use Rattle.std.specs.Prelude.{◌≡◌, ◌+◌, ◌<◌, ◌≤◌, length};
+ghost use Rattle.std.specs.Prelude.{◌≡◌, ◌≢◌, ◌+◌, ◌<◌, ◌≤◌, length, Ok, IfOk, MatchOption};
 ghost use Rattle.index.specs.Tree.{forest_in, put, Indexed, file_forests, IndexedFiles, row_at, row_bytes, Holds, all_members};
 
 use descriptor::bytes_in;
 use descriptor::field_number::{MESSAGE_NESTED_TYPE, SET_FILE};
-use wire::records::Records;
+use wire::records::{Fault, Record, Records};
 
 /// A declaration of a set.
 #[derive(Clone, Copy)]
@@ -59,7 +59,8 @@ fn put_row(rows: &mut [Row], i: usize, row: Row)
 
 // The rows of the embedded messages with this field number of a part that starts at `base` of the set, and of those nested
 // in them, from row `i` on. `file` and `up` are as in `Row`.
-// A table and its next row go in and out, as the definition `Indexed` has them: a struct of both would be lent to each level.
+// No struct of a table and its next row: both functions that call this are lent a table and give the row behind the last, so that
+// each would make the struct and take it apart again.
 fn index_in(
     part: &[u8],
     base: usize,
@@ -78,6 +79,7 @@ fn index_in(
         return i;
     }
     let mut next = i;
+    // no `filter_map` as in `index_files`: its closure captures `number`; it was tried, and its proof did not close
     for record in Records::new(part, base) {
         if let Ok(record) = record
             && record.number == number
@@ -102,24 +104,27 @@ fn index_in(
     next
 }
 
+// The record, where it can be read and holds a file.
+fn file_in(read: Result<Record<'_>, Fault>) -> Option<Record<'_>>
+    ensures { MatchOption result (IfOk read.entry (λ r. r.number ≢ 1)) (λ r. (read.entry ≡ Ok r) × (r.number ≡ 1)) }
+{
+    read.ok().filter(|record| record.number == SET_FILE)
+}
+
 /// The rows of the files' embedded messages with this field number, in so many levels: of their messages (4, in 16 levels),
 /// or of their own enums (5, in 1). Where the table is too short, the rows that it has no room for are counted.
 pub fn index_files(set: &[u8], number: u64, left: usize, rows: &mut [Row]) -> usize
     ensures { IndexedFiles (file_forests number left set.now) rows.old rows.new result }
 {
+    // the bound of the definition `file_forests`
     if 32768 < set.len() {
         return 0;
     }
     let mut next = 0;
-    let mut file = 0;
-    for record in Records::new(set, 0) {
-        if let Ok(record) = record
-            && record.number == SET_FILE
-        {
-            let bytes = bytes_in(record.value);
-            next = index_in(bytes, record.start, number, left, file, 0, rows, next);
-            file += 1;
-        }
+    let files = Records::new(set, 0).filter_map(file_in);
+    for (file, record) in files.enumerate() {
+        let bytes = bytes_in(record.value);
+        next = index_in(bytes, record.start, number, left, file, 0, rows, next);
     }
     next
 }
@@ -151,6 +156,7 @@ pub fn index_members(
 ) -> usize
     ensures { Holds (all_members set.now number messages.now count i) rows.old i rows.new result }
 {
+    // these bounds and the one below: of the definitions `all_members` and `members`
     if 32768 < set.len() {
         return i;
     }

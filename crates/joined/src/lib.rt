@@ -111,10 +111,9 @@ impl Name {
         ensures { result ≡ take 512 (package_scope (decode_file part.now).package_name) }
     {
         let header = FileHeader::new(part);
-        match header.package {
-            Some(name) => Name::new(b"", name),
-            None => Name::root(),
-        }
+        header
+            .package
+            .map_or_else(Name::root, |name| Name::new(b"", name))
     }
 
     /// Its bytes.

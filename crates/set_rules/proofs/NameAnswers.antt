@@ -18,7 +18,7 @@ use Rattle.base.specs.declared.refusal.Refusal.TheVariants.{Declaration, TypeNam
 use Rattle.std.specs.Prelude.{Result, Ok, Err}
 use Rattle.declarations.specs.Rows.{State, has_room, declared, Became}
 use Rattle.declarations.specs.Listed.{listed, listed_files}
-use Rattle.declarations.specs.declared.Count.{Count}
+use Rattle.declarations.specs.declared.counts.Count.{Count}
 use Rattle.declarations.specs.declared.Declaration.{Declaration as Row}
 use Rattle.declarations.proofs.SetLaws.{set_listed, set_room}
 use Rattle.declared_types.specs.Undeclared.{first_undeclared_row}

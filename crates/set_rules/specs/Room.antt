@@ -4,7 +4,7 @@ use Rattle.descriptor.specs.Descriptor.{Bytes}
 use Rattle.descriptor.specs.Decode.{decode_set}
 use Rattle.declarations.specs.Rows.{declared, Became}
 use Rattle.declarations.specs.Listed.{listed_files}
-use Rattle.declarations.specs.declared.Count.{Count}
+use Rattle.declarations.specs.declared.counts.Count.{Count}
 use Rattle.declarations.specs.declared.Declaration.{Declaration}
 use Rattle.map_entries.specs.declared.Namers.{Namers}
 

@@ -6,7 +6,7 @@ ghost use Rattle.descriptor.specs.Decode.{decode_set};
 ghost use Rattle.descriptor.specs.Limits.{limit_passed};
 ghost use Rattle.name_rules.specs.Answer.{names};
 ghost use Rattle.declarations.specs.Rows.{no_row};
-ghost use Rattle.declarations.specs.declared.Count.{Count};
+ghost use Rattle.declarations.specs.declared.counts.Count.{Count};
 ghost use Rattle.map_entries.specs.declared.Namers.TheVariants.{Nobody};
 ghost use Rattle.set_rules.specs.Judge.{judge_set};
 ghost use Rattle.set_rules.specs.Room.{Room, Declares};

@@ -23,7 +23,7 @@ use Rattle.message_graph.specs.Rows.{no_field, fields_of, settings_of}
 use Rattle.field_columns.proofs.SetColumns.{map_tab}
 use Rattle.message_graph.specs.Tab.{tab}
 use Rattle.declarations.specs.Rows.{State, declared, Became}
-use Rattle.declarations.specs.declared.Count.{Count}
+use Rattle.declarations.specs.declared.counts.Count.{Count}
 use Rattle.declarations.specs.declared.Declaration.{Declaration}
 use Rattle.boxed_settings.specs.Flags.{set_flags}
 use Rattle.targets.specs.Targets.{field_in}

@@ -10,16 +10,15 @@ use declarations::{Declaration, Declarations, NO_DECLARATION};
 use descriptor::field_number::{FILE_MESSAGE_TYPE, MESSAGE_FIELD};
 use index::{NO_ROW, Row};
 use limits::SHORT;
-use message_graph::{Field, MESSAGES, NO_FIELD};
+use limits::limit::{MAX_FIELDS, MAX_MESSAGES};
+use message_graph::{Field, NO_FIELD};
 use options::{Kind, Options};
 use set_rules::{ROWS, SHORT_ROWS};
 use text_tables::{FieldRow, MessageRow};
 use type_names::Names;
 
-// Limit 4, and what a short set has at most.
-const FIELDS: usize = 2048;
-
-const SHORT_FIELDS: usize = 150;
+/// How many fields a short set has at most.
+pub const SHORT_FIELDS: usize = 150;
 
 // The fields, given the bytes that have the boxed settings, with a table for the declarations, and one for the checksums of their
 // names.
@@ -49,6 +48,7 @@ fn put_settings(bytes: &mut [u8], set: &[u8], options: &Options<'_>)
 }
 
 // The fields that have their places in `places`, of a set with at most so many fields, and so many files and declarations.
+// A const parameter has no invariant, so its bound is asked for, here and in `fill_within`.
 fn fields_within<const SIZE: usize, const DECLARED: usize>(
     set: &[u8],
     options: &Options<'_>,
@@ -75,10 +75,11 @@ fn fill_fields(set: &[u8], options: &Options<'_>, places: &[Row], fields: &mut [
         fields_within::<SHORT_FIELDS, SHORT_ROWS>(set, options, places, fields);
         return;
     }
-    fields_within::<FIELDS, ROWS>(set, options, places, fields);
+    fields_within::<MAX_FIELDS, ROWS>(set, options, places, fields);
 }
 
 // A table of places and how many there are go side by side in what follows: there may be more than the table has room for.
+// So do the set, the options and the two tables: a `Context` lends the tables once they are filled.
 
 // Which messages are map entries, in a table that has none so far: only the first `count` may be.
 fn fill_entries(set: &[u8], rows: &[Row], count: usize, entries: &mut [bool])
@@ -109,7 +110,7 @@ fn fill_rows(
     ensures messages_after { messages.new ≡ message_table (length messages.old) rows.now places.now n (columns_at (length graph.old) set.now places.now) (settings_to (length graph.old) set.now options.now) }
     ensures fields_after { fields.new ≡ field_table (length fields.old) (length graph.old) set.now rows.now places.now (columns_at (length graph.old) set.now places.now) (settings_to (length graph.old) set.now options.now) (entries_by set.now rows.now) }
 {
-    let mut entries = [false; MESSAGES];
+    let mut entries = [false; MAX_MESSAGES];
     fill_entries(set, rows, count, &mut entries);
     fill_fields(set, options, places, graph);
     context_tables::fill_rows(
@@ -193,11 +194,11 @@ pub fn fill_tables(
     ensures messages_after { messages.new ≡ message_rows (length messages.old) set.now options.now }
     ensures fields_after { fields.new ≡ field_rows_in fields.old set.now options.now }
 {
-    let mut rows = [NO_ROW; MESSAGES];
+    let mut rows = [NO_ROW; MAX_MESSAGES];
     let count = index::index_files(set, FILE_MESSAGE_TYPE, 16, &mut rows);
     if set.len() <= SHORT {
         fill_within::<SHORT_FIELDS>(set, options, messages, fields, &rows, count);
         return;
     }
-    fill_within::<FIELDS>(set, options, messages, fields, &rows, count);
+    fill_within::<MAX_FIELDS>(set, options, messages, fields, &rows, count);
 }

@@ -13,15 +13,6 @@ use index::Row;
 use message_graph::{Field, Index};
 use type_names::{Names, Sort};
 
-// A message's number as a byte; 0 where a byte has no room for it.
-#[tactic(auto, unfolding(field_columns::specs::Columns::byte_of, base::specs::Choose::choose))]
-fn index_of(number: u16) -> Index
-    ensures { result ≡ byte_of number }
-{
-    // a cast, and 0: as the definition `byte_of` cuts it
-    if number < 256 { number as Index } else { 0 }
-}
-
 // The number of a message whose row has this kind; 0 for another kind.
 // No Option: the definition gives 0, which is read of messages and groups alone.
 fn number_of(kind: Kind) -> Index
@@ -29,7 +20,7 @@ fn number_of(kind: Kind) -> Index
 {
     match kind {
         Kind::Package | Kind::Enum => 0,
-        Kind::Message(number) => index_of(number),
+        Kind::Message(number) => field_columns::byte_of(u32::from(number)),
     }
 }
 
@@ -37,6 +28,7 @@ fn number_of(kind: Kind) -> Index
 fn message_named(names: &Names<'_>, name: &[u8]) -> Index
     ensures { result ≡ message_named names.now.declared.set.now names.now.declared.rows.now names.now.declared.count name.now }
 {
+    // No `map_or`: the proof learns nothing of a closure of two calls, and one with a clause is longer.
     match names.find(name, Sort::Message) {
         Some(row) => number_of(names.declared.row(row).kind),
         None => 0,

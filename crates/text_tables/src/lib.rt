@@ -99,9 +99,6 @@ impl FieldRow {
     pub fn is_in(&self, index: usize) -> bool
         ensures { result ≡ is_in index self.now }
     {
-        match self.oneof {
-            Some(own) => usize::from(own) == index,
-            None => false,
-        }
+        matches!(self.oneof, Some(own) if usize::from(own) == index)
     }
 }

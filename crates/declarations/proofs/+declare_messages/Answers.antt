@@ -5,7 +5,7 @@ use mathlib.Core.Path.{sym, ◌∙◌}
 use Rattle.declarations.proofs.+declare_messages.Goals as goal
 
 pub returns-then-left-eq0 : goal.returns-then-left-eq0
-returns-then-left-eq0 t c = record { is = none_left _ _ _ _ _ _ c.if-left-eq0.true; fewer = c.requires }
+returns-then-left-eq0 t c = record { is = none_left _ _ _ _ _ _ c.if-left-eq0.true; fewer = c.args.counted.fewer }
 
 pub returns-then-not-has_room : goal.returns-then-not-has_room
 returns-then-not-has_room t c = going_full _ _ _ _ _ _ _ _ _ c.loop-place.invariant c.if-left-eq0.false _ _ c.in-Some.ensures.steps _ c.has_room.ensures c.if-not-has_room.true

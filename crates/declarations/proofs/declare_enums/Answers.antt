@@ -13,11 +13,11 @@ offset_bounds-rows-row c = omega (arith, room_is _ _ (sym c.has_room.ensures ∙
 pub bounds-rows-row : goal.bounds-rows-row
 bounds-rows-row c = (room_is _ _ (sym c.has_room.ensures ∙ c.if-not-has_room.false)).1
 
-pub overflow_add-count : goal.overflow_add-count
-overflow_add-count c = omega (arith, room_is _ _ (sym c.has_room.ensures ∙ c.if-not-has_room.false))
+pub with_row-count-requires : goal.with_row-count-requires
+with_row-count-requires c = omega (arith, room_is _ _ (sym c.has_room.ensures ∙ c.if-not-has_room.false))
 
 pub loop-place-preserved : goal.loop-place-preserved
-loop-place-preserved c = going_more _ _ _ _ _ _ _ _ c.loop-place.invariant _ _ c.in-Some.ensures.steps _ c.has_room.ensures c.if-not-has_room.false _ c.declaration_row.ensures
+loop-place-preserved c = going_more _ _ _ _ _ _ _ _ c.loop-place.invariant _ _ c.in-Some.ensures.steps _ c.has_room.ensures c.if-not-has_room.false _ c.declaration_row.ensures _ c.with_row-count.ensures.rows c.with_row-count.ensures.messages
 
 pub returns : goal.returns
 returns c = going_end _ _ _ _ _ _ _ _ c.loop-place.invariant c.in-None.ensures.steps.0

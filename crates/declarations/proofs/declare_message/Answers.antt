@@ -3,16 +3,13 @@ use native.Mathlib.Omega.{arith}
 use Rattle.declarations.proofs.declare_message.Goals as goal
 
 pub overflow_cast-kind : goal.overflow_cast-kind
-overflow_cast-kind c = omega (arith, c.requires.counted, room_is _ _ c.requires.room)
+overflow_cast-kind c = omega (arith, c.args.count.fewer, room_is _ _ c.requires)
 
 pub offset_bounds-rows-count : goal.offset_bounds-rows-count
-offset_bounds-rows-count c = omega (arith, room_is _ _ c.requires.room)
+offset_bounds-rows-count c = omega (arith, room_is _ _ c.requires)
 
 pub bounds-rows-count : goal.bounds-rows-count
-bounds-rows-count c = (room_is _ _ c.requires.room).1
+bounds-rows-count c = (room_is _ _ c.requires).1
 
-pub overflow_add-own : goal.overflow_add-own
-overflow_add-own c = omega (arith, room_is _ _ c.requires.room)
-
-pub overflow_add-own-2 : goal.overflow_add-own-2
-overflow_add-own-2 c = omega (arith, c.requires.counted, room_is _ _ c.requires.room)
+pub with_message-own-requires : goal.with_message-own-requires
+with_message-own-requires c = omega (arith, room_is _ _ c.requires)

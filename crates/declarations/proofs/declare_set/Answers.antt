@@ -1,18 +1,17 @@
-use mathlib.Core.Path.{◌≡◌, refl}
+use mathlib.Core.Path.{◌≡◌}
 use lib.ListN.{length}
 use native.Mathlib.Omega.{arith}
 use Rattle.std.proofs.lemmas.Grind.{common_steps}
 use Rattle.std.specs.Iterator.Adapters.{enumerate_source, enumerate_count}
-use Rattle.declarations.specs.Rows.{places, declared}
-use Rattle.declarations.proofs.FileLaws.{going_end, going_more}
+use Rattle.declarations.specs.Rows.{places}
+use Rattle.declarations.proofs.FileLaws.{going_start, going_end, going_more}
 use Rattle.declarations.proofs.declare_set.Goals as goal
 
 pub loop-file-init : goal.loop-file-init
-unfolding declared
 loop-file-init c =
     let none : enumerate_count c.into_iter-file-iterator.result ≡ 0 = grind (arith, common_steps) in
     let all : enumerate_source c.into_iter-file-iterator.result ≡ places c.args.set.now 1 (record { start = 0; end = length c.args.set.now }) = grind (arith, common_steps) in
-    rw (none, all) (record { long = refl; fewer = omega arith; left = refl })
+    rw (none, all) (going_start _ _ c.none-count.result c.none-count.ensures.rows c.none-count.ensures.messages)
 
 pub loop-file-preserved : goal.loop-file-preserved
 loop-file-preserved c =

@@ -1,4 +1,4 @@
-use mathlib.Core.Path.{◌≡◌, refl}
+use mathlib.Core.Path.{◌≡◌, refl, ap, ◌∙◌}
 use mathlib.Core.Logic.{⊎_elim}
 use Prim.Native.Nat.{◌+◌, ◌-◌}
 use native.Mathlib.Omega.{arith}
@@ -13,4 +13,4 @@ returns-in-Package c = ⊎_elim (λ e. rw e refl) (λ e. rw e refl) c.in-Package
 
 pub returns-in-Message : goal.returns-in-Message
 unfolding kind_number
-returns-in-Message c = let z : c.in-Message.number + 2 - 2 ≡ c.in-Message.number = omega arith in rw (c.in-Message.is, z) c.index_of.ensures
+returns-in-Message c = let z : c.in-Message.number + 2 - 2 ≡ c.in-Message.number = omega arith in rw (c.in-Message.is, z) (c.byte_of.ensures ∙ ap byte_of c.from.ensures)
