@@ -4,7 +4,8 @@
 ghost use Rattle.std.specs.Prelude.{◌≡◌};
 ghost use Rattle.writer.specs.Text.{pick};
 ghost use Rattle.options.specs.Kind.{kind_number};
-ghost use Rattle.path.specs.PathMap.{get, get_first};
+ghost use Rattle.path.specs.PathMap.{get};
+ghost use Rattle.context.specs.Context.{should_skip_debug};
 ghost use Rattle.joined.specs.Joined.{fits};
 ghost use Rattle.code_generator.specs.Piece.{◌⟫◌, piece, raw, when, push_indent};
 ghost use Rattle.code_generator.specs.Writing.{◌⊳◌};
@@ -129,7 +130,7 @@ pub fn append_prost_path_attribute(text: &mut Text<'_>, options: &Options<'_>)
 /// Does a row ask that the `Debug` of a type is left to the user?
 #[tactic(auto, using(crate::proofs::AttributeLaws::number_there))]
 pub fn should_skip_debug(options: &Options<'_>, full: &[u8]) -> bool
-    ensures { result ≡ (get_first 9 full.now options.now).found }
+    ensures { result ≡ should_skip_debug options.now full.now }
 {
     path::get_first(options, Kind::SkipDebug, full).is_some()
 }

@@ -22,6 +22,7 @@ fn type_good(part: &[u8], names: &Names<'_>) -> bool
     let sort = match field.kind() {
         TYPE_MESSAGE | TYPE_GROUP => Sort::Message,
         TYPE_ENUM => Sort::Enum,
+        // one test of several steps: by an Option of a sort it is no plainer
         _ => return true,
     };
     names.find(field.type_name(), sort).is_some()
@@ -44,15 +45,13 @@ fn is_row_good(names: &Names<'_>, row: usize) -> bool
         Kind::Package => true,
         Kind::Enum => !names.declared_before(row),
         Kind::Message(_) => {
-            if names.declared_before(row) {
-                return false;
-            }
-            types_good(names.declared.bytes_of(declaration), names)
+            !names.declared_before(row) && types_good(names.declared.bytes_of(declaration), names)
         }
     }
 }
 
-/// The file of the first row with refusal 7; the count of files where there is none.
+/// The file of the first row with refusal 7, and the count of files where there is none: so the definition has it, and `set_rules`
+/// compares it with that count.
 pub fn first_undeclared(names: &Names<'_>) -> usize
     ensures { result ≡ first_undeclared_row names.now.declared.set.now names.now.declared.rows.now names.now.declared.count }
 {

@@ -4,9 +4,9 @@ use mathlib.Core.Bool.{Bool, true, false}
 use mathlib.Core.List.{List, ◌∷◌}
 use Prim.Native.Nat.{ℕ, zero, suc, ◌+◌, ◌≤◌, ◌<◌}
 use native.Mathlib.Omega.{arith}
-use lib.Dec.{eqb, ltb}
+use lib.Dec.{eqb}
 use lib.ListN.{length, get_or, replicate}
-use borrow.Author.Tests.{eq-eqb, ne_eqb, eqb-true, eqb-false, ltb-false}
+use borrow.Author.Tests.{eq-eqb, ne_eqb, eqb-true, eqb-false}
 use Rattle.std.proofs.lemmas.List.{get_or-map}
 use Rattle.base.specs.Choose.{choose}
 use Rattle.base.specs.Lists.{map_length}
@@ -43,8 +43,8 @@ module _ (who : List Namers) (i : ℕ) where
   pub said_at : (x : Namers) → i < length who → x ≡ get_or who i Nobody → number_of x ≡ get_or (numbers who) i 0
   said_at x h e = ap number_of e ∙ sym (get_or-map number_of who i Nobody 0 h)
 
-  pub said_past : false ≡ ltb i (length who) → length (numbers who) ≤ i
-  said_past h = let n = map_length number_of who in let l = ltb-false i (length who) (sym h) in omega arith
+  pub said_past : length who ≤ i → length (numbers who) ≤ i
+  said_past h = let n = map_length number_of who in omega arith
 
 pub all_nobody : (n : ℕ) → numbers (replicate n Nobody) ≡ replicate n 0
 unfolding number_of

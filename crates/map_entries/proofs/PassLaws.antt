@@ -1,5 +1,4 @@
 -- The pass over the fields: what is noted. Assumes nothing.
-use Rattle.std.specs.Prelude.{Some}
 use mathlib.Core.Path.{◌≡◌, refl, sym, ap, ◌∙◌}
 use mathlib.Core.Bool.{Bool, true, false}
 use mathlib.Core.List.{List, [], ◌∷◌, ◌++◌}
@@ -24,8 +23,8 @@ use Rattle.declarations.specs.Listed.{full, listed_row, listed}
 use Rattle.declarations.specs.declared.Declaration.{Declaration as Row}
 use Rattle.checksums.specs.Sums.{sum_of}
 use Rattle.type_names.specs.LookUp.{named}
-use Rattle.type_names.specs.RowSums.{Others, Seeking, Seeks, SeeksOn}
 use Rattle.type_names.proofs.RowSumLaws.{name_other}
+use Rattle.type_names.proofs.WalkLaws.{Skips}
 use Rattle.map_entries.specs.Named.{Use, is_mapping, field_use, part_use, row_uses, uses, vote, joined, noted, noted_rows, tally, naming}
 use Rattle.map_entries.specs.Numbers.{number_of, numbers}
 use Rattle.map_entries.specs.declared.Namers.{Namers}
@@ -91,73 +90,31 @@ module _ (bytes : List ℕ) (t : List Row) where
     pub rows_start : Noted who₀ n
     rows_start = record { is = refl; size = refl }
 
-    module _ (who : List ℕ) (i : ℕ) (p : Noted who i) where
-      pub rows_end : i ≤ 0 → who ≡ noted_rows bytes t name v n who₀
+    -- rows with other checksums
+    pub rows_skip : (sum : ℕ) → sum ≡ sum_of name → (who : List ℕ) → Skips bytes t sum (Noted who)
+    rows_skip sum sum_is who = record {
+      over = λ i k p l others. record { is = rows_none name v k who i l (λ j a h. name_other bytes t sum k i others j a h name sum_is) ∙ p.is; size = p.size };
+    }
+
+    pub rows_end : (who : List ℕ) → Noted who 0 → who ≡ noted_rows bytes t name v n who₀
+    unfolding noted_rows
+    rows_end who p = p.is
+
+    module _ (who : List ℕ) (row : ℕ) (p : Noted who (row + 1)) (r : Bool) (r_is : r ≡ named bytes t name row) where
+      one : noted_rows bytes t name v (row + 1) who ≡ choose r (noted row v (noted_rows bytes t name v row who)) (noted_rows bytes t name v row who)
       unfolding noted_rows
-      rows_end h = let z : i ≡ 0 = omega arith in rw z at p.is
+      one = rw r_is (ap (λ (m : ℕ). noted_rows bytes t name v m who) (add-one row))
 
-      module _ (h : 0 < i) (r : Bool) (r_is : r ≡ named bytes t name (i - 1)) where
-        one : noted_rows bytes t name v i who ≡ choose r (noted (i - 1) v (noted_rows bytes t name v (i - 1) who)) (noted_rows bytes t name v (i - 1) who)
-        unfolding noted_rows
-        one = let z : i ≡ suc (i - 1) = omega arith in rw r_is (ap (λ (m : ℕ). noted_rows bytes t name v m who) z)
-
-        pub rows_more : r ≡ true → (w : List ℕ) → w ≡ noted (i - 1) v who → Noted w (i - 1)
-        unfolding choose
-        rows_more e w w_is = record {
-          is = rw w_is (rows_on name v (i - 1) (i - 1) who (omega arith) ∙ sym (one ∙ rw e) ∙ p.is);
-          size = ap length w_is ∙ noted_length (i - 1) v who ∙ p.size;
-        }
-
-        pub rows_less : r ≡ false → Noted who (i - 1)
-        unfolding choose
-        rows_less e = record { is = sym (one ∙ rw e) ∙ p.is; size = p.size }
-
-      -- rows with other checksums
-      rows_skip : (sum k : ℕ) → sum ≡ sum_of name → k ≤ i → Others bytes t sum k i → Noted who k
-      rows_skip sum k sum_is l others = record { is = rows_none name v k who i l (λ j a h. name_other bytes t sum k i others j a h name sum_is) ∙ p.is; size = p.size }
-
-    -- and the rows that may have the checksum of the name
-    module _ (sum : ℕ) where
-      pub record Noting (who : List ℕ) (l : Seeking) : Type 0 where
-        pub set : l.set ≡ bytes
-        pub rows : l.rows ≡ t
-        pub given_sum : l.sum ≡ Some sum
-        pub sum_is : sum ≡ sum_of name
-        pub noted : Noted who l.left
-
-      pub noting_start : sum ≡ sum_of name → (l : Seeking) → Seeks bytes t (Some sum) n l → Noting who₀ l
-      noting_start is l s = record {
-        set = s.set;
-        rows = s.rows;
-        given_sum = s.given_sum;
-        sum_is = is;
-        noted = rows_skip who₀ n rows_start sum l.left is s.fewer (s.others sum refl);
+      pub rows_more : r ≡ true → (w : List ℕ) → w ≡ noted row v who → Noted w row
+      unfolding choose
+      rows_more e w w_is = record {
+        is = rw w_is (rows_on name v row row who (omega arith) ∙ sym (one ∙ rw e) ∙ p.is);
+        size = ap length w_is ∙ noted_length row v who ∙ p.size;
       }
 
-      module _ (who : List ℕ) (old new : Seeking) (row : ℕ) (noting : Noting who old) (on : SeeksOn old (Some row) new) (r : Bool) (r_is : r ≡ named bytes t name row) where
-        at : row ≡ old.left - 1
-        at = let e = on.0 in omega arith
-
-        moved : (w : List ℕ) → Noted w (old.left - 1) → Noting w new
-        moved w p =
-            let f : new.left ≤ old.left - 1 = rw (← at) on.1.fewer in
-            let others : Others bytes t sum new.left row = rw (noting.set, noting.rows) at (on.1.others sum (rw noting.given_sum refl)) in
-            record {
-              set = on.1.set ∙ noting.set;
-              rows = on.1.rows ∙ noting.rows;
-              given_sum = on.1.given_sum ∙ noting.given_sum;
-              sum_is = noting.sum_is;
-              noted = rows_skip w (old.left - 1) p sum new.left noting.sum_is f (rw (← at) others);
-            }
-
-        pub noting_more : r ≡ true → (w : List ℕ) → w ≡ noted row v who → Noting w new
-        noting_more e w w_is = let p = on.0 in moved w (rows_more who old.left noting.noted (omega arith) r (rw (← at) r_is) e w (rw (← at) w_is))
-
-        pub noting_less : r ≡ false → Noting who new
-        noting_less e = let p = on.0 in moved who (rows_less who old.left noting.noted (omega arith) r (rw (← at) r_is) e)
-
-      pub noting_end : (who : List ℕ) (l : Seeking) → Noting who l → l.left ≡ 0 → who ≡ noted_rows bytes t name v n who₀
-      noting_end who l noting z = rows_end who l.left noting.noted (omega arith)
+      pub rows_less : r ≡ false → Noted who row
+      unfolding choose
+      rows_less e = record { is = sym (one ∙ rw e) ∙ p.is; size = p.size }
 
   module _ (n : ℕ) where
     pub tally_length : (us : List Use) (who : List ℕ) → length (tally bytes t n us who) ≡ length who
@@ -240,9 +197,6 @@ module _ (bytes : List ℕ) (t : List Row) where
                   ∙ ap (λ (us : List Use). tally bytes t n us who₀)
                   (ap (λ (us : List Use). uses (listed bytes t i) ++ us) (sym (uses_row bytes t (full bytes t (suc i)) i)) ∙ sym (uses_append (listed bytes t i) (listed_row bytes (full bytes t (suc i)) (row_at t i))) ∙ rw add-one);
             }
-
-        pub passed_length : length who ≡ length who₀
-        passed_length = ap length passed.is ∙ tally_length (uses (listed bytes t i)) who₀
 
         pub passed_end : n ≤ i → (size : ℕ) → who₀ ≡ replicate size 0 → who ≡ naming bytes t n size
         unfolding naming

@@ -17,7 +17,7 @@ use Rattle.name_rules.specs.Accessors.{text}
 use Rattle.name_rules.specs.FullNames.{◌·◌, package_scope, Entry, entries, set_entries, set_fields}
 use Rattle.name_rules.specs.MapEntries.{entry_named, entries_named, map_entries_named}
 use Rattle.declarations.specs.Rows.{State, kind_number, state, Became, row_at, room, has_room, declared}
-use Rattle.declarations.specs.declared.Count.{Count}
+use Rattle.declarations.specs.declared.counts.Count.{Count}
 use Rattle.declarations.specs.Listed.{full, Listed, listed, file_entries, listed_files}
 use Rattle.declarations.proofs.RoomLaws.{room_is}
 use Rattle.declarations.specs.declared.Declaration.{Declaration as Row}

@@ -8,7 +8,7 @@ use lib.Dec.{eqb}
 use borrow.Author.Tests.{lt-ltb, le-ltb, eqb-true, eqb-false}
 use mathlib.Core.Logic.{◌⊎◌, ⊎_elim}
 use Rattle.declarations.specs.declared.Kind.{Kind}
-use Rattle.declarations.specs.declared.Kind.TheVariants.{Package, Enum}
+use Rattle.declarations.specs.declared.Kind.TheVariants.{Package, Enum, Message}
 use Rattle.base.specs.Choose.{choose}
 use Rattle.base.specs.Lists.{all_of}
 use Rattle.wire.specs.Records.{part}
@@ -41,6 +41,12 @@ at_least (suc (suc n)) a b = omega arith
 pub no_message_kind : (k : Kind) → (k ≡ Package) ⊎ (k ≡ Enum) → kind_number k < 2
 unfolding kind_number
 no_message_kind k is = ⊎_elim (λ e. rw e (omega arith)) (λ e. rw e (omega arith)) is
+
+pub not_message : (k : Kind) → ((x : ℕ) → k ≡ Message x → ⊥) → kind_number k < 2
+unfolding kind_number
+not_message Package f = omega arith
+not_message Enum f = omega arith
+not_message (Message x) f = absurd (f x refl)
 
 pub uses_row : (bytes : Bytes) (t : List Row) (full : Bytes) (i : ℕ) → uses (listed_row bytes full (row_at t i)) ≡ row_uses bytes t i
 unfolding uses listed_row row_uses choose all_of decode_message

@@ -30,10 +30,7 @@ impl Namers {
     fn only_map(self, number: u16) -> bool
         ensures { result ≡ eqb (number_of self) (number + 2) }
     {
-        match self {
-            Namers::Nobody | Namers::Others => false,
-            Namers::Maps(own) => own == number,
-        }
+        matches!(self, Namers::Maps(own) if own == number)
     }
 }
 
@@ -119,12 +116,9 @@ fn note_row(names: &Names<'_>, i: usize, who: &mut [Namers])
     ensures { numbers who.new ≡ tally names.now.declared.set.now names.now.declared.rows.now names.now.declared.count (row_uses names.now.declared.set.now names.now.declared.rows.now i) (numbers who.old) }
 {
     let row = names.declared.row(i);
-    match row.kind {
-        Kind::Package | Kind::Enum => {}
-        Kind::Message(number) => {
-            let message = names.declared.bytes_of(row);
-            note_fields(names, message, number, who);
-        }
+    if let Kind::Message(number) = row.kind {
+        let message = names.declared.bytes_of(row);
+        note_fields(names, message, number, who);
     }
 }
 
@@ -140,6 +134,7 @@ pub fn note_set(names: &Names<'_>, who: &mut [Namers])
 }
 
 // The kind of what row `i` stands in; a package's where there is nothing.
+// By hand, and not by type_names' `above`: the definition `parent_kind` tests the number itself.
 fn parent_of(declared: &Declarations<'_>, i: usize) -> Kind
     ensures { kind_number result ≡ parent_kind declared.now.rows.now i }
 {
@@ -154,26 +149,17 @@ fn is_entry(declared: &Declarations<'_>, i: usize) -> bool
     ensures { result ≡ is_entry_row declared.now.set.now declared.now.rows.now i }
 {
     let row = declared.row(i);
-    match row.kind {
-        Kind::Package | Kind::Enum => false,
-        Kind::Message(_) => {
-            let header = MessageHeader::new(declared.bytes_of(row));
-            header.map_entry
-        }
-    }
+    matches!(row.kind, Kind::Message(_)) && MessageHeader::new(declared.bytes_of(row)).map_entry
 }
 
 // Do only repeated message fields of the message that it stands in name row `i`?
 fn is_mapped(declared: &Declarations<'_>, who: &[Namers], i: usize) -> bool
     ensures { result ≡ entry_row_named declared.now.rows.now (numbers who.now) i }
 {
-    let parent = parent_of(declared, i);
-    match parent {
+    // a match: `matches!` with the question as its guard was tried, and its proof did not close
+    match parent_of(declared, i) {
         Kind::Package | Kind::Enum => false,
-        Kind::Message(number) => match who.get(i) {
-            Some(namers) => namers.only_map(number),
-            None => false,
-        },
+        Kind::Message(number) => who.get(i).is_some_and(|namers| namers.only_map(number)),
     }
 }
 
@@ -185,7 +171,8 @@ fn is_row_named(declared: &Declarations<'_>, who: &[Namers], i: usize) -> bool
     !is_entry(declared, i) || is_mapped(declared, who, i)
 }
 
-/// The first file with a map entry that isn't named as it must be, given who names each row; the count of files where there is none.
+/// The first file with a map entry that isn't named as it must be, given who names each row, and the count of files where there is
+/// none: so the definition has it, and `set_rules` takes the least of two.
 pub fn first_unnamed(declared: &Declarations<'_>, who: &[Namers]) -> usize
     ensures { result ≡ first_unnamed declared.now.set.now declared.now.rows.now declared.now.count (numbers who.now) }
 {

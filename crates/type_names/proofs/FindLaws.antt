@@ -13,9 +13,9 @@ use Rattle.declarations.specs.Rows.{row_at, kind_number}
 use Rattle.declarations.specs.declared.Declaration.{Declaration as Row}
 use Rattle.checksums.specs.Sums.{sum_of}
 use Rattle.type_names.specs.LookUp.{named, wanted, fits, find_from, find_row, found_row}
-use Rattle.type_names.specs.RowSums.{Others, Seeking, Seeks, SeeksOn}
 use Rattle.type_names.specs.declared.Sort.{Sort}
 use Rattle.type_names.proofs.RowSumLaws.{name_other}
+use Rattle.type_names.proofs.WalkLaws.{Skips}
 
 module _ (bytes : List ℕ) (t : List Row) (name : List ℕ) (sort : Sort) where
   pub fits_named : (i kind : ℕ) (w r : Bool) → kind ≡ kind_number (row_at t i).kind → w ≡ wanted sort kind → w ≡ true → r ≡ named bytes t name i → r ≡ fits bytes t name sort i
@@ -52,90 +52,44 @@ module _ (bytes : List ℕ) (t : List Row) (name : List ℕ) (sort : Sort) where
       pub is : unwrap_or first count ≡ from i
       pub below : IfSome first (λ k. k < count)
 
-    going_start : Going None count
+    pub going_start : Going None count
     unfolding find_from
     going_start = record { inside = omega arith; is = let z : count - count ≡ 0 = omega arith in rw z; below = tt }
 
-    module _ (first : Option ℕ) (i : ℕ) (going : Going first i) where
-      going_end : i ≡ 0 → first ≡ found_row bytes t name sort count
-      unfolding found_row find_row choose
-      going_end z = by first whole going.below
-        where
-          whole : unwrap_or first count ≡ find_from bytes t name sort count 0
-          whole = let e : count - 0 ≡ count = omega arith in going.is ∙ rw (z, e)
-
-          by : (r : Option ℕ) → unwrap_or r count ≡ find_from bytes t name sort count 0 → IfSome r (λ k. k < count) → r ≡ found_row bytes t name sort count
-          by None e b = rw (← e, le-ltb count count (omega arith))
-          by (Some k) e b = rw (← e, lt-ltb k count b)
-
-      -- rows with other checksums
-      going_skip : (sum i' : ℕ) → sum ≡ sum_of name → i' ≤ i → Others bytes t sum i' i → Going first i'
-      going_skip sum i' sum_is l others =
-          let k = going.inside in
-          let e : i' + (i - i') ≡ i = omega arith in
+    pub going_skips : (sum : ℕ) → sum ≡ sum_of name → (first : Option ℕ) → Skips bytes t sum (Going first)
+    going_skips sum sum_is first = record {
+      over = λ i k going l others.
+          let within = going.inside in
+          let e : k + (i - k) ≡ i = omega arith in
           record {
             inside = omega arith;
             below = going.below;
-            is = going.is ∙ sym (skipped (i - i') i' (omega arith) (λ j a h. fits_none j (name_other bytes t sum i' i others j a (omega arith) name sum_is)) ∙ ap from e);
-          }
+            is = going.is ∙ sym (skipped (i - k) k (omega arith) (λ j a h. fits_none j (name_other bytes t sum k i others j a (omega arith) name sum_is)) ∙ ap from e);
+          };
+    }
 
-      module _ (h : 0 < i) (r : Bool) (r_is : r ≡ fits bytes t name sort (i - 1)) where
-        one : from (i - 1) ≡ choose r (i - 1) (from i)
-        one =
-            let k = going.inside in
-            let e : i - 1 + 1 ≡ i = omega arith in
-            opened (i - 1) (omega arith) r r_is ∙ ap (λ (m : ℕ). choose r (i - 1) (from m)) e
+    pub going_end : (first : Option ℕ) → Going first 0 → first ≡ found_row bytes t name sort count
+    unfolding found_row find_row choose
+    going_end first going = by first whole going.below
+      where
+        whole : unwrap_or first count ≡ find_from bytes t name sort count 0
+        whole = let e : count - 0 ≡ count = omega arith in going.is ∙ rw e
 
-        going_found : r ≡ true → Going (Some (i - 1)) (i - 1)
-        unfolding choose
-        going_found e = let k = going.inside in record { inside = omega arith; below = (let l : i - 1 < count = omega arith in l); is = sym (one ∙ rw e) }
+        by : (r : Option ℕ) → unwrap_or r count ≡ find_from bytes t name sort count 0 → IfSome r (λ k. k < count) → r ≡ found_row bytes t name sort count
+        by None e b = rw (← e, le-ltb count count (omega arith))
+        by (Some k) e b = rw (← e, lt-ltb k count b)
 
-        going_more : r ≡ false → Going first (i - 1)
-        unfolding choose
-        going_more e = let k = going.inside in record { inside = omega arith; below = going.below; is = going.is ∙ sym (one ∙ rw e) }
+    module _ (first : Option ℕ) (row : ℕ) (going : Going first (row + 1)) (r : Bool) (r_is : r ≡ fits bytes t name sort row) where
+      one : from row ≡ choose r row (from (row + 1))
+      one = let k = going.inside in opened row (omega arith) r r_is
 
-    -- and the rows that may have the checksum of the name
-    module _ (sum : ℕ) where
-      pub record Finding (first : Option ℕ) (l : Seeking) : Type 0 where
-        pub set : l.set ≡ bytes
-        pub rows : l.rows ≡ t
-        pub given_sum : l.sum ≡ Some sum
-        pub sum_is : sum ≡ sum_of name
-        pub going : Going first l.left
+      pub going_found : r ≡ true → Going (Some row) row
+      unfolding choose
+      going_found e = let k = going.inside in record { inside = omega arith; below = (let l : row < count = omega arith in l); is = sym (one ∙ rw e) }
 
-      pub finding_start : sum ≡ sum_of name → (l : Seeking) → Seeks bytes t (Some sum) count l → Finding None l
-      finding_start sum_is l s = record {
-        set = s.set;
-        rows = s.rows;
-        given_sum = s.given_sum;
-        sum_is = sum_is;
-        going = going_skip None count going_start sum l.left sum_is s.fewer (s.others sum refl);
-      }
-
-      module _ (first : Option ℕ) (old new : Seeking) (row : ℕ) (finding : Finding first old) (on : SeeksOn old (Some row) new) (r : Bool) (r_is : r ≡ fits bytes t name sort row) where
-        at : row ≡ old.left - 1
-        at = let e = on.0 in omega arith
-
-        moved : (found : Option ℕ) → Going found (old.left - 1) → Finding found new
-        moved found g =
-            let f : new.left ≤ old.left - 1 = rw (← at) on.1.fewer in
-            let others : Others bytes t sum new.left row = rw (finding.set, finding.rows) at (on.1.others sum (rw finding.given_sum refl)) in
-            record {
-              set = on.1.set ∙ finding.set;
-              rows = on.1.rows ∙ finding.rows;
-              given_sum = on.1.given_sum ∙ finding.given_sum;
-              sum_is = finding.sum_is;
-              going = going_skip found (old.left - 1) g sum new.left finding.sum_is f (rw (← at) others);
-            }
-
-        pub finding_found : r ≡ true → Finding (Some row) new
-        finding_found e = let p = on.0 in moved (Some row) (rw at (going_found first old.left finding.going (omega arith) r (rw (← at) r_is) e))
-
-        pub finding_more : r ≡ false → Finding first new
-        finding_more e = let p = on.0 in moved first (going_more first old.left finding.going (omega arith) r (rw (← at) r_is) e)
-
-      pub finding_end : (first : Option ℕ) (l : Seeking) → Finding first l → l.left ≡ 0 → first ≡ found_row bytes t name sort count
-      finding_end first l finding z = going_end first l.left finding.going z
+      pub going_more : r ≡ false → Going first row
+      unfolding choose
+      going_more e = let k = going.inside in record { inside = omega arith; below = going.below; is = going.is ∙ sym (one ∙ rw e) }
 
 pub found_some : (bytes : List ℕ) (t : List Row) (name : List ℕ) (sort : Sort) (count : ℕ) → is_some (found_row bytes t name sort count) ≡ ltb (find_row bytes t name sort count) count
 unfolding found_row choose

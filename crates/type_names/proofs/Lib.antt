@@ -2,6 +2,7 @@ pub mod ChainLaws
 pub mod FrontLaws
 pub mod NamedLaws
 pub mod RowSumLaws
+pub mod WalkLaws
 pub mod FindLaws
 pub mod BeforeLaws
 pub mod FreshLaws

@@ -1,5 +1,5 @@
 -- Checksums of the full names of rows, and names that they tell apart. Assumes nothing.
-use Rattle.std.specs.Prelude.{Option, None, Some}
+use Rattle.std.specs.Prelude.{Option, None, Some, min}
 use Rattle.std.specs.Option.{unwrap_or, option_map}
 use mathlib.Core.Path.{◌≡◌, refl, sym, ap, ◌∙◌}
 use mathlib.Core.Bool.{false}
@@ -94,11 +94,11 @@ module _ (bytes : List ℕ) (t : List Row) where
     unfolding row_sums
     cells_are = sums_are
 
-    pub others_last : (n b r sum count : ℕ) → n ≡ chained (length sums) → b ≡ sum % n → b < n → r ≡ get_or sums b 0 / 281474976710656 → count ≡ n → Others bytes t sum r count
-    others_last n b r sum count n_is b_is b_less r_is e = record { other = λ j l h. behind_last (row_sum bytes t) row_small sums cells_are n b r sum j n_is b_is b_less r_is l (omega arith) }
+    pub others_last : (n b r sum count : ℕ) → n ≡ chained (length sums) → b ≡ sum % n → b < n → r ≡ get_or sums b 0 / 281474976710656 → count ≡ n → Others bytes t sum (min count r) count
+    others_last n b r sum count n_is b_is b_less r_is e = record { other = λ j l h. behind_last (row_sum bytes t) row_small sums cells_are n b r sum j n_is b_is b_less r_is (omega arith) (omega arith) }
 
-    pub others_before : (n k b own r sum : ℕ) → n ≡ chained (length sums) → k < n → own ≡ get_or sums k 0 % 4294967296 % n → b ≡ sum % n → own ≡ b → r ≡ get_or sums k 0 / 4294967296 % 65536 → Others bytes t sum r k
-    others_before n k b own r sum n_is k_less own_is b_is alike r_is = record { other = λ j. behind_before (row_sum bytes t) row_small sums cells_are n k b own r sum j n_is k_less own_is b_is alike r_is }
+    pub others_before : (n k b own r sum : ℕ) → n ≡ chained (length sums) → k < n → own ≡ get_or sums k 0 % 4294967296 % n → b ≡ sum % n → own ≡ b → r ≡ get_or sums k 0 / 4294967296 % 65536 → Others bytes t sum (min k r) k
+    others_before n k b own r sum n_is k_less own_is b_is alike r_is = record { other = λ j l h. behind_before (row_sum bytes t) row_small sums cells_are n k b own r sum j n_is k_less own_is b_is alike r_is (omega arith) h }
 
     pub sum_row : (k : ℕ) → k < length sums → get_or sums k 0 % 4294967296 ≡ row_sum bytes t k
     sum_row = sum_cell (row_sum bytes t) row_small sums cells_are

@@ -161,10 +161,7 @@ fn name_of(set: &[u8], row: Declaration) -> &[u8]
 fn sum_above(sums: &[u64], up: Option<usize>) -> u64
     ensures { result ≡ unwrap_or (option_map (λ i. get_or sums.now i 0) up) 0 }
 {
-    match up {
-        Some(i) => sums.get(i).copied().unwrap_or(0),
-        None => 0,
-    }
+    up.and_then(|i| sums.get(i)).copied().unwrap_or(0)
 }
 
 // The checksum of the full name of row `i`: that of what it stands in, then of a dot and its own name. `sums` has those of the rows
@@ -194,7 +191,6 @@ fn sum_rows(declared: &Declarations<'_>, sums: &mut [u64])
 // A cell's parts: the checksum of its row, the row before in the same bucket, and the last row of the bucket with the cell's number;
 // rows are counted from 1.
 // One number, as its definition packs it: the list has the plain checksums first, and the chains are laid into the same cells.
-// Casts below: a `usize` has no `From` of a `u64`, nor the other way.
 fn sum_in(cell: u64) -> u64
     ensures value { result ≡ cell % 4294967296 }
     ensures upper_bound { result < 4294967296 }
@@ -208,6 +204,7 @@ fn before_in(cell: u64) -> usize
 {
     let high = cell / 4294967296;
     let low = high % 65536;
+    // below 2^16; a cast, as `usize` has no `From` of a `u64`, and `try_from` would need an answer for what never fails
     low as usize
 }
 
@@ -216,6 +213,7 @@ fn last_in(cell: u64) -> usize
     ensures upper_bound { result < 65536 }
 {
     let high = cell / 281474976710656;
+    // below 2^16, and a cast as above
     high as usize
 }
 
@@ -225,6 +223,7 @@ fn pack(sum: u64, before: usize, last: usize) -> u64
 {
     let shifted = 65536 * last;
     let rows = before + shifted;
+    // below 2^32, and a cast as above: `u64` has no `From` of a `usize` either
     let high = rows as u64;
     let upper = 4294967296 * high;
     sum + upper
@@ -244,6 +243,7 @@ fn bucket(sum: u64, n: usize) -> usize
     ensures value { result ≡ sum % n }
     ensures upper_bound { result < n }
 {
+    // both below 2^16, and casts as above
     let many = n as u64;
     let rest = sum % many;
     rest as usize
@@ -338,10 +338,7 @@ fn row_same(declared: &Declarations<'_>, i: usize, j: usize) -> bool
     requires { (i < 65536) × (j < 65536) }
     ensures { result ≡ same_row declared.now.set.now declared.now.rows.now i j }
 {
-    match declared.row(j).kind {
-        Kind::Package => false,
-        Kind::Enum | Kind::Message(_) => same_name(declared, j, i),
-    }
+    !matches!(declared.row(j).kind, Kind::Package) && same_name(declared, j, i)
 }
 
 /// A set's declarations, and the checksums of the rows' full names with the chains of the rows: by these names are looked up.
@@ -374,8 +371,7 @@ impl<'a> Names<'a> {
             return count;
         }
         let b = bucket(sum, n);
-        let last = last_in(self.sums[b]);
-        if count < last { count } else { last }
+        count.min(last_in(self.sums[b]))
     }
 
     // The same of the rows before row `k`, which may have it.
@@ -393,8 +389,7 @@ impl<'a> Names<'a> {
         if own != b {
             return k;
         }
-        let before = before_in(cell);
-        if k < before { k } else { before }
+        k.min(before_in(cell))
     }
 
     /// The rows that may have this checksum, from the last to the first.
@@ -432,10 +427,7 @@ impl<'a> Names<'a> {
     pub fn is_named(&self, name: &[u8], sum: u64, row: usize) -> bool
         ensures { sum ≡ sum_of name.now → result ≡ named self.now.declared.set.now self.now.declared.rows.now name.now row }
     {
-        if 65535 < row {
-            return false;
-        }
-        if sums_apart(self.sums, row, sum) {
+        if 65535 < row || sums_apart(self.sums, row, sum) {
             return false;
         }
         let mut left = name;
@@ -451,10 +443,9 @@ impl<'a> Names<'a> {
     fn row_fits(&self, name: &[u8], sum: u64, sort: Sort, row: usize) -> bool
         ensures { sum ≡ sum_of name.now → result ≡ fits self.now.declared.set.now self.now.declared.rows.now name.now sort row }
     {
-        if sums_apart(self.sums, row, sum) {
-            return false;
-        }
-        is_wanted(sort, self.declared.row(row).kind) && self.is_named(name, sum, row)
+        !sums_apart(self.sums, row, sum)
+            && is_wanted(sort, self.declared.row(row).kind)
+            && self.is_named(name, sum, row)
     }
 
     /// The first row that has this full name and is a declaration of the sort.
@@ -487,7 +478,8 @@ impl<'a> Names<'a> {
     }
 }
 
-/// The rows that may have a checksum, from the last to the first: all, where that is `None`. Those that are passed over have others.
+/// An iterator over the rows before row `left`, from the last to the first. Where `sum` is a checksum, a row may be left out whose full
+/// name has another one, and no other row; where `sum` is `None`, none is left out.
 #[derive(Drop)]
 pub struct Likely<'a> {
     names: &'a Names<'a>,
@@ -512,6 +504,7 @@ impl<'a> Iterator for Likely<'a> {
 
     fn next(&mut self) -> Option<usize> {
         let row = self.left.checked_sub(1)?;
+        // a match: `map_or` was tried, and the proof did not close
         self.left = match self.sum {
             Some(sum) => self.names.like_before(row, sum),
             None => row,

@@ -1,13 +1,15 @@
 use native.Mathlib.Omega.{arith}
 use Rattle.type_names.proofs.RowSumLaws.{name_apart}
 use Rattle.type_names.proofs.NamedLaws.{named_past, named_is, going_start, going_other, going_more, going_end}
+use Rattle.type_names.proofs.Names.is_named.Goals.{then-row-gt65535-via-then-row-gt65535, then-row-gt65535-via-else-row-gt65535+then-sums_apart}
 use Rattle.type_names.proofs.Names.is_named.Goals as goal
 
 pub returns-then-row-gt65535 : goal.returns-then-row-gt65535
-returns-then-row-gt65535 c = λ _. named_past _ _ _ _ c.if-row-gt65535.true
-
-pub returns-then-sums_apart : goal.returns-then-sums_apart
-returns-then-sums_apart c = λ is. name_apart _ _ _ c.args.self.now.summed _ _ _ is (c.sums_apart.ensures c.if-sums_apart.true)
+returns-then-row-gt65535 c =
+    elim c.then-row-gt65535.branch [
+      | then-row-gt65535-via-then-row-gt65535 w ↦ λ _. named_past _ _ _ _ w.if-row-gt65535.true
+      | then-row-gt65535-via-else-row-gt65535+then-sums_apart w ↦ λ is. name_apart _ _ _ c.args.self.now.summed _ _ _ is (w.sums_apart.ensures w.if-sums_apart.true)
+    ]
 
 pub loop-i-init : goal.loop-i-init
 loop-i-init c = rw c.into_iter-i-iterator.ensures.into_iter_gives (going_start _ _ _ _ _ c.new-i-items.ensures.rows c.new-i-items.ensures.code)

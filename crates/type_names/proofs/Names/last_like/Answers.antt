@@ -12,5 +12,6 @@ offset_bounds-self-b c = omega (arith, c.bucket-b.ensures.upper_bound, (chained_
 pub bounds-self-b : goal.bounds-self-b
 bounds-self-b c = omega (arith, c.bucket-b.ensures.upper_bound, (chained_within _ _ c.chained-n.ensures).0)
 
-pub returns-else-count-last-clause-others : goal.returns-else-count-last-clause-others
-returns-else-count-last-clause-others c = others_last _ _ _ c.args.self.now.summed _ _ _ _ _ c.chained-n.ensures c.bucket-b.ensures.value c.bucket-b.ensures.upper_bound c.last_in-last.ensures.value c.if-count-n.false
+pub returns-clause-others : goal.returns-clause-others
+returns-clause-others c =
+    rw c.min.ensures (others_last _ _ _ c.args.self.now.summed _ _ _ _ _ c.chained-n.ensures c.bucket-b.ensures.value c.bucket-b.ensures.upper_bound c.last_in.ensures.value c.if-count-n.false)

@@ -17,5 +17,7 @@ bucket-own-requires c = let w = chained_within _ _ c.chained-n.ensures in (omega
 pub bucket-b-requires : goal.bucket-b-requires
 bucket-b-requires c = let w = chained_within _ _ c.chained-n.ensures in (omega (arith, c.if-n-k.false), w.1)
 
-pub returns-else-k-before-clause-others : goal.returns-else-k-before-clause-others
-returns-else-k-before-clause-others c = others_before _ _ _ c.args.self.now.summed _ _ _ _ _ _ c.chained-n.ensures c.if-n-k.false (c.bucket-own.ensures.value ∙ ap (λ (v : ℕ). v % c.chained-n.result) c.sum_in.ensures.value) c.bucket-b.ensures.value c.if-own-b.false c.before_in-before.ensures.value
+pub returns-clause-others : goal.returns-clause-others
+returns-clause-others c =
+    rw c.min.ensures
+    (others_before _ _ _ c.args.self.now.summed _ _ _ _ _ _ c.chained-n.ensures c.if-n-k.false (c.bucket-own.ensures.value ∙ ap (λ (v : ℕ). v % c.chained-n.result) c.sum_in.ensures.value) c.bucket-b.ensures.value c.if-own-b.false c.before_in.ensures.value)
