@@ -168,9 +168,6 @@ nothing (suc n) (suc x) = nothing n x
 -- ---- the known answers
 
 module _ {d : Derive} {rows : List Field} where
-  pub kept_same : {ms : List (Option Bool)} {x : ℕ} → Memo d rows ms x → Kept d rows ms ms
-  kept_same m = record { size = refl; can = m.can; cannot = λ y e. inr e; fewer = le_refl _ }
-
   pub kept_more : {a b c : List (Option Bool)} → Kept d rows a b → Kept d rows b c → Kept d rows a c
   kept_more p q = record {
     size = q.size ∙ p.size;
@@ -178,9 +175,6 @@ module _ {d : Derive} {rows : List Field} where
     cannot = λ y e. ⊎_elim inl (λ h. p.cannot y h) (q.cannot y e);
     fewer = let one = p.fewer in let two = q.fewer in omega arith;
   }
-
-  pub kept_memo : {old new : List (Option Bool)} {x : ℕ} → Memo d rows old x → Kept d rows old new → Memo d rows new x
-  kept_memo m k = record { size = k.size ∙ m.size; can = k.can; cannot = λ y e. ⊎_elim inl (λ h. m.cannot y h) (k.cannot y e) }
 
   -- x is sought
   module _ {ms : List (Option Bool)} {x : ℕ} (m : Memo d rows ms x) (lt : x < messages) where
@@ -244,9 +238,6 @@ module _ {d : Derive} {rows : List Field} where
 pub record Scan (d : Derive) (rows part : List Field) (old ms : List (Option Bool)) (x j : ℕ) : Type 0 where
   pub kept : Kept d rows old ms
   pub so_far : (k : ℕ) → k < j → message_of (row_at part k).owner ≡ x → row_can d rows (row_at part k) ≡ true
-
-pub scan_begin : {d : Derive} {rows part : List Field} {old : List (Option Bool)} {x : ℕ} → Memo d rows old x → Scan d rows part old old x 0
-scan_begin m = record { kept = kept_same m; so_far = λ k h. absurd (omega arith) }
 
 module _ {d : Derive} {rows part : List Field} {old ms : List (Option Bool)} {x j : ℕ} (s : Scan d rows part old ms x j) where
   pub scan_other : (message_of (row_at part j).owner ≡ x → ⊥) → Scan d rows part old ms x (j + 1)

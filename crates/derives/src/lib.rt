@@ -60,23 +60,21 @@ fn type_eq(kind: u8) -> bool
 fn can_field_derive_copy(field: Field, looped: bool, can: bool) -> bool
     ensures { result ≡ can_field_derive_copy field.kind field.label looped field.boxed can }
 {
-    if field.label == LABEL_REPEATED {
-        return false;
+    match field.kind {
+        _ if field.label == LABEL_REPEATED => false,
+        TYPE_MESSAGE => !looped && !field.boxed && can,
+        kind => field_types::can_pack(u32::from(kind)),
     }
-    if field.kind == TYPE_MESSAGE {
-        return !looped && !field.boxed && can;
-    }
-    field_types::can_pack(u32::from(field.kind))
 }
 
 #[tactic(auto, unfolding(crate::specs::Rules::can_field_derive_eq, base::specs::Choose::choose))]
 fn can_field_derive_eq(field: Field, looped: bool, can: bool) -> bool
     ensures { result ≡ can_field_derive_eq field.kind field.label looped can }
 {
-    if field.kind == TYPE_MESSAGE {
-        return field.label != LABEL_REPEATED && !looped && can;
+    match field.kind {
+        TYPE_MESSAGE => field.label != LABEL_REPEATED && !looped && can,
+        kind => type_eq(kind),
     }
-    type_eq(field.kind)
 }
 
 /// Can the field derive it? `looped`: its type leads to its message; `can`: the answer of the message that is its type.
@@ -105,7 +103,7 @@ fn fixed_answer(derive: Derive, field: Field) -> Option<bool>
 }
 
 // What is asked for, of which graph. The known answers are passed beside it: they alone change, and each clause would have to
-// say that the rest of a struct does not.
+// say that the rest of a struct does not. So are a message and its bound: each call is of another message.
 #[derive(Clone, Copy)]
 struct Search<'g, 'a> {
     derive: Derive,
@@ -142,6 +140,7 @@ impl Search<'_, '_> {
         ensures kept { Kept self.now.derive self.now.graph.now memo.old memo.new }
     {
         let fields = self.graph.fields_of(message);
+        // no `all`: a closure that calls `field_can` was tried, and its proof did not close
         for field in fields {
             if message_graph::place_of(field.owner) == message
                 && !self.field_can(memo, *field, depth)

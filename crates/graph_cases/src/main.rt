@@ -4,32 +4,29 @@
 //! oracle/graph_cases made these sets; what is to be printed of them is the Rust's answer, and of the large sets that of cases.py.
 #![tactic(auto)]
 
-use message_graph::{Field, NO_FIELD};
+use message_graph::{Field, Index, LABEL_REPEATED, MESSAGES, NO_FIELD, TYPE_GROUP, TYPE_MESSAGE};
 use std::io;
 use std::io::{Read, Write};
 
+// How many fields a message of a large set has.
+const FIELDS: usize = 8;
+
 // How many fields a large set has, and a set of the input.
-const LARGE: usize = 2048;
+const LARGE: usize = MESSAGES * FIELDS;
 
 const SMALL: usize = 64;
 
 // How many sets the input has.
 const SETS: usize = 250;
 
-// Types and labels, as descriptor.proto has them.
-const FLOAT: u8 = 2;
+// The other types of the sets, and their label, by descriptor.proto's numbers. The crate descriptor has the label alone, as a `u32`.
+const TYPE_FLOAT: u8 = 2;
 
-const INT32: u8 = 5;
+const TYPE_INT32: u8 = 5;
 
-const STRING: u8 = 9;
+const TYPE_STRING: u8 = 9;
 
-const GROUP: u8 = 10;
-
-const MESSAGE: u8 = 11;
-
-const OPTIONAL: u8 = 1;
-
-const REPEATED: u8 = 3;
+const LABEL_OPTIONAL: u8 = 1;
 
 // The messages of a large set lie in a row, with eight fields each. Each field leads to the next message, and those of the last
 // message to the first.
@@ -46,58 +43,58 @@ struct LargeSet {
 
 // A ring of messages.
 const RING: LargeSet = LargeSet {
-    kind: MESSAGE,
-    label: OPTIONAL,
-    last_kind: MESSAGE,
-    last_label: OPTIONAL,
+    kind: TYPE_MESSAGE,
+    label: LABEL_OPTIONAL,
+    last_kind: TYPE_MESSAGE,
+    last_label: LABEL_OPTIONAL,
     boxed: false,
 };
 
 const LARGE_SETS: [LargeSet; 8] = [
     RING,
     LargeSet {
-        last_kind: INT32,
+        last_kind: TYPE_INT32,
         ..RING
     },
     LargeSet {
-        last_kind: FLOAT,
+        last_kind: TYPE_FLOAT,
         ..RING
     },
     LargeSet {
-        last_kind: STRING,
+        last_kind: TYPE_STRING,
         ..RING
     },
     LargeSet {
-        kind: GROUP,
-        last_kind: GROUP,
+        kind: TYPE_GROUP,
+        last_kind: TYPE_GROUP,
         ..RING
     },
     LargeSet {
-        label: REPEATED,
-        last_label: REPEATED,
+        label: LABEL_REPEATED,
+        last_label: LABEL_REPEATED,
         ..RING
     },
     LargeSet {
-        last_kind: INT32,
-        last_label: REPEATED,
+        last_kind: TYPE_INT32,
+        last_label: LABEL_REPEATED,
         ..RING
     },
     LargeSet {
-        last_kind: INT32,
+        last_kind: TYPE_INT32,
         boxed: true,
         ..RING
     },
 ];
 
-fn large_field(set: LargeSet, i: usize) -> Field {
-    let message = i / 8 % 256;
-    let is_last = message == 255;
+// A field of a message of the set.
+fn large_field(set: LargeSet, message: Index) -> Field {
+    let is_last = message == Index::MAX;
     Field {
-        owner: message as u8,
-        target: ((message + 1) % 256) as u8,
+        owner: message,
+        target: message.wrapping_add(1),
         kind: if is_last { set.last_kind } else { set.kind },
         label: if is_last { set.last_label } else { set.label },
-        boxed: set.boxed && i == 800,
+        boxed: false,
     }
 }
 
@@ -108,9 +105,10 @@ fn count(flags: &[bool]) -> usize {
 
 fn large<W: Write>(out: &mut W, set: LargeSet) -> io::Result<()> {
     let mut fields = [NO_FIELD; LARGE];
-    for (i, field) in fields.iter_mut().enumerate() {
-        *field = large_field(set, i);
+    for (message, own) in (0..=Index::MAX).zip(fields.chunks_mut(FIELDS)) {
+        own.fill(large_field(set, message));
     }
+    fields[100 * FIELDS].boxed = set.boxed;
     let mut boxed = [false; LARGE];
     let can = derives::can_derive(&fields, &mut boxed);
     writeln!(

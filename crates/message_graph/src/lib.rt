@@ -16,6 +16,7 @@ use std::marker::Model;
 pub type Index = u8;
 
 /// How many messages a set may have: limit 3.
+// Its own, and not limits': this crate reads no set.
 pub const MESSAGES: usize = 256;
 
 /// A message's number as a place in a table with a row for each message.
@@ -29,6 +30,7 @@ pub fn place_of(message: Index) -> usize
 }
 
 // descriptor.proto's numbers.
+// Its own, and not descriptor's: this crate reads no set, and a row has them as `u8`.
 pub const TYPE_GROUP: u8 = 10;
 
 pub const TYPE_MESSAGE: u8 = 11;
@@ -92,6 +94,7 @@ pub fn field_at(fields: &[Field], i: usize) -> Field
 }
 
 // A range of a table of fields: from its first field to the one behind its last.
+// Not std's `Range`, which is not `Copy`: ranges are copied out of the array.
 #[derive(Clone, Copy)]
 struct Range {
     first: usize,
@@ -162,6 +165,7 @@ impl<'a> Graph<'a> {
     }
 
     // Marks a message without a mark, and all that it leads to through messages that have none.
+    // The bound is asked for: each call is of another message, so a struct of graph and message would be made anew at each.
     fn visit(&self, marks: &mut [bool; MESSAGES], message: usize)
         requires message_bound { message < messages }
         requires clear { get_or marks.old message false ≡ false }

@@ -1,6 +1,6 @@
 use Rattle.std.proofs.Common.{◌∙◌, sym, ap, arith}
 use Rattle.derives.specs.Can.{answer_of}
-use Rattle.derives.proofs.Known.{field_told, field_by_type, memo_type, type_cannot, kept_memo, memo_sought, sought_fewer, kept_found, scan_other, scan_can, scan_all, scan_not}
+use Rattle.derives.proofs.Known.{field_told, field_by_type, memo_type, type_cannot, memo_sought, sought_fewer, kept_found, scan_other, scan_can, scan_all, scan_not}
 use Rattle.derives.proofs.Search.+field_can_fields_can_message_can.Goals.{fields_can-else-place_of-message-via-then-place_of-message+else-not-field_can, fields_can-else-place_of-message-via-else-place_of-message}
 use Rattle.derives.proofs.Search.+field_can_fields_can_message_can.Goals as goal
 
@@ -17,13 +17,6 @@ field_can-returns-in-Some-clause-value t c = sym (field_told _ _ _ c.requires.pl
 pub field_can-returns-in-None-clause-value : goal.field_can-returns-in-None-clause-value
 field_can-returns-in-None-clause-value t c =
     c.message_can.ensures.value ∙ ap (answer_of _ _) c.place_of-target.ensures.message ∙ sym (field_by_type _ _ _ c.requires.place _ c.fixed_answer.ensures c.in-None.is)
-
-pub fields_can-field_can-requires : goal.fields_can-field_can-requires
-fields_can-field_can-requires t c =
-    let own = sym c.place_of.ensures.message ∙ c.if-place_of-message.true in
-    let k = c.loop-field.invariant.kept in
-    let fewer = k.fewer in
-    (omega arith, (c.fields_of-fields.ensures.within c.loop-field.field-index c.loop-field-test.true, (rw own (kept_memo c.requires.memo k), omega (arith, c.requires.memo_bound))))
 
 pub fields_can-returns-then-not-field_can-clause-value : goal.fields_can-returns-then-not-field_can-clause-value
 fields_can-returns-then-not-field_can-clause-value t c =
