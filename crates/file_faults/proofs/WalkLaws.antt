@@ -47,14 +47,14 @@ module _ (rs : List Setting) (set : List ℕ) (messages : List MessageRow) (t : 
 
   -- messages with those before them
   module _ (inner : Bytes → ℕ → List Bytes → Faults) (scope : Bytes) (found : Faults) (i : ℕ) where
-    pub none_more : (ps : List Bytes) → ps ≡ [] → found ≡ (found or faults_of rs set messages t inner scope i ps)
+    pub none_more : found ≡ (found or faults_of rs set messages t inner scope i [])
     unfolding faults_of
-    none_more ps e = rw e (sym (faults_none found))
+    none_more = sym (faults_none found)
 
-    pub one_more : (own : Faults) (p : Bytes) (ps qs : List Bytes) → ps ≡ p ∷ qs → own ≡ message_faults rs set messages t inner scope i p
-        → ((found or own) or faults_of rs set messages t inner scope (message_row messages i).after qs) ≡ (found or faults_of rs set messages t inner scope i ps)
+    pub one_more : (own with_own : Faults) (p : Bytes) (ps : List Bytes) → own ≡ message_faults rs set messages t inner scope i p → with_own ≡ (found or own)
+        → (with_own or faults_of rs set messages t inner scope (message_row messages i).after ps) ≡ (found or faults_of rs set messages t inner scope i (p ∷ ps))
     unfolding faults_of
-    one_more own p ps qs e o = rw (e, o) (faults_assoc found (message_faults rs set messages t inner scope i p) _)
+    one_more own with_own p ps o w = rw (w, o) (faults_assoc found (message_faults rs set messages t inner scope i p) _)
 
   -- ---- past the table's end all numbers have one row
   message_same : (left : ℕ) (scope : Bytes) (i j : ℕ) (p : Bytes) → message_row messages i ≡ message_row messages j

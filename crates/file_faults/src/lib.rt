@@ -72,20 +72,15 @@ fn is_map(entry: &[u8]) -> bool
 fn names_map(context: &Context<'_>, k: usize) -> bool
     ensures { result ≡ is_given (map_entry_at context.now.set context.now.fields k) }
 {
-    match field_row(context.fields, k).entry {
-        Some(entry) => is_map(entry.bytes_in(context.set)),
-        None => false,
-    }
+    let entry = field_row(context.fields, k).entry;
+    entry.is_some_and(|entry| is_map(entry.bytes_in(context.set)))
 }
 
 // Does a default, where it is given, not unescape?
 fn given_fails(default: Option<&[u8]>) -> bool
     ensures { result ≡ given_fails (text_seen default.entry) }
 {
-    match default {
-        Some(text) => !c_escaping::unescapes(text),
-        None => false,
-    }
+    default.is_some_and(|text| !c_escaping::unescapes(text))
 }
 
 // Are its values bytes?
@@ -95,7 +90,8 @@ fn is_bytes(field: &FieldDescriptor<'_>) -> bool
     matches!(field_types::sort_of(field.kind()), Some(Sort::Bytes))
 }
 
-// Does the bytes default of field k not unescape?
+// Does the bytes default of field k not unescape? The field is read only where it names no map entry: in one expression it would
+// be bound in the middle.
 #[tactic(auto, unfolding(crate::specs::FileFaults::default_fails_at))]
 fn default_fails_at(context: &Context<'_>, k: usize) -> bool
     ensures { result ≡ default_fails_at context.now.set context.now.fields k }

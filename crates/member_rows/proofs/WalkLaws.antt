@@ -32,7 +32,7 @@ module _ (rs : List Setting) (room : ℕ) (set : List ℕ) (messages : List Mess
       meets_taken k = rw (← eu, h, ← en, ← ev, k)
 
       module _ (k : v ≡ false) (own : Bool) (eo : own ≡ own_meet room set messages t i p) where
-        pub meets_own : own ≡ true → true ≡ whole
+        pub meets_own : own ≡ true → own ≡ whole
         unfolding message_meets choose
         meets_own q = rw (← eu, h, ← en, ← ev, k, ← eo, q)
 

@@ -10,11 +10,9 @@ ghost use Rattle.members.specs.Members.{numbers_where};
 ghost use Rattle.member_rows.specs.MemberRows.{chosen, rows_by, field_rows, rows_overlap, oneof_rows, struct_meets, oneofs_meet, own_meet, message_meets, messages_meet, file_meets, set_meets};
 
 use context::Context;
-use descriptor::field_number::{
-    FILE_MESSAGE_TYPE, MESSAGE_NESTED_TYPE, MESSAGE_ONEOF_DECL, SET_FILE,
-};
+use descriptor::field_number::{FILE_MESSAGE_TYPE, MESSAGE_NESTED_TYPE, MESSAGE_ONEOF_DECL};
 use extern_paths::resolve::takes;
-use file_parts::Numbered;
+use file_parts::{Files, Numbered};
 use joined::Name;
 use members::Message;
 use name_rows::{Spelling, put_row};
@@ -43,7 +41,7 @@ fn put_fields(
 )
     ensures { text.new ≡ text.old ▻ rows_by spelling context.now.set context.now.fields (numbers_where (chosen oneof) context.now.fields (fields.end - fields.start) fields.start) }
 {
-    for k in fields.start..fields.end {
+    for k in fields {
         if is_member(&text_tables::field_row(context.fields, k), oneof) {
             put_row(text, b"", spelling, members::field_at(context, k).name());
         }
@@ -103,6 +101,7 @@ fn oneofs_meet(rows: &mut [u8], context: &Context<'_>, message: &Message<'_>) ->
     let fields = message.fields(context.messages);
     let count = parts::count_parts(message.part, MESSAGE_ONEOF_DECL);
     for index in 0..count {
+        // the range by its ends: `clone` gives a `Result` here
         if variants_meet(rows, context, index, fields.start..fields.end) {
             return true;
         }
@@ -121,6 +120,7 @@ fn own_meet(rows: &mut [u8], context: &Context<'_>, message: &Message<'_>) -> bo
 }
 
 // A message in a scope with those nested in it, so many levels: what is not written has none.
+// Returns early: in one expression the full name and the message would be bound in the middle.
 #[cycle(message_meets_messages_meet)]
 fn message_meets(
     rows: &mut [u8],
@@ -146,11 +146,9 @@ fn message_meets(
         full: full.as_bytes(),
         nested: left != 0,
     };
-    if own_meet(rows, context, &message) {
-        return true;
-    }
     let nested = Parts::new(part, MESSAGE_NESTED_TYPE);
-    messages_meet(rows, context, full.as_bytes(), number + 1, nested, left)
+    own_meet(rows, context, &message)
+        || messages_meet(rows, context, full.as_bytes(), number + 1, nested, left)
 }
 
 // Messages in a scope, so many levels; `first` is the number of the first.
@@ -191,13 +189,10 @@ fn file_meets(rows: &mut [u8], context: &Context<'_>, first: usize, part: &[u8])
 pub fn members_meet(rows: &mut [u8], context: &Context<'_>) -> bool
     ensures { result ≡ set_meets context.now.options (length rows.old) context.now.set context.now.messages context.now.fields }
 {
-    let mut first = 0;
-    for part in Parts::new(context.set, SET_FILE) {
+    for (first, part) in Files::new(context.messages, context.set) {
         if file_meets(rows, context, first, part) {
             return true;
         }
-        let messages = parts::count_parts(part, FILE_MESSAGE_TYPE);
-        first = file_parts::behind(context.messages, messages, first);
     }
     false
 }

@@ -45,11 +45,9 @@ pub fn module_for(context: &Context<'_>, message: &Message<'_>) -> bool
     ensures { result ≡ module_for context.now.messages context.now.fields message.now.nested message.now.number message.now.part }
 {
     let has_enums = Parts::new(message.part, MESSAGE_ENUM_TYPE).next().is_some();
-    if has_enums || (message.nested && has_nested(message.part)) {
-        return true;
-    }
-    let fields = message.fields(context.messages);
-    in_oneofs(context.fields, &fields)
+    has_enums
+        || (message.nested && has_nested(message.part))
+        || in_oneofs(context.fields, &message.fields(context.messages))
 }
 
 // The line of a message's module, and the one before it.
@@ -73,10 +71,10 @@ fn is_proto3(part: &[u8]) -> bool
     matches!(Syntax::try_from(header.syntax), Ok(Syntax::Proto3))
 }
 
-// `proto3` goes beside the context: it is of the file, and a struct of both would serve this crate alone.
+// `proto3` goes beside the context: `append_struct` takes each by itself, so a struct of both would be opened for each message.
 
-// The struct of a message with so many levels of messages in it, lent the rest of the text's buffer. Messages with 15 levels in
-// them stand at the depth 0.
+// The struct of a message with so many levels of messages in it, lent the rest of the text's buffer, as enum_text's `lend_enum`
+// says. Messages with 15 levels in them stand at the depth 0.
 fn put_struct(
     text: &mut Text<'_>,
     context: &Context<'_>,

@@ -13,14 +13,10 @@ ghost use Rattle.name_call.specs.Answer.{Accepted};
 
 use base::refusal::Refusal;
 use context::Context;
+use limits::limit::{MAX_FIELDS, MAX_MESSAGES};
 use options::Options;
 use text_tables::{NO_FIELD, NO_MESSAGE};
 use writer::Text;
-
-// Limits 3 and 4.
-const MESSAGES: usize = 256;
-
-const FIELDS: usize = 2048;
 
 // 384 bytes for each of 256 structs, 256 modules, 256 enums and 2,048 oneof enums.
 const ROW_BYTES: usize = 1081344;
@@ -56,8 +52,8 @@ fn set_names(set: &[u8], options: Options<'_>) -> bool
     requires { Accepted set.now }
     ensures { result ≡ name_check options.entry (decode_set set.now) }
 {
-    let mut messages = [NO_MESSAGE; MESSAGES];
-    let mut fields = [NO_FIELD; FIELDS];
+    let mut messages = [NO_MESSAGE; MAX_MESSAGES];
+    let mut fields = [NO_FIELD; MAX_FIELDS];
     set_tables::fill_tables(set, &options, &mut messages, &mut fields);
     let context = Context {
         options,

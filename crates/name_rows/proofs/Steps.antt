@@ -1,8 +1,8 @@
 -- One step of each loop: a byte of a key, a row of a text; and two rows by their parts. Assumes nothing.
-use Rattle.std.specs.List.{list_any}
+use Rattle.std.specs.List.{list_any, enumerate_from}
 use Rattle.std.specs.Simd.{first_chunks}
 use Rattle.std.specs.Prelude.{ℕ, zero, suc, ◌+◌, ◌-◌, ◌*◌, ◌/◌, ◌%◌, ◌^◌, ◌<◌, ◌≤◌, ◌≡◌, refl, Bool, true, false, ◌&&◌, ◌||◌, List, [], ◌∷◌, ◌++◌, length, get_or, take, drop, replicate}
-use Rattle.std.proofs.Common.{sym, ap, ap₂, take_all, ◌∙◌, arith, add-one, length-drop, drop_of_length-le, drop-cons, take-append-drop}
+use Rattle.std.proofs.Common.{sym, ap, ap₂, take_all, drop-drop, ◌∙◌, arith, add-one, length-drop, drop_of_length-le, drop-cons, take-append-drop}
 use Rattle.std.proofs.lemmas.List.{length-replicate}
 use Rattle.base.specs.Bytes.{same, same_refl, same_sound}
 use Rattle.base.specs.Choose.{then_lt, else_lt}
@@ -83,21 +83,12 @@ unfolding among
 any_among x [] = refl
 any_among x (row ∷ rows) = ap (λ (t : Bool). same x row || t) (any_among x rows)
 
--- ---- two rows that are the same: row n of some, and those behind it
-pub meet_end : (rows : List (List ℕ)) (n : ℕ) → length rows ≤ n → false ≡ overlap (drop n rows)
+-- ---- two rows that are the same: from row n on, each among those behind it
+pub overlap_from : (t : List (List ℕ)) (n : ℕ) (xs : List (List ℕ)) → drop n t ≡ xs
+    → list_any (λ (p : ℕ × List ℕ). among p.1 (take (length t - (p.0 + 1)) (drop (p.0 + 1) t))) (enumerate_from n xs) ≡ overlap xs
 unfolding overlap
-meet_end rows n h = rw (drop_of_length-le rows {i = n} h) refl
-
-module _ (rows : List (List ℕ)) (n : ℕ) (l : n < length rows) (r : Bool) (asked : r ≡ among (get_or rows n []) (take (length rows - (n + 1)) (drop (n + 1) rows))) where
-  behind : r ≡ among (get_or rows n []) (drop (suc n) rows)
-  behind =
-      asked ∙ ap (among (get_or rows n [])) (take_all (length rows - (n + 1)) (drop (n + 1) rows) (rw length-drop (omega arith)))
-      ∙ ap (λ (k : ℕ). among (get_or rows n []) (drop k rows)) (add-one n)
-
-  pub meet_found : r ≡ true → true ≡ overlap (drop n rows)
-  unfolding overlap
-  meet_found h = rw (drop-cons rows n [] l, ← behind, h)
-
-  pub meet_next : r ≡ false → overlap (drop (n + 1) rows) ≡ overlap (drop n rows)
-  unfolding overlap
-  meet_next h = rw (add-one n, drop-cons rows n [] l, ← behind, h)
+overlap_from t n [] e = refl
+overlap_from t n (x ∷ xs) e =
+    let next : drop (n + 1) t ≡ xs = sym (drop-drop 1 n t) ∙ ap (drop 1) e in
+    let behind : take (length t - (n + 1)) (drop (n + 1) t) ≡ xs = take_all (length t - (n + 1)) (drop (n + 1) t) (rw length-drop (omega arith)) ∙ next in
+    rw (behind, overlap_from t (n + 1) xs next)

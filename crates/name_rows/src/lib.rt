@@ -134,10 +134,8 @@ pub fn rows_meet(rows: &[u8]) -> bool
     ensures { result ≡ overlap (rows_in (length rows.now) rows.now) }
 {
     let whole = rows.as_chunks::<ROW>().0;
-    for (n, row) in whole.iter().enumerate() {
-        if is_among(&whole[n + 1..], row) {
-            return true;
-        }
-    }
-    false
+    whole
+        .iter()
+        .enumerate()
+        .any(|(n, row)| is_among(&whole[n + 1..], row))
 }

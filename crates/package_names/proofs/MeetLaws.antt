@@ -2,13 +2,13 @@
 use Rattle.std.specs.Prelude.{◌≡◌, refl, ℕ, ◌+◌, Bool, true, false, not, ◌&&◌, ◌||◌, List, [], ◌∷◌, ◌++◌, length, take, eqb, Some, None, Option as Held}
 use Rattle.std.specs.Borrow.{Bor}
 use Rattle.std.specs.List.{slice_split, onto_first, find, zip, enumerate_from, list_any}
-use Rattle.std.specs.Option.{option_map}
+use Rattle.std.specs.Option.{option_map, option_zip}
 use Rattle.std.specs.Str.{bytes_eq}
 use Rattle.std.proofs.Common.{sym, ap, ap₂, ◌∙◌, cond, append_assoc, append-nil, length-append, take_at}
 use Rattle.base.specs.Bytes.{b, same, same_refl}
 use Rattle.base.specs.Choose.{choose}
 use Rattle.base.specs.Lists.{any}
-use Rattle.path.proofs.FormLaws.{same_bytes}
+use Rattle.base.proofs.BytesLaws.{same_bytes}
 use Rattle.split.specs.Split.{begins, push, split_behind}
 use Rattle.extern_paths.specs.Split.{split}
 use Rattle.descriptor.specs.Descriptor.{Bytes, FileHeader, file_header}
@@ -17,7 +17,8 @@ use Rattle.descriptor.specs.Seen.{text_seen}
 use Rattle.code_generator.specs.Resolve.{local_path}
 use Rattle.joined.proofs.ShownLaws.{with_package, without_package}
 use Rattle.name_rows.proofs.RowLaws.{same_turned}
-use Rattle.package_names.specs.Packages.{file_segments, meets, cut_snake, parts_meet, package_meets, packages_meet}
+use Rattle.package_names.specs.Packages.{file_segments, meets, cut_snake, parts_meet, package_meets, packages_meet, part_stands}
+use Rattle.package_names.proofs.StandLaws.{stand, stands_none}
 
 pub none_meets : (xs ys : List Bytes) → [] ≡ xs → false ≡ meets cut_snake xs ys
 unfolding meets
@@ -152,3 +153,23 @@ module _ (s : Bytes) (h : FileHeader) (v syntax : Held (Bor Bytes)) (seen : reco
   pub without_segments : v ≡ None → [] ≡ file_segments (decode_file s)
   unfolding local_path
   without_segments e = ap local_path (without_package s h v syntax seen is e)
+
+  pub stands_read : (rows : List Bytes) (r : Bool) → (v ≡ None → r ≡ false) → ((name : Bor Bytes) → v ≡ Some name → r ≡ stand rows [] (split (b ".") name.now)) → r ≡ part_stands rows s
+  unfolding part_stands
+  stands_read rows r none some = on v refl
+    where
+      on : (w : Held (Bor Bytes)) → v ≡ w → r ≡ stand rows [] (file_segments (decode_file s))
+      on None e = none e ∙ stands_none rows [] ∙ ap (stand rows []) (without_segments e)
+      on (Some name) e = some name e ∙ ap (stand rows []) (with_segments name e)
+
+-- the packages of two files
+module _ (s t : Bytes) (h k : FileHeader) (v syntax w syntax₂ : Held (Bor Bytes)) (seen : record { package_name = text_seen v; syntax = text_seen syntax } ≡ h) (is : h ≡ file_header (decode_file s))
+    (seen₂ : record { package_name = text_seen w; syntax = text_seen syntax₂ } ≡ k) (is₂ : k ≡ file_header (decode_file t)) where
+  pub meets_read : (both : Held (Bor Bytes × Bor Bytes)) (r : Bool) → both ≡ option_zip v w → (both ≡ None → r ≡ false)
+      → ((p : Bor Bytes × Bor Bytes) → both ≡ Some p → r ≡ meets cut_snake (split (b ".") p.0.now) (split (b ".") p.1.now)) → r ≡ parts_meet s t
+  meets_read both r both_is none some = on v w refl refl
+    where
+      on : (x y : Held (Bor Bytes)) → v ≡ x → w ≡ y → r ≡ parts_meet s t
+      on None y e f = none (both_is ∙ rw e refl) ∙ none_meets _ _ (without_segments s h v syntax seen is e)
+      on (Some x) None e f = none (both_is ∙ rw (e, f) refl) ∙ meets_none _ _ (without_segments t k w syntax₂ seen₂ is₂ f)
+      on (Some x) (Some y) e f = some (x, y) (both_is ∙ rw (e, f) refl) ∙ ap₂ (meets cut_snake) (with_segments s h v syntax seen is x e) (with_segments t k w syntax₂ seen₂ is₂ y f)

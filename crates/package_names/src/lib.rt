@@ -20,15 +20,23 @@ use split::Separator;
 // The length of the longest home that has a declaration.
 const MAX_HOME: usize = 256;
 
+// A name in snake case, cut where it has over `MAX_PATH` bytes. As members' `camel_name` but for the spelling: a function over both would
+// take `fill_snake` or `fill_upper_camel` as a closure, with its clause, or an enum with a match over it, and be no shorter.
+fn snake_name(name: &[u8]) -> Name
+    ensures { result ≡ cut_snake name.now }
+{
+    let mut bytes = [0u8; MAX_PATH];
+    let length = ident::text::fill_snake(&mut bytes, name);
+    Name::cut(bytes, length)
+}
+
 // Have two segments one snake name?
 fn same_snake(x: &[u8], y: &[u8]) -> bool
     ensures { result ≡ same (cut_snake x.now) (cut_snake y.now) }
 {
-    let mut left = [0u8; MAX_PATH];
-    let m = ident::text::fill_snake(&mut left, x).min(MAX_PATH);
-    let mut right = [0u8; MAX_PATH];
-    let n = ident::text::fill_snake(&mut right, y).min(MAX_PATH);
-    left[..m] == right[..n]
+    let left = snake_name(x);
+    let right = snake_name(y);
+    left.as_bytes() == right.as_bytes()
 }
 
 // Do two packages meet? They are gone through segment by segment, up to the first that differs.
@@ -47,10 +55,9 @@ fn parts_meet(part: &[u8], other: &[u8]) -> bool
 {
     let left = FileHeader::new(part);
     let right = FileHeader::new(other);
-    match (left.package, right.package) {
-        (Some(x), Some(y)) => names_meet(x, y),
-        _ => false,
-    }
+    left.package
+        .zip(right.package)
+        .is_some_and(|(x, y)| names_meet(x, y))
 }
 
 // Does the package of the file meet one of the first n of the set's?
@@ -103,11 +110,9 @@ fn package_stands(rows: &[u8], name: &[u8]) -> bool
 fn part_stands(rows: &[u8], part: &[u8]) -> bool
     ensures { result ≡ part_stands (rows_in (length rows.now) rows.now) part.now }
 {
-    let file = FileHeader::new(part);
-    match file.package {
-        Some(name) => package_stands(rows, name),
-        None => false,
-    }
+    FileHeader::new(part)
+        .package
+        .is_some_and(|name| package_stands(rows, name))
 }
 
 /// Does a module of the set's packages stand among these rows?

@@ -10,10 +10,10 @@ ghost use Rattle.place_rows.specs.PlaceRows.{enum_row, enum_rows, oneof_rows, mo
 
 use context::Context;
 use descriptor::field_number::{
-    FILE_ENUM_TYPE, FILE_MESSAGE_TYPE, MESSAGE_ENUM_TYPE, MESSAGE_NESTED_TYPE, SET_FILE,
+    FILE_ENUM_TYPE, FILE_MESSAGE_TYPE, MESSAGE_ENUM_TYPE, MESSAGE_NESTED_TYPE,
 };
 use extern_paths::resolve::takes;
-use file_parts::Numbered;
+use file_parts::{Files, Numbered};
 use joined::Name;
 use members::{Message, Oneof};
 use name_rows::{Spelling, put_row};
@@ -173,10 +173,7 @@ fn put_file(text: &mut Text<'_>, context: &Context<'_>, first: usize, part: &[u8
 pub fn put_places(text: &mut Text<'_>, context: &Context<'_>)
     ensures { text.new ≡ text.old ▻ set_rows context.now.options context.now.messages context.now.fields context.now.set }
 {
-    let mut first = 0;
-    for part in Parts::new(context.set, SET_FILE) {
+    for (first, part) in Files::new(context.messages, context.set) {
         put_file(text, context, first, part);
-        let messages = parts::count_parts(part, FILE_MESSAGE_TYPE);
-        first = file_parts::behind(context.messages, messages, first);
     }
 }

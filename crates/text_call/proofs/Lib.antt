@@ -1,3 +1,4 @@
 pub mod RoomLaws
 pub mod FileLaws
 pub mod AcceptLaws
+pub mod DeclareLaws

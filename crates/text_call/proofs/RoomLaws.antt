@@ -49,13 +49,17 @@ module _ (t p : List ℕ) where
       pub written : {t' : List ℕ} {m : ℕ} → t' ≡ p ++ drop (length p) t → m ≡ length p → Whole p t t' (Ok m)
       written text_is size = record { answer = ap (λ (n : ℕ). Ok n) size ∙ sym given_is; left = rw given_is text_is }
 
+  pub too_long : {n : ℕ} → (n ≡ length p) × (max_text < n) → Whole p t t (Err (TextLength n))
+  too_long h = let e = h.0 in subst (λ (k : ℕ). Whole p t t (Err (TextLength k))) (sym e) (no_room _ refl (let b = h.1 in omega arith))
+
+  -- a way to it that changed nothing first
+  pub after_no_change : {t₁ t' : List ℕ} {r : Result ℕ Refusal} → t₁ ≡ t → Whole p t₁ t' r → Whole p t t' r
+  after_no_change {t' = t'} {r} same w = subst (λ (u : List ℕ). Whole p u t' r) same w
+
   -- the text was made in a buffer s of its own, where n is its length
   module _ (short : length p < 2 ^ 63) {s s' : List ℕ} {n : ℕ} (w : Filled s p s' n) where
-    made : n ≡ length p
+    pub made : n ≡ length p
     made = let m = measured w in omega arith
-
-    pub too_long : max_text < n → Whole p t t (Err (TextLength n))
-    too_long h = let e = made in subst (λ (k : ℕ). Whole p t t (Err (TextLength k))) (sym e) (no_room _ refl (omega arith))
 
     pub from_part : (size : ℕ) → length s ≡ size → size < 2 ^ 63 → n ≤ size → {t' : List ℕ} {r : Result ℕ Refusal} → Whole (take (n - 0) (drop 0 s')) t t' r → Whole p t t' r
     from_part size l b h {t'} {r} v =

@@ -1,5 +1,5 @@
 -- What the parts of the text call say of their answers. Assumes nothing.
-use Rattle.std.specs.Prelude.{ℕ, ◌≤◌, ◌<◌, ◌≡◌, List, length, replicate, Result, Ok}
+use Rattle.std.specs.Prelude.{ℕ, ◌≤◌, ◌<◌, ◌≡◌, List, length, replicate, Result, Ok, MatchResult}
 use Rattle.base.specs.declared.refusal.Refusal.{Refusal}
 use Rattle.descriptor.specs.Descriptor.{Bytes}
 use Rattle.descriptor.specs.Decode.{decode_set}
@@ -20,6 +20,10 @@ pub record Answers (x : Result ℕ Refusal) (p t t' : List ℕ) (r : Result ℕ 
 -- the text p, which is not refused but perhaps for its length
 abbrev pub Whole : List ℕ → List ℕ → List ℕ → Result ℕ Refusal → Type 0
 Whole p t t' r = Answers (by_room (length t) (length p)) p t t' r
+
+-- the same by way of an array of so many bytes: where it has no room for the text, its length, and no byte changes
+abbrev pub Within : ℕ → List ℕ → List ℕ → List ℕ → Result (Result ℕ Refusal) ℕ → Type 0
+Within size p t t' r = MatchResult r (λ answer. Whole p t t' answer) (λ n. (n ≡ length p) × (size < n) × (t' ≡ t))
 
 -- options, and a set and a file index with them, without refusals 1 to 7
 pub record Accepted (set o : Bytes) (file : ℕ) : Type 0 where

@@ -7,27 +7,32 @@ ghost use Rattle.options.specs.Settings.{settings};
 ghost use Rattle.set_tables.specs.Filled.{field_count};
 ghost use Rattle.message_text.specs.MessageText.{text_of_file};
 ghost use Rattle.calls.specs.TextCall.{by_index, by_text, file_at, call_text, text_answer, text_left};
-ghost use Rattle.text_call.specs.Answer.{Accepted, Roomy, Whole, Answers};
+ghost use Rattle.text_call.specs.Answer.{Accepted, Roomy, Whole, Within, Answers};
 
 use base::refusal::Refusal;
 use context::Context;
 use descriptor::field_number::{FILE_ENUM_TYPE, FILE_MESSAGE_TYPE, SET_FILE};
 use limits::SHORT;
+use limits::limit::{MAX_FIELDS, MAX_MESSAGES};
 use options::Options;
-use parts::Parts;
+use set_tables::SHORT_FIELDS;
 use text_tables::{FieldRow, MessageRow, NO_FIELD, NO_MESSAGE};
+use wire::records::Records;
 
-const MAX_TEXT: usize = 65536;
+/// No text is longer.
+pub const MAX_TEXT: usize = 65536;
 
 // The text of a short set is made in so many bytes first.
 const SHORT_TEXT: usize = 2048;
 
-// Limits 3 and 4, and how many fields a short set has at most.
-const MESSAGES: usize = 256;
-
-const FIELDS: usize = 2048;
-
-const SHORT_FIELDS: usize = 150;
+// A set, options and a file's index that refusals 1 to 7 don't apply to.
+#[derive(Clone, Copy)]
+struct Call<'a> {
+    set: &'a [u8],
+    options: &'a [u8],
+    file: usize,
+    ghost accepted: { Accepted set.now options.now file },
+}
 
 // A text, at the buffer's start.
 fn copy_front(buffer: &mut [u8], text: &[u8])
@@ -51,7 +56,51 @@ fn copy_whole(buffer: &mut [u8], text: &[u8]) -> Result<usize, Refusal>
     Ok(needed)
 }
 
-// The text of a file, made apart: it is copied whole, or not at all. Its first message has the number `first`.
+// The bound on the text's length is asked for here and in the two below: a struct of context, number and part for it would be
+// opened at once by `append_file`.
+
+// The text of a file, made in an array of so many bytes: it is copied whole, or not at all. Where the array has no room for it,
+// its length.
+fn put_within<const SIZE: usize>(
+    buffer: &mut [u8],
+    context: &Context<'_>,
+    first: usize,
+    part: &[u8],
+) -> Result<Result<usize, Refusal>, usize>
+    requires bound { SIZE ≤ 65536 }
+    requires short { length (text_of_file context.now.options context.now.set context.now.messages context.now.fields first part.now) < 2 ^ 63 }
+    ensures { Within SIZE (text_of_file context.now.options context.now.set context.now.messages context.now.fields first part.now) buffer.old buffer.new result }
+{
+    let mut text = [0u8; SIZE];
+    let text = &mut text[..];
+    let length = message_text::append_file(text, context, first, part);
+    if length <= SIZE {
+        return Ok(copy_whole(buffer, &text[0..length]));
+    }
+    Err(length)
+}
+
+// The same by the longest array: a text that it has no room for is refused.
+#[tactic(auto, using(crate::proofs::RoomLaws::too_long))]
+fn put_long(
+    buffer: &mut [u8],
+    context: &Context<'_>,
+    first: usize,
+    part: &[u8],
+) -> Result<usize, Refusal>
+    requires { length (text_of_file context.now.options context.now.set context.now.messages context.now.fields first part.now) < 2 ^ 63 }
+    ensures { Whole (text_of_file context.now.options context.now.set context.now.messages context.now.fields first part.now) buffer.old buffer.new result }
+{
+    // a match, here and below: each side is a whole answer, and by `unwrap_or_else` the second would stand in a closure, which is no
+    // plainer
+    match put_within::<MAX_TEXT>(buffer, context, first, part) {
+        Ok(answer) => answer,
+        Err(needed) => Err(Refusal::TextLength { needed }),
+    }
+}
+
+// The text of a file, whose first message has the number `first`: that of a short set is made in a short array first.
+#[tactic(auto, using(crate::proofs::RoomLaws::after_no_change))]
 fn put_whole(
     buffer: &mut [u8],
     context: &Context<'_>,
@@ -61,35 +110,27 @@ fn put_whole(
     requires { length (text_of_file context.now.options context.now.set context.now.messages context.now.fields first part.now) < 2 ^ 63 }
     ensures { Whole (text_of_file context.now.options context.now.set context.now.messages context.now.fields first part.now) buffer.old buffer.new result }
 {
-    if context.set.len() <= SHORT {
-        let mut text = [0u8; SHORT_TEXT];
-        let length = message_text::append_file(&mut text, context, first, part);
-        if length <= SHORT_TEXT {
-            return copy_whole(buffer, &text[0..length]);
-        }
+    if SHORT < context.set.len() {
+        return put_long(buffer, context, first, part);
     }
-    let mut text = [0u8; MAX_TEXT];
-    let length = message_text::append_file(&mut text, context, first, part);
-    if length <= MAX_TEXT {
-        return copy_whole(buffer, &text[0..length]);
+    match put_within::<SHORT_TEXT>(buffer, context, first, part) {
+        Ok(answer) => answer,
+        Err(_) => put_long(buffer, context, first, part),
     }
-    Err(Refusal::TextLength { needed: length })
 }
 
-// 8, 9 and 10 of a file, of a set and options without the refusals before, by tables with room for the set.
+// 8, 9 and 10 of the file, by tables with room for the set.
 fn answer_by(
-    set: &[u8],
-    options: &[u8],
-    file: usize,
+    call: &Call<'_>,
     buffer: &mut [u8],
     messages: &mut [MessageRow],
     fields: &mut [FieldRow],
 ) -> Result<usize, Refusal>
-    requires accepted { Accepted set.now options.now file }
-    requires roomy { Roomy set.now messages.old fields.old }
-    ensures { Answers (by_text (settings options.now) (decode_set set.now) (length buffer.old) (file_at (decode_set set.now) file)) (call_text set.now options.now file) buffer.old buffer.new result }
+    requires { Roomy call.now.set.now messages.old fields.old }
+    ensures { Answers (by_text (settings call.now.options.now) (decode_set call.now.set.now) (length buffer.old) (file_at (decode_set call.now.set.now) call.now.file)) (call_text call.now.set.now call.now.options.now call.now.file) buffer.old buffer.new result }
 {
-    let options = Options::new(options);
+    let set = call.set;
+    let options = Options::new(call.options);
     set_tables::fill_tables(set, &options, messages, fields);
     let context = Context {
         options,
@@ -97,8 +138,8 @@ fn answer_by(
         messages,
         fields,
     };
-    let first = file_parts::first_number(context.messages, set, file);
-    let part = file_parts::file_part(set, file);
+    let first = file_parts::first_number(context.messages, set, call.file);
+    let part = file_parts::file_part(set, call.file);
     let faults = file_faults::file_faults(&context, first, part);
     if faults.overlap {
         return Err(Refusal::Variants);
@@ -110,45 +151,40 @@ fn answer_by(
 }
 
 // Does a file hold neither messages nor enums?
+#[tactic(auto, unfolding(descriptor::specs::Decode::parts, wire::specs::Message::fields_in, base::specs::Choose::choose), using(descriptor::proofs::EntriesLaws::entries_read))]
 fn declares_none(part: &[u8]) -> bool
     ensures { result ≡ true → (parts 4 (entries part.now) ≡ []) × (parts 5 (entries part.now) ≡ []) }
 {
-    let messages = Parts::new(part, FILE_MESSAGE_TYPE).next();
-    let enums = Parts::new(part, FILE_ENUM_TYPE).next();
-    messages.is_none() && enums.is_none()
+    !Records::new(part, 0).any(
+        |record| matches!(record, Ok(record) if record.number == FILE_MESSAGE_TYPE || record.number == FILE_ENUM_TYPE),
+    )
 }
 
-// The same, by tables as small as the set allows, of a set with at most so many fields.
-fn answer_within<const SIZE: usize>(
-    set: &[u8],
-    options: &[u8],
-    file: usize,
-    buffer: &mut [u8],
-) -> Result<usize, Refusal>
+// 8, 9 and 10 of the file, by tables as small as the set allows, of a set with at most so many fields.
+// A const parameter has no invariant, so its bound is asked for.
+fn answer_within<const SIZE: usize>(call: &Call<'_>, buffer: &mut [u8]) -> Result<usize, Refusal>
     requires bound { SIZE ≤ 65536 }
-    requires accepted { Accepted set.now options.now file }
-    requires fields_room { field_count set.now ≤ SIZE }
-    ensures { Answers (by_text (settings options.now) (decode_set set.now) (length buffer.old) (file_at (decode_set set.now) file)) (call_text set.now options.now file) buffer.old buffer.new result }
+    requires fields_room { field_count call.now.set.now ≤ SIZE }
+    ensures { Answers (by_text (settings call.now.options.now) (decode_set call.now.set.now) (length buffer.old) (file_at (decode_set call.now.set.now) call.now.file)) (call_text call.now.set.now call.now.options.now call.now.file) buffer.old buffer.new result }
 {
-    let mut messages = [NO_MESSAGE; MESSAGES];
+    let mut messages = [NO_MESSAGE; MAX_MESSAGES];
     let mut fields = [NO_FIELD; SIZE];
-    let count = (set.len() / 2).min(MESSAGES);
+    let count = (call.set.len() / 2).min(MAX_MESSAGES);
     let messages = &mut messages[0..count];
-    answer_by(set, options, file, buffer, messages, &mut fields)
+    answer_by(call, buffer, messages, &mut fields)
 }
 
 // The same of any set; the text of a file without declarations is empty.
-fn file_answer(set: &[u8], options: &[u8], file: usize, buffer: &mut [u8]) -> Result<usize, Refusal>
-    requires { Accepted set.now options.now file }
-    ensures { Answers (by_text (settings options.now) (decode_set set.now) (length buffer.old) (file_at (decode_set set.now) file)) (call_text set.now options.now file) buffer.old buffer.new result }
+fn file_answer(call: &Call<'_>, buffer: &mut [u8]) -> Result<usize, Refusal>
+    ensures { Answers (by_text (settings call.now.options.now) (decode_set call.now.set.now) (length buffer.old) (file_at (decode_set call.now.set.now) call.now.file)) (call_text call.now.set.now call.now.options.now call.now.file) buffer.old buffer.new result }
 {
-    if declares_none(file_parts::file_part(set, file)) {
+    if declares_none(file_parts::file_part(call.set, call.file)) {
         return Ok(0);
     }
-    if set.len() <= SHORT {
-        return answer_within::<SHORT_FIELDS>(set, options, file, buffer);
+    if call.set.len() <= SHORT {
+        return answer_within::<SHORT_FIELDS>(call, buffer);
     }
-    answer_within::<FIELDS>(set, options, file, buffer)
+    answer_within::<MAX_FIELDS>(call, buffer)
 }
 
 // Refusal 5.
@@ -174,5 +210,5 @@ pub fn text(set: &[u8], options: &[u8], file: usize, t: &mut [u8]) -> Result<usi
     limits::read_set(set)?;
     check_index(set, file)?;
     set_rules::judge_names(set)?;
-    file_answer(set, options, file, t)
+    file_answer(&Call { set, options, file }, t)
 }

@@ -1,4 +1,5 @@
-use Rattle.std.specs.Prelude.{◌≡◌, ◌+◌, ◌*◌, ◌≤◌, ◌^◌, length}
+use Rattle.std.specs.Prelude.{◌≡◌, ◌+◌, ◌*◌, ◌^◌, length}
+use Rattle.file_parts.proofs.WalkLaws.{Along}
 use Rattle.member_rows.specs.MemberRows.{messages_meet}
 use Rattle.member_rows.proofs.WalkLaws.{ahead}
 use Rattle.member_rows.proofs.+message_meets_messages_meet.Given as goal
@@ -10,9 +11,6 @@ abbrev pub decreases-messages_meet : goal.decreases-messages_meet
 decreases-messages_meet l = 2 * l.left
 
 abbrev pub invariant-messages_meet-loop-number : goal.invariant-messages_meet-loop-number
-invariant-messages_meet-loop-number l = record {
-  meets : ahead l.context.options (length l.initial.rows) l.context.set l.context.messages l.context.fields l.left l.scope l.number-iterator.number l.number-iterator.parts ≡ messages_meet l.context.options (length l.initial.rows) l.context.set l.context.messages l.context.fields l.left l.scope l.fn.first l.fn.messages;
-  small : l.number-iterator.number + l.left ≤ 2 ^ 33;
-  table : l.number-iterator.messages ≡ l.context.messages;
-  room : length l.rows ≡ length l.initial.rows;
-}
+invariant-messages_meet-loop-number l =
+    (Along l.context.messages l.left (2 ^ 33) (ahead l.context.options (length l.initial.rows) l.context.set l.context.messages l.context.fields l.left l.scope)
+    (messages_meet l.context.options (length l.initial.rows) l.context.set l.context.messages l.context.fields l.left l.scope l.fn.first l.fn.messages) l.number-iterator) × (length l.rows ≡ length l.initial.rows)

@@ -1,15 +1,14 @@
-use Rattle.std.proofs.Common.{rules, arith, ap, ◌∙◌, List, ℕ, ◌-◌, not, eqb}
+use Rattle.std.proofs.Common.{rules, arith, ap, ◌∙◌, refl, List, ℕ, ◌-◌, not, eqb}
 use Rattle.writer.specs.Writing.{◌▻◌, draft_of}
-use Rattle.writer.proofs.TextLaws.{lent}
+use Rattle.writer.proofs.TextLaws.{filled_from, lent}
 use Rattle.descriptor.specs.Descriptor.{Bytes}
 use Rattle.context.specs.Given.{Given}
 use Rattle.extern_paths.specs.ExternPaths.{taken}
 use Rattle.joined.specs.Joined.{◌⊙◌}
-use Rattle.text_tables.specs.Rows.{message_row}
-use Rattle.text_tables.specs.declared.MessageRow.{MessageRow}
+use Rattle.file_parts.specs.Numbered.{after_message}
+use Rattle.file_parts.proofs.WalkLaws.{along_start, along_on, along_end}
 use Rattle.walks.specs.Walked.{written_on, written_all}
 use Rattle.message_text.proofs.TextLaws.{nothing_filled, written_too, written_alone, no_level, one_level, module_written, text_of_entry, text_of_taken, text_written}
-use Rattle.struct_text.proofs.StructLaws.{filled_from}
 use Rattle.message_text.proofs.+append_message_append_messages_append_module_lend_message.Goals as goal
 use Rattle.message_text.proofs.+append_message_append_messages_append_module_lend_message.Goals.{append_message-then-module, append_message-else-module}
 
@@ -40,26 +39,15 @@ append_messages-returns-then-left-eq0 t c = no_level c.args.context.now _ c.args
 
 pub append_messages-loop-number-init : goal.append_messages-loop-number-init
 append_messages-loop-number-init t c =
-    rw (c.into_iter-number-iterator.ensures.into_iter_gives, c.new-number-items.ensures)
-    (record {
-      written = ap (λ (p : List ℕ). c.args.text.now ▻ p) (one_level c.args.context.now _ _ _ _ _ c.if-left-eq0.false);
-      small = c.requires.1;
-      table = ap (λ (x : Given). x.messages) c.context.view_is;
-    })
+    along_start (c.into_iter-number-iterator.ensures.into_iter_gives ∙ c.new-number-items.ensures) (ap (λ (x : Given). x.messages) c.context.view_is) (let b = c.requires.1 in omega arith)
+    (ap (λ (p : List ℕ). c.args.text.now ▻ p) (one_level c.args.context.now _ _ _ _ _ c.if-left-eq0.false))
 
 pub append_messages-loop-number-preserved : goal.append_messages-loop-number-preserved
 append_messages-loop-number-preserved t c =
-    let step = c.in-Some.ensures.steps in
-    let held = c.loop-number.invariant in
-    let next = step.2 ∙ ap (λ (l : List MessageRow). (message_row l c.loop-number.number-iterator.number).after) held.table in
-    record {
-      written = written_on _ _ c.loop-number.text _ _ _ held.written c.lend_message.new.text _ _ _ step.1 next (rw step.0 at c.lend_message.ensures);
-      small = let b = step.3 in omega arith;
-      table = step.4 ∙ held.table;
-    }
+    along_on c.loop-number.invariant after_message c.in-Some.ensures.steps (omega arith) (written_on _ _ c.loop-number.text _ _ _ refl c.lend_message.new.text _ _ _ refl refl c.lend_message.ensures)
 
 pub append_messages-returns : goal.append_messages-returns
-append_messages-returns t c = written_all _ _ c.loop-number.text _ _ _ c.loop-number.invariant.written c.in-None.ensures.steps.0
+append_messages-returns t c = written_all _ _ c.loop-number.text _ _ _ (along_end c.loop-number.invariant c.in-None.ensures.steps.0) refl
 
 pub append_module-returns : goal.append_module-returns
 append_module-returns t c =

@@ -1,6 +1,7 @@
-use Rattle.std.proofs.Common.{◌≡◌, ◌+◌, ◌-◌, ◌*◌, ◌<◌, ◌^◌, not, eqb}
+use Rattle.std.proofs.Common.{◌+◌, ◌-◌, ◌*◌, ◌^◌, not, eqb}
 use Rattle.writer.specs.Writing.{◌▻◌}
 use Rattle.walks.specs.Walked.{walked}
+use Rattle.file_parts.proofs.WalkLaws.{Along}
 use Rattle.message_text.specs.MessageText.{message_text, message_texts, number_after}
 use Rattle.message_text.proofs.+append_message_append_messages_append_module_lend_message.Given as goal
 
@@ -17,10 +18,7 @@ abbrev pub decreases-lend_message : goal.decreases-lend_message
 decreases-lend_message l = 4 * l.left + 3
 
 abbrev pub invariant-append_messages-loop-number : goal.invariant-append_messages-loop-number
-invariant-append_messages-loop-number l = record {
-  written :
-      l.text ▻ walked (message_text l.context.options l.context.set l.context.messages l.context.fields l.proto3 (message_texts l.context.options l.context.set l.context.messages l.context.fields l.proto3 (l.left - 1)) (15 - (l.left - 1)) l.scope (not (eqb (l.left - 1) 0))) (number_after l.context.options l.context.set l.context.messages l.context.fields l.proto3) l.number-iterator.number l.number-iterator.parts
-      ≡ l.initial.text ▻ message_texts l.context.options l.context.set l.context.messages l.context.fields l.proto3 l.left (16 - l.left) l.scope l.fn.first l.fn.messages;
-  small : l.number-iterator.number + l.left < 2 ^ 64;
-  table : l.number-iterator.messages ≡ l.context.messages;
-}
+invariant-append_messages-loop-number l =
+    Along l.context.messages l.left (2 ^ 64 - 1)
+    (λ i ps. l.text ▻ walked (message_text l.context.options l.context.set l.context.messages l.context.fields l.proto3 (message_texts l.context.options l.context.set l.context.messages l.context.fields l.proto3 (l.left - 1)) (15 - (l.left - 1)) l.scope (not (eqb (l.left - 1) 0))) (number_after l.context.options l.context.set l.context.messages l.context.fields l.proto3) i ps)
+    (l.initial.text ▻ message_texts l.context.options l.context.set l.context.messages l.context.fields l.proto3 l.left (16 - l.left) l.scope l.fn.first l.fn.messages) l.number-iterator

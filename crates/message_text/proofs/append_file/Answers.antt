@@ -1,6 +1,6 @@
 use Rattle.std.proofs.Common.{rules, ap, ◌∙◌}
 use Rattle.writer.specs.Writing.{draft_of}
-use Rattle.struct_text.proofs.StructLaws.{filled_from}
+use Rattle.writer.proofs.TextLaws.{filled_from}
 use Rattle.message_text.proofs.TextLaws.{file_written}
 use Rattle.message_text.proofs.append_file.Goals as goal
 

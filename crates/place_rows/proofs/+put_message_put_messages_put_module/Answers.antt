@@ -1,4 +1,4 @@
-use Rattle.std.proofs.Common.{ap, ◌∙◌, sym, arith, ◌+◌, ◌-◌, not, eqb, List}
+use Rattle.std.proofs.Common.{ap, ◌∙◌, sym, refl, arith, ◌+◌, not, eqb, List}
 use Rattle.writer.specs.Writing.{◌▻◌}
 use Rattle.writer.proofs.TextLaws.{put-nothing}
 use Rattle.descriptor.specs.Descriptor.{Bytes}
@@ -7,8 +7,8 @@ use Rattle.context.specs.Given.{Given}
 use Rattle.members.specs.Seen.{MessageSeen}
 use Rattle.extern_paths.specs.ExternPaths.{taken}
 use Rattle.walks.specs.Walked.{written_on, written_all}
-use Rattle.text_tables.specs.Rows.{message_row}
-use Rattle.text_tables.specs.declared.MessageRow.{MessageRow}
+use Rattle.file_parts.specs.Numbered.{after_message}
+use Rattle.file_parts.proofs.WalkLaws.{along_start, along_on, along_end}
 use Rattle.place_rows.specs.PlaceRows.{enum_rows, module_rows, messages_rows}
 use Rattle.place_rows.proofs.RowLaws.{level, rows_of_module, rows_of_entry, rows_of_taken, rows_of_struct, rows_with_module}
 use Rattle.place_rows.proofs.+put_message_put_messages_put_module.Goals as goal
@@ -40,26 +40,15 @@ put_messages-returns-then-left-eq0 t c = rw c.if-left-eq0.true (sym (put-nothing
 
 pub put_messages-loop-number-init : goal.put_messages-loop-number-init
 put_messages-loop-number-init t c =
-    rw (c.into_iter-number-iterator.ensures.into_iter_gives, c.new-number-items.ensures)
-    (record {
-      written = ap (λ (l : Bytes). c.args.text.now ▻ l) (level _ _ _ _ _ _ _ c.if-left-eq0.false);
-      small = c.requires.1;
-      table = ap (λ (x : Given). x.messages) c.context.view_is;
-    })
+    along_start (c.into_iter-number-iterator.ensures.into_iter_gives ∙ c.new-number-items.ensures) (ap (λ (x : Given). x.messages) c.context.view_is) c.requires.1
+    (ap (λ (l : Bytes). c.args.text.now ▻ l) (level _ _ _ _ _ _ _ c.if-left-eq0.false))
 
 pub put_messages-loop-number-preserved : goal.put_messages-loop-number-preserved
 put_messages-loop-number-preserved t c =
-    let step = c.in-Some.ensures.steps in
-    let held = c.loop-number.invariant in
-    let next = step.2 ∙ ap (λ (l : List MessageRow). (message_row l c.loop-number.number-iterator.number).after) held.table in
-    record {
-      written = written_on _ _ _ _ _ _ held.written _ _ _ _ step.1 next (rw step.0 at c.put_message.ensures);
-      small = let b = step.3 in omega arith;
-      table = step.4 ∙ held.table;
-    }
+    along_on c.loop-number.invariant after_message c.in-Some.ensures.steps (omega arith) (written_on _ _ _ _ _ _ refl _ _ _ _ refl refl c.put_message.ensures)
 
 pub put_messages-returns : goal.put_messages-returns
-put_messages-returns t c = written_all _ _ _ _ _ _ c.loop-number.invariant.written c.in-None.ensures.steps.0
+put_messages-returns t c = written_all _ _ _ _ _ _ (along_end c.loop-number.invariant c.in-None.ensures.steps.0) refl
 
 pub put_module-returns : goal.put_module-returns
 put_module-returns t c =
