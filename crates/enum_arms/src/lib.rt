@@ -26,7 +26,8 @@ pub enum Arm {
     FromStr,
 }
 
-// Options, depth and enum are passed each by itself: the depth is another at each line, so a struct would be made anew.
+// Options, depth and enum are passed each by itself, here and in enum_impl and enum_declaration: the depth is another at each line,
+// and a struct of options and enum would be opened in about half of the calls, which take the options with one name of the enum.
 
 #[tactic(auto, unfolding(code_generator::specs::Enums::variant_lines))]
 fn put_variant_lines(

@@ -1,15 +1,13 @@
 -- Names that are met again among an enum's values; and that within the limits it is refusal 8. Assumes nothing.
-use Prim.Native.Nat.{ℕ, suc, ◌+◌, ◌≤◌}
-use native.Mathlib.Omega.{arith}
-use mathlib.Core.Path.{◌≡◌, refl, sym, ap, ◌∙◌}
+use Prim.Native.Nat.{ℕ, ◌+◌, ◌≤◌}
+use mathlib.Core.Path.{◌≡◌, refl, sym, ap, ap₂, ◌∙◌}
 use mathlib.Core.Bool.{Bool, true, false, ◌&&◌, ◌||◌}
 use mathlib.Core.List.{List, [], ◌∷◌, map}
 use lib.Dec.{leb}
 use lib.ListN.{length, drop}
 use lib.Seq.{take_all, drop-drop}
 use borrow.Author.Tests.{leb-true}
-use Rattle.std.specs.List.{list_any}
-use Rattle.std.specs.Prelude.{Option, Some, None, MatchOption}
+use Rattle.std.specs.List.{list_any, enumerate_from}
 use Rattle.base.specs.Bytes.{same}
 use Rattle.base.specs.Choose.{choose}
 use Rattle.base.specs.Lists.{all}
@@ -26,11 +24,6 @@ use Rattle.code_generator.specs.Refusals.{overlap, enum_overlaps}
 use Rattle.enum_text.specs.EnumText.{values_fit, enum_fits}
 use Rattle.enum_text.specs.Overlap.{variant_name, has_room, names, asked, enum_meets, meets_fully}
 use Rattle.enum_text.proofs.EnumLaws.{all_kept}
-
--- one value on
-pub stepped : (s t values : List ValueDescriptor) (r : Option ValueDescriptor) (k : ℕ) → MatchOption r ((s ≡ []) × (t ≡ [])) (λ x. s ≡ x ∷ t) → s ≡ drop k values → t ≡ drop (k + 1) values
-stepped s t values (Some x) k h e = ap (drop 1) (sym h ∙ e) ∙ drop-drop 1 k values
-stepped s t values None k h e = h.1 ∙ ap (drop 1) (sym h.0 ∙ e) ∙ drop-drop 1 k values
 
 module _ (rs : List Setting) (enum : Bytes) where
   pub among_any : (x : Bytes) (vs : List ValueDescriptor) → among x (names rs enum vs) ≡ list_any (asked rs enum (same x)) vs
@@ -50,46 +43,25 @@ module _ (rs : List Setting) (enum : Bytes) where
       go true = refl
       go false = refl
 
-  -- the pass has come so far
-  pub record Passed (values rest : List ValueDescriptor) (behind : ℕ) : Type 0 where
-    pub there : rest ≡ drop behind values
-    pub left : behind + length rest ≡ length values
-    pub met : overlap (names rs enum rest) ≡ overlap (names rs enum values)
+  -- a value with its number: do those behind it have its name?
+  abbrev pub again : List ValueDescriptor → ℕ × ValueDescriptor → Bool
+  again values p = asked rs enum (λ (x : Bytes). list_any (asked rs enum (same x)) (drop (p.0 + 1) values)) p.1
 
-  pub passed_none : (values : List ValueDescriptor) → Passed values values 0
-  passed_none values = record { there = refl; left = omega arith; met = refl }
+  again_here : (values later : List ValueDescriptor) (v : ValueDescriptor) (k : ℕ) → later ≡ drop (k + 1) values → again values (k, v) ≡ asked rs enum (λ (x : Bytes). among x (names rs enum later)) v
+  unfolding asked
+  again_here values later v k e =
+      ap (λ (t : Bool). has_room rs enum v && t)
+      (ap (λ (vs : List ValueDescriptor). list_any (asked rs enum (same (variant_name rs enum v))) vs) (sym e) ∙ sym (among_any (variant_name rs enum v) later))
 
-  pub passed_all : {values rest : List ValueDescriptor} {k : ℕ} → Passed values rest k → rest ≡ [] → false ≡ overlap (names rs enum values)
+  again_from : (values rest : List ValueDescriptor) (k : ℕ) → rest ≡ drop k values → list_any (again values) (enumerate_from k rest) ≡ overlap (names rs enum rest)
   unfolding overlap names
-  passed_all p e = ap (λ (vs : List ValueDescriptor). overlap (names rs enum vs)) (sym e) ∙ p.met
+  again_from values [] k e = refl
+  again_from values (v ∷ later) k e =
+      let behind : later ≡ drop (k + 1) values = ap (drop 1) e ∙ drop-drop 1 k values in
+      ap₂ (λ (t u : Bool). t || u) (again_here values later v k behind) (again_from values later (k + 1) behind) ∙ sym (overlap_more v later)
 
-  module _ {values rest later : List ValueDescriptor} {k : ℕ} {v : ValueDescriptor} (p : Passed values rest k) (e : rest ≡ v ∷ later) where
-    behind_it : later ≡ drop (k + 1) values
-    behind_it = ap (drop 1) (sym e ∙ p.there) ∙ drop-drop 1 k values
-
-    pub room_left : k + 1 ≤ length values
-    room_left = let h = p.left in let l : length rest ≡ suc (length later) = ap length e in omega arith
-
-    module _ (u : Bool) (q : u ≡ asked rs enum (λ (x : Bytes). list_any (asked rs enum (same x)) (drop (k + 1) values)) v) where
-      found : asked rs enum (λ (x : Bytes). among x (names rs enum later)) v ≡ u
-      unfolding asked
-      found = ap (λ (vs : List ValueDescriptor). asked rs enum (λ (x : Bytes). among x (names rs enum vs)) v) behind_it ∙ ap (λ (t : Bool). has_room rs enum v && t) (among_any (variant_name rs enum v) (drop (k + 1) values)) ∙ sym q
-
-      turn : overlap (names rs enum values) ≡ (u || overlap (names rs enum later))
-      turn =
-          sym p.met ∙ ap (λ (vs : List ValueDescriptor). overlap (names rs enum vs)) e ∙ overlap_more v later
-          ∙ ap (λ (t : Bool). t || overlap (names rs enum later)) found
-
-      pub met_here : u ≡ true → true ≡ overlap (names rs enum values)
-      met_here h = sym (turn ∙ rw h)
-
-      pub passed_more : u ≡ false → Passed values later (k + 1)
-      passed_more h =
-          record {
-            there = behind_it;
-            left = let l : length rest ≡ suc (length later) = ap length e in let m = p.left in omega arith;
-            met = sym (turn ∙ rw h);
-          }
+  pub again_any : (values : List ValueDescriptor) → list_any (again values) (enumerate_from 0 values) ≡ overlap (names rs enum values)
+  again_any values = again_from values values 0 refl
 
   all_names : (vs : List ValueDescriptor) → all (has_room rs enum) vs ≡ true → names rs enum vs ≡ map (λ (v : ValueDescriptor). spelt (generated_variant_name rs enum v)) vs
   unfolding all names variant_name choose

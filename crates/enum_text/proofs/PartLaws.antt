@@ -1,7 +1,7 @@
 -- An enum by its part: the values that are kept, and its full name where that has room. Assumes nothing.
 use Prim.Native.Nat.{ℕ}
 use mathlib.Core.Path.{◌≡◌, refl, sym, ap, ap₂, ◌∙◌}
-use mathlib.Core.Bool.{Bool, true, false}
+use mathlib.Core.Bool.{Bool, true, false, not, ◌&&◌}
 use mathlib.Core.List.{List, [], ◌∷◌, map}
 use Rattle.std.specs.Prelude.{Option, Some, None}
 use Rattle.base.specs.Choose.{choose}
@@ -21,12 +21,11 @@ use Rattle.code_generator.specs.Writing.{continued, ◌⊳◌}
 use Rattle.code_generator.proofs.WritingLaws.{filled}
 use Rattle.code_generator.specs.Enums.{build_enum_value_mappings}
 use Rattle.code_generator.specs.Refusals.{overlap}
-use Rattle.enum_values.specs.Enumeration.{Enumeration}
 use Rattle.enum_values.specs.Kept.{no_values, noted, values_in, marked_in}
 use Rattle.enum_values.specs.declared.Kept.{Kept}
 use Rattle.enum_values.proofs.KeptLaws.{kept_values}
 use Rattle.enum_text.specs.EnumText.{first_values, written_text, enum_tree, enum_text, enum_texts}
-use Rattle.enum_text.specs.Overlap.{names, enum_meets}
+use Rattle.enum_text.specs.Overlap.{variant_name, has_room, names, asked, enum_meets}
 
 pub kept_in : (s : List ℕ) (x : Kept) → x ≡ noted no_values (values_in s) → marked_in x.marks s ≡ build_enum_value_mappings (first_values (decode_enum s))
 unfolding decode_enum
@@ -55,6 +54,15 @@ pub missing : (t : Bool) (y : Bytes) → None ≡ choose t (Some y) None → t �
 unfolding choose
 missing true y e = sym (ap is_there e)
 missing false y e = refl
+
+-- what is asked of a value's name
+pub asked_is : (rs : List Setting) (enum : Bytes) (v : ValueDescriptor) (q : Bytes → Bool) {o : Option Bytes} {r : Bool} → o ≡ choose (has_room rs enum v) (Some (variant_name rs enum v)) None → (o ≡ None → r ≡ false) → ((x : Bytes) → o ≡ Some x → r ≡ q x) → r ≡ asked rs enum q v
+unfolding asked choose
+asked_is rs enum v q {o} {r} e none some = go (has_room rs enum v) e
+  where
+    go : (t : Bool) → o ≡ choose t (Some (variant_name rs enum v)) None → r ≡ (t && q (variant_name rs enum v))
+    go true e = some _ e
+    go false e = none e
 
 -- ---- the full name
 module _ (rs : List Setting) (scope : Bytes) (e : EnumDescriptor) (own : Bytes) (is : own ≡ text e.name) where
@@ -93,16 +101,22 @@ module _ (rs : List Setting) (scope : Bytes) (e : EnumDescriptor) (own : Bytes) 
         rw (fit, is_taken, q)
         (w ∙ ap₂ (λ (x y : Bytes). t ⊳ written_text rs d x y (build_enum_value_mappings (first_values e))) (es' ∙ path) is)
 
-    pub meets_taken : r ≡ true → false ≡ enum_meets rs scope e
-    unfolding enum_meets choose
-    meets_taken q = rw (fit, is_taken, q) refl
+    -- of the values that are kept
+    abbrev meet : Bool
+    meet = overlap (names rs own (build_enum_value_mappings (first_values e)))
 
-    pub meets_there : r ≡ false → (x : Enumeration) (f : Bytes) (vs : List ValueDescriptor) → x ≡ record { full = f; name = own; values = vs } → vs ≡ build_enum_value_mappings (first_values e) → (u : Bool) → u ≡ overlap (names rs x.name x.values) → u ≡ enum_meets rs scope e
+    meets_fit : {u : Bool} → u ≡ (not (taken rs full) && meet) → u ≡ enum_meets rs scope e
     unfolding enum_meets choose
-    meets_there q x f vs ex kept u met =
-        rw (fit, is_taken, q)
-        (met ∙ ap (λ (y : Enumeration). overlap (names rs y.name y.values)) ex
-        ∙ ap₂ (λ (n : Bytes) (ws : List ValueDescriptor). overlap (names rs n ws)) is kept)
+    meets_fit m = rw (fit, ← path) (m ∙ ap (λ (n : Bytes). not (taken rs full) && overlap (names rs n (build_enum_value_mappings (first_values e)))) is)
+
+    is_free : {u : Bool} → not r ≡ u → (not (taken rs full) && meet) ≡ (u && meet)
+    is_free q = ap (λ (t : Bool). t && meet) (ap not (sym (answer ∙ ap (taken rs) es)) ∙ q)
+
+    pub meets_there : not r ≡ true → {u : Bool} → u ≡ meet → u ≡ enum_meets rs scope e
+    meets_there q m = meets_fit (m ∙ sym (is_free q))
+
+    pub meets_taken : not r ≡ false → not r ≡ enum_meets rs scope e
+    meets_taken q = meets_fit (q ∙ sym (is_free q))
 
 -- ---- a text that was lent a buffer
 pub filled_from : {old t' : List ℕ} (x : Text) (u v : Buffered) → t' ≡ u.buffer.now → u ≡ v ⊳ x → draft_of v ≡ draft old 0 → Filled old (flat x) t' u.length

@@ -20,6 +20,8 @@ use options::Options;
 use parts::Parts;
 use writer::Text;
 
+// Options, depth and scope each by itself: the callers have them apart, so a struct of them would be made at each call.
+
 /// An enum that no extern path takes.
 #[tactic(auto, unfolding(crate::specs::EnumText::written_text), using(crate::proofs::PartLaws::kept_in))]
 fn put_written(
@@ -59,6 +61,7 @@ pub fn append_enum(
 ) -> usize
     ensures { Filled buffer.old (enum_text options.now depth scope.now (decode_enum part.now)) buffer.new result }
 {
+    // A text is begun, written and measured: over a closure that is no shorter.
     let mut text = Text::new(buffer);
     put_enum(&mut text, part, options, depth, scope);
     text.length

@@ -31,16 +31,11 @@ unfolding marked choose
 none_marked ms i [] h = refl
 none_marked ms i (x ∷ xs) h = rw (past ms i false h) (none_marked ms (i + 1) xs (omega arith))
 
-marked_behind : (m : Bool) (ms : List Bool) (i : ℕ) (xs : List ValueDescriptor) → marked (m ∷ ms) (suc i) xs ≡ marked ms i xs
-unfolding marked
-marked_behind m ms i [] = refl
-marked_behind m ms i (x ∷ xs) =
-    let e : suc i + 1 ≡ suc (i + 1) = omega arith in
-    ap (λ (r : List ValueDescriptor). choose (get_or ms i false) (x ∷ r) r) (ap (λ (k : ℕ). marked (m ∷ ms) k xs) e ∙ marked_behind m ms (i + 1) xs)
-
 -- ---- the values that are left
-pub none_left : (ms : List Bool) (vs : List ValueDescriptor) → length ms ≡ 0 → marked ms 0 vs ≡ []
-none_left ms vs h = none_marked ms 0 vs (omega arith)
+-- one value on, of those whose mark is mark i
+pub one_left : (ms : List Bool) (i j : ℕ) (ps qs : List Bytes) (p : Bytes) → ps ≡ p ∷ qs → j ≡ i + 1 → marked ms i (map decode_value ps) ≡ choose (get_or ms i false) (decode_value p ∷ marked ms j (map decode_value qs)) (marked ms j (map decode_value qs))
+unfolding marked
+one_left ms i j ps qs p e f = rw (e, f) refl
 
 -- no more than there are marks
 marked_bound : (ms : List Bool) (i : ℕ) (vs : List ValueDescriptor) → length (marked ms i vs) ≤ length ms - i
@@ -58,19 +53,6 @@ marked_bound ms i (v ∷ vs) = on (dec_lt i (length ms)) (marked_bound ms (i + 1
 
 pub few_marked : (ms : List Bool) (vs : List ValueDescriptor) → length (marked ms 0 vs) ≤ length ms
 few_marked ms vs = let h = marked_bound ms 0 vs in omega arith
-
-module _ (ms rest : List Bool) (m : Bool) (ps qs : List Bytes) (p : Bytes) (e : ms ≡ m ∷ rest) (f : ps ≡ p ∷ qs) where
-  first_left : marked ms 0 (map decode_value ps) ≡ choose m (decode_value p ∷ marked rest 0 (map decode_value qs)) (marked rest 0 (map decode_value qs))
-  unfolding marked
-  first_left = rw (e, f, marked_behind m rest 0 (map decode_value qs))
-
-  pub kept_left : m ≡ true → (v : ValueDescriptor) → v ≡ decode_value p → marked ms 0 (map decode_value ps) ≡ v ∷ marked rest 0 (map decode_value qs)
-  unfolding choose
-  kept_left is v q = first_left ∙ rw (is, q)
-
-  pub others_left : m ≡ false → marked rest 0 (map decode_value qs) ≡ marked ms 0 (map decode_value ps)
-  unfolding choose
-  others_left is = sym (first_left ∙ rw is)
 
 -- ---- the numbers in use
 before_set : (t : List ℕ) (c n j : ℕ) → j ≤ c → numbers_before (set t c n) j ≡ numbers_before t j

@@ -1,1 +1,2 @@
 pub mod KeptLaws
+mod FindLaws

@@ -12,15 +12,14 @@ ghost use Rattle.enum_values.specs.Kept.{numbers_before, no_values, note, noted,
 
 use descriptor::EnumValueDescriptor;
 use descriptor::field_number::ENUM_VALUE;
+use limits::limit::MAX_VALUES;
 use options::Options;
 use parts::Parts;
+use std::iter::Enumerate;
 use std::marker::Model;
 use writer::Text;
 
-// Limit 6: an enum's values.
-const MAX_VALUES: usize = 256;
-
-/// Which values of an enum are kept: how many were met, their numbers, and a mark for each whose number none before it has. The marks
+/// Which values of an enum are kept: how many were met, up to limit 6, their numbers, and a mark for each whose number none before it has. The marks
 /// are an array of their own, since an `Enumeration` is lent them.
 #[derive(Clone, Copy)]
 pub struct Kept {
@@ -90,19 +89,22 @@ pub fn build_enum_value_mappings(part: &[u8]) -> Kept
 /// The values of an enum that have a mark and are left.
 #[derive(Drop)]
 pub struct Values<'a> {
-    parts: Parts<'a>,
+    parts: Enumerate<Parts<'a>>,
     marks: &'a [bool],
 }
 
 impl<'a> Model for Values<'a> {
-    ghost use Rattle.std.specs.Prelude.{List, map};
+    ghost use Rattle.std.specs.Prelude.{List, map, ◌+◌, ◌<◌, ◌^◌, length};
+    ghost use Rattle.std.specs.Iterator.Adapters.{enumerate_source, enumerate_count};
     ghost use Rattle.descriptor.specs.Descriptor.{ValueDescriptor};
     ghost use Rattle.descriptor.specs.Decode.{decode_value};
     ghost use Rattle.enum_values.specs.Kept.{marked};
 
     ghost Value = { List ValueDescriptor };
 
-    ghost view = { λ v. marked v.marks.now 0 (map decode_value v.parts) };
+    ghost view = { λ v. marked v.marks.now (enumerate_count v.parts) (map decode_value (enumerate_source v.parts)) };
+
+    ghost invariant = { λ v. enumerate_count v.parts + length (enumerate_source v.parts) < 2 ^ 64 };
 }
 
 impl<'a> Values<'a> {
@@ -113,7 +115,7 @@ impl<'a> Values<'a> {
         ensures bound { length result ≤ length marks.now }
     {
         Values {
-            parts: Parts::new(part, ENUM_VALUE),
+            parts: Parts::new(part, ENUM_VALUE).enumerate(),
             marks,
         }
     }
@@ -127,17 +129,10 @@ impl<'a> Iterator for Values<'a> {
     ghost remaining = { item_count (λ rest. rest) };
 
     fn next(&mut self) -> Option<EnumValueDescriptor<'a>> {
-        // no `find`: its law says what was found, and not what is left
-        while let Some(part) = self.parts.next() {
-            let Some((kept, marks)) = self.marks.split_first() else {
-                return None;
-            };
-            self.marks = marks;
-            if *kept {
-                return Some(EnumValueDescriptor::new(part));
-            }
-        }
-        None
+        let (_, part) = self
+            .parts
+            .find(|(index, _)| self.marks.get(*index) == Some(&true))?;
+        Some(EnumValueDescriptor::new(part))
     }
 }
 

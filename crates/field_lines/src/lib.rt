@@ -63,6 +63,9 @@ pub fn line_start(text: &mut Text<'_>, depth: usize, field: &FieldDescriptor<'_>
     text.put(b": ");
 }
 
+// What is written from goes in one by one, in `field_line` and in field_tags' `field_tag`, as the definitions take it: each of these is
+// called in one place, so a struct would be made for that call.
+
 /// A field's line. `scope` is where the struct stands; `bytes`: the field's bytes are `Bytes`.
 #[tactic(auto, unfolding(code_generator::specs::Fields::field_line))]
 pub fn field_line(

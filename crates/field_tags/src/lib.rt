@@ -28,20 +28,14 @@ pub fn optional(proto3: bool, field: &FieldDescriptor<'_>) -> bool
 fn is_unpacked(proto3: bool, field: &FieldDescriptor<'_>) -> bool
     ensures { result ≡ unpacked proto3 field.now }
 {
-    if !field_types::can_pack(field.kind()) {
-        return false;
-    }
-    match field.options {
-        Some(options) => !options.packed,
-        None => !proto3,
-    }
+    field_types::can_pack(field.kind()) && field.options.map_or(!proto3, |options| !options.packed)
 }
 
 #[tactic(auto, unfolding(code_generator::specs::Fields::label_tag))]
 fn label_tag(text: &mut Text<'_>, proto3: bool, field: &FieldDescriptor<'_>)
     ensures { text.new ≡ text.old ⊳ label_tag proto3 field.now }
 {
-    // labels and types by number: a set may give another one, which refusal 6 judges later
+    // labels and types by number, as the definitions have them: they are over any number that a set may give
     match field.label() {
         LABEL_OPTIONAL => text.put_if(optional(proto3, field), b", optional"),
         LABEL_REQUIRED => text.put(b", required"),

@@ -5,3 +5,4 @@ pub mod RangeLaws
 pub mod TypeLaws
 pub mod OneofLaws
 pub mod DeepLaws
+mod FindLaws

@@ -31,12 +31,9 @@ module _ (t : List FieldRow) (last k : ℕ) where
 
 -- ---- the numbers that are left of a range, one number on
 module _ (test : FieldRow → Bool) (t : List FieldRow) (first last first₁ last₁ : ℕ) (ends : last₁ ≡ last) where
-  module _ (some : 0 < last - first) (k : ℕ) (start : k ≡ first) (next : first₁ ≡ first + 1) where
-    pub left_found : test (field_row t k) ≡ true → numbers_where test t (last - first) first ≡ k ∷ numbers_where test t (last₁ - first₁) first₁
-    left_found e = rw (ends, next, start) (numbers_found t last first (omega (arith, some)) (field_row t first) refl test (rw start at e))
-
-    pub left_skip : test (field_row t k) ≡ false → numbers_where test t (last - first) first ≡ numbers_where test t (last₁ - first₁) first₁
-    left_skip e = rw (ends, next) (numbers_skip t last first (omega (arith, some)) (field_row t first) refl test (rw start at e))
+  pub left_turn : 0 < last - first → (k : ℕ) → k ≡ first → first₁ ≡ first + 1
+      → numbers_where test t (last - first) first ≡ choose (test (field_row t k)) (k ∷ numbers_where test t (last₁ - first₁) first₁) (numbers_where test t (last₁ - first₁) first₁)
+  left_turn some k start next = rw (ends, next, start) (numbers_at t last first (omega (arith, some)) (field_row t first) refl test)
 
   module _ (none : last - first ≡ 0) (start : first₁ ≡ first) where
     pub left_none : numbers_where test t (last - first) first ≡ []

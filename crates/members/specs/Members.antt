@@ -39,10 +39,13 @@ entry_at set (Some place) = entry_of (map decode_field (parts 2 (entries (place_
 abbrev pub map_entry_at : List ℕ → List FieldRow → ℕ → Option MapEntry
 map_entry_at set t k = entry_at set (field_row t k).entry
 
--- should_box: `at` is the message's full name, or the oneof's
+-- should_box, of a field and its row: `at` is the message's full name, or the oneof's
+abbrev pub is_boxed : List Setting → FieldRow → FieldDescriptor → Bytes → Bool
+is_boxed rs row f at = choose (is_repeated f) false (choose row.looped true (has rs 4 (at ⊙ text f.name)))
+
+-- of field k
 unfoldable pub boxed_at : List Setting → List ℕ → List FieldRow → ℕ → Bytes → Bool
-boxed_at rs set t k at =
-    choose (is_repeated (field_at set t k)) false (choose (field_row t k).looped true (has rs 4 (at ⊙ text (field_at set t k).name)))
+boxed_at rs set t k at = is_boxed rs (field_row t k) (field_at set t k) at
 
 -- ---- the fields of a message
 -- of n fields from k on, the numbers of those whose rows pass a test: `is_plain` for those of no oneof, `is_in index` for those of a oneof

@@ -17,7 +17,8 @@ use std::marker::Model;
 /// More than the messages and enums that a message can hold (limits 3 and 5).
 pub const NAMES: usize = 512;
 
-// A name in upper camel case, cut where it has over `MAX_PATH` bytes.
+// A name in upper camel case, cut where it has over `MAX_PATH` bytes. As package_names' `snake_name` but for the spelling, with the reason
+// there.
 fn camel_name(name: &[u8]) -> Name
     ensures { result ≡ cut_camel name.now }
 {

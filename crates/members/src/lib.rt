@@ -13,7 +13,7 @@ ghost use Rattle.joined.specs.Joined.{◌⊙◌};
 ghost use Rattle.text_tables.specs.Rows.{message_row, is_in};
 ghost use Rattle.code_generator.specs.Attributes.{deprecated};
 ghost use Rattle.code_generator.specs.Piece.{spelt, oneof_type};
-ghost use Rattle.members.specs.Members.{field_at, boxed_at, name_in, numbers_where, oneof_members, oneofs_of, in_oneofs, may_derive, can_derive, conflict};
+ghost use Rattle.members.specs.Members.{field_at, is_boxed, name_in, numbers_where, oneof_members, oneofs_of, in_oneofs, may_derive, can_derive, conflict};
 
 pub mod camel;
 
@@ -103,17 +103,17 @@ pub fn is_deprecated(field: &FieldDescriptor<'_>) -> bool
     field.options.unwrap_or_default().deprecated
 }
 
-/// `should_box`: `at` is the message's full name, or the oneof's.
-#[tactic(auto, unfolding(crate::specs::Members::boxed_at, base::specs::Choose::choose))]
-pub fn boxed_at(context: &Context<'_>, k: usize, at: &[u8]) -> bool
-    ensures { result ≡ boxed_at context.now.options context.now.set context.now.fields k at.now }
+/// `should_box` of a field and its row: `at` is the message's full name, or the oneof's.
+#[tactic(auto, unfolding(base::specs::Choose::choose))]
+pub fn is_boxed(
+    options: &Options<'_>,
+    row: &FieldRow,
+    field: &FieldDescriptor<'_>,
+    at: &[u8],
+) -> bool
+    ensures { result ≡ is_boxed options.now row.now field.now at.now }
 {
-    let field = field_at(context, k);
-    if field.is_repeated() {
-        return false;
-    }
-    text_tables::field_row(context.fields, k).looped
-        || setting(&context.options, Kind::Boxed, at, field.name())
+    !field.is_repeated() && (row.looped || setting(options, Kind::Boxed, at, field.name()))
 }
 
 // The rows of the fields in a range, as far as the table goes.
@@ -226,17 +226,12 @@ impl<'t, 'a> Iterator for Oneofs<'t, 'a> {
 
     ghost remaining = { item_count (λ rest. rest) };
 
-    #[tactic(auto, unfolding(crate::specs::Members::oneofs_from, base::specs::Choose::choose))]
     fn next(&mut self) -> Option<Oneof<'a>> {
-        // no `find`: its law says what was found, and not what is left
-        while let Some((index, part)) = self.parts.next() {
+        self.parts.find_map(|(index, part)| {
+            // by its ends: `clone` gives a `Result` here
             let fields = self.fields.start..self.fields.end;
-            let oneof = Oneof::new(self.table, fields, &self.sums, index, part);
-            if oneof.is_some() {
-                return oneof;
-            }
-        }
-        None
+            Oneof::new(self.table, fields, &self.sums, index, part)
+        })
     }
 }
 
@@ -266,13 +261,7 @@ impl<'t> Iterator for Members<'t> {
     ghost remaining = { item_count (λ rest. rest) };
 
     fn next(&mut self) -> Option<usize> {
-        // no `find`, for the same reason
-        while let Some(k) = self.fields.next() {
-            if text_tables::field_row(self.table, k).is_in(self.index) {
-                return Some(k);
-            }
-        }
-        None
+        self.fields.find(|k| text_tables::field_row(self.table, *k).is_in(self.index))
     }
 }
 

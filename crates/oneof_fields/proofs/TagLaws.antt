@@ -51,3 +51,12 @@ module _ (field : ℕ → FieldDescriptor) (u goal : Text) (more : Bool) (ks : L
   pub tags_done : ks ≡ [] → u ≡ goal
   tags_done ends =
       sym (put-nothing u) ∙ ap (λ (p : Bytes). u ▻ p) (sym (none_of more)) ∙ ap (λ (l : List ℕ). u ▻ numbers_of more (map field l)) (sym ends) ∙ h
+
+  -- none is left
+  pub tags_none : (rest : List ℕ) (u₁ : Text) → ks ≡ [] → rest ≡ [] → u₁ ≡ u → u₁ ▻ numbers_of true (map field rest) ≡ goal
+  tags_none rest u₁ ends none w =
+      ap (λ (v : Text). v ▻ numbers_of true (map field rest)) w
+      ∙ ap (λ (l : List ℕ). u ▻ numbers_of true (map field l)) none
+      ∙ ap (λ (p : Bytes). u ▻ p) (none_of true ∙ sym (none_of more))
+      ∙ ap (λ (l : List ℕ). u ▻ numbers_of more (map field l)) (sym ends)
+      ∙ h

@@ -6,7 +6,7 @@ ghost use Rattle.base.specs.Bytes.{b};
 ghost use Rattle.writer.specs.Text.{pick};
 ghost use Rattle.writer.specs.Decimal.{decimal};
 ghost use Rattle.writer.specs.Writing.{◌▻◌};
-ghost use Rattle.members.specs.Members.{name_in, field_at, oneof_members};
+ghost use Rattle.members.specs.Members.{field_at, oneof_members};
 ghost use Rattle.code_generator.specs.Writing.{◌⊳◌};
 ghost use Rattle.code_generator.specs.Oneofs.{tags, oneof_path, oneof_tag, oneof_line};
 ghost use Rattle.oneof_fields.specs.OneofFields.{oneof_field_text, oneof_field_texts};
@@ -31,10 +31,12 @@ fn put_tag(text: &mut Text<'_>, more: bool, number: u32)
 fn tags(text: &mut Text<'_>, context: &Context<'_>, oneof: &Oneof<'_>)
     ensures { text.new ≡ text.old ⊳ tags (map (field_at context.now.set context.now.fields) (oneof_members context.now.fields oneof.now)) }
 {
-    let mut more = false;
-    for k in oneof.members(context) {
-        put_tag(text, more, field_at(context, k).number());
-        more = true;
+    let mut members = oneof.members(context);
+    if let Some(first) = members.next() {
+        put_tag(text, false, field_at(context, first).number());
+    }
+    for k in members {
+        put_tag(text, true, field_at(context, k).number());
     }
 }
 
@@ -74,18 +76,18 @@ fn oneof_tag(text: &mut Text<'_>, context: &Context<'_>, message: &[u8], oneof: 
     text.put(b"\")]\n");
 }
 
-// The field for a oneof of a message.
+// The field for a oneof of a message with this name.
 #[tactic(auto, unfolding(crate::specs::OneofFields::oneof_field_text, code_generator::specs::Oneofs::oneof_line))]
 fn append_oneof_field(
     text: &mut Text<'_>,
     context: &Context<'_>,
     depth: usize,
     message: &Message<'_>,
+    name: &[u8],
     oneof: &Oneof<'_>,
 )
-    ensures { text.new ≡ text.old ⊳ oneof_field_text context.now.options context.now.set context.now.messages context.now.fields depth message.now.full (name_in message.now.part) oneof.now.name oneof.now.conflict (oneof_members context.now.fields oneof.now) }
+    ensures { text.new ≡ text.old ⊳ oneof_field_text context.now.options context.now.set context.now.messages context.now.fields depth message.now.full name.now oneof.now.name oneof.now.conflict (oneof_members context.now.fields oneof.now) }
 {
-    let name = message.name();
     put_line(text, depth, b"#[prost(");
     oneof_tag(text, context, name, oneof);
     append_field_attributes(text, &context.options, message.full, oneof.name, depth);
@@ -104,7 +106,9 @@ pub fn append_oneof_fields(
     if !message.declares_oneofs() {
         return;
     }
+    // once for all oneofs: the name is read from the message's bytes
+    let name = message.name();
     for oneof in message.oneofs(context) {
-        append_oneof_field(text, context, depth, message, &oneof);
+        append_oneof_field(text, context, depth, message, name, &oneof);
     }
 }

@@ -1,6 +1,5 @@
 -- The enum of a oneof, and the enums of the oneofs of a message, one by one. Assumes nothing.
-use Rattle.std.proofs.Common.{◌≡◌, refl, ℕ, suc, ◌+◌, ◌-◌, ◌^◌, ◌≤◌, min, Bool, List, [], length, ap, add-one, sym, arith, length-append}
-use Rattle.base.specs.Bytes.{b}
+use Rattle.std.proofs.Common.{◌≡◌, refl, ℕ, ◌+◌, ◌-◌, ◌^◌, ◌≤◌, min, Bool, List, length, ap, add-one, sym, arith, length-append}
 use Rattle.base.specs.Lists.{all_of}
 use Rattle.writer.specs.declared.text.Text.{Text as Buffered}
 use Rattle.descriptor.specs.Descriptor.{Bytes}
@@ -13,25 +12,15 @@ use Rattle.options.specs.Settings.{Setting}
 use Rattle.joined.specs.Joined.{◌⊙◌}
 use Rattle.text_tables.specs.declared.MessageRow.{MessageRow}
 use Rattle.text_tables.specs.declared.FieldRow.{FieldRow}
-use Rattle.members.specs.Members.{all_copy, all_eq}
 use Rattle.variants.specs.Variants.{variant_texts}
-use Rattle.code_generator.specs.Piece.{Text, ◌⟫◌, piece, decl_open, choice, oneof_type, flat, lit}
+use Rattle.code_generator.specs.Piece.{Text, ◌⟫◌, flat}
 use Rattle.code_generator.specs.Writing.{◌⊳◌}
-use Rattle.code_generator.specs.Attributes.{line, end, derive, append_type_attributes, append_enum_attributes, append_prost_path_attribute, append_skip_debug}
-use Rattle.oneof_text.specs.OneofText.{oneof_text, oneof_part, oneof_texts, next_index}
+use Rattle.code_generator.specs.Attributes.{end}
+use Rattle.oneof_text.specs.OneofText.{oneof_front, oneof_text, oneof_part, oneof_texts, next_index}
 
 module _ (rs : List Setting) (set : List ℕ) (messages : List MessageRow) (t : List FieldRow) (d : ℕ) (full name : Bytes) (has_conflict : Bool) (ks : List ℕ) where
-  -- up to the variants
   abbrev head : Text
-  head =
-      append_type_attributes rs d (full ⊙ name)
-      ⟫ append_enum_attributes rs d (full ⊙ name)
-      ⟫ derive rs d (all_copy t ks) (all_eq t ks) (b "::Oneof)]\n")
-      ⟫ append_prost_path_attribute rs
-      ⟫ append_skip_debug rs d full
-      ⟫ line d "pub enum "
-      ⟫ piece (decl_open (choice [] []) (oneof_type has_conflict name))
-      ⟫ lit " {\n"
+  head = oneof_front rs set messages t d full name has_conflict ks
 
   head_deep : d ≤ length (flat head)
   head_deep = simp length-append (let e = indent_deep d in omega arith)

@@ -18,9 +18,9 @@ use Rattle.code_generator.specs.Attributes.{line, end, derive, append_type_attri
 
 -- t: the table of fields
 module _ (rs : List Setting) (set : List ℕ) (messages : List MessageRow) (t : List FieldRow) where
-  -- append_oneof: ks are its fields. full: the message's full name
-  unfoldable pub oneof_text : ℕ → Bytes → Bytes → Bool → List ℕ → Text
-  oneof_text d full name has_conflict ks =
+  -- append_oneof, up to the variants: ks are its fields. full: the message's full name
+  abbrev pub oneof_front : ℕ → Bytes → Bytes → Bool → List ℕ → Text
+  oneof_front d full name has_conflict ks =
       append_type_attributes rs d (full ⊙ name)
       ⟫ append_enum_attributes rs d (full ⊙ name)
       ⟫ derive rs d (all_copy t ks) (all_eq t ks) (b "::Oneof)]\n")
@@ -29,6 +29,10 @@ module _ (rs : List Setting) (set : List ℕ) (messages : List MessageRow) (t : 
       ⟫ line d "pub enum "
       ⟫ piece (decl_open (choice [] []) (oneof_type has_conflict name))
       ⟫ lit " {\n"
+
+  unfoldable pub oneof_text : ℕ → Bytes → Bytes → Bool → List ℕ → Text
+  oneof_text d full name has_conflict ks =
+      oneof_front d full name has_conflict ks
       ⟫ variant_texts rs set t (suc d) full (full ⊙ name) ks
       ⟫ end d
 

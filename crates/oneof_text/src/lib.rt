@@ -95,7 +95,7 @@ pub fn append_oneof(
     text.length
 }
 
-// The same in the rest of the text's buffer.
+// The same in the rest of the text's buffer, which is lent, as enum_text's `lend_enum` says.
 fn put_oneof(
     text: &mut Text<'_>,
     context: &Context<'_>,

@@ -40,6 +40,6 @@ module _ (rs : List Setting) (set : List ℕ) (t : List FieldRow) (proto3 : Bool
       ∙ one_more x k (last - (k + 1))
       ∙ ap (λ (m : ℕ). x ⊳ field_texts rs set t proto3 d scope full (numbers_where is_plain t m k)) (sym n)
 
-  pub all_written : (x y : Buffered) (first last k : ℕ) → last ≤ k → behind y last k ≡ behind x last first → y ≡ x ⊳ field_texts rs set t proto3 d scope full (numbers_where is_plain t (last - first) first)
+  pub all_written : (x y : Buffered) (first last end k : ℕ) → end ≤ k → behind y end k ≡ behind x last first → y ≡ x ⊳ field_texts rs set t proto3 d scope full (numbers_where is_plain t (last - first) first)
   unfolding behind
-  all_written x y first last k h e = sym (none_behind y last k h) ∙ e
+  all_written x y first last end k h e = sym (none_behind y end k h) ∙ e

@@ -18,7 +18,7 @@ use descriptor::field_number::MESSAGE_FIELD;
 use field_lines::field_line;
 use field_tags::field_tag;
 use map_fields::{MapEntry, MapSettings, map_line, map_tag};
-use members::{boxed_at, field_at, is_deprecated, setting};
+use members::{field_at, is_boxed, is_deprecated, setting};
 use options::Kind;
 use parts::Parts;
 use std::ops::Range;
@@ -59,14 +59,15 @@ fn map_entry_at<'a>(context: &Context<'a>, k: usize) -> Option<MapEntry<'a>>
 }
 
 // append_field: field k.
-#[tactic(auto, unfolding(crate::specs::StructFields::plain_text, crate::specs::StructFields::attributes_at, code_generator::specs::Attributes::append_deprecated))]
+#[tactic(auto, unfolding(crate::specs::StructFields::plain_text, crate::specs::StructFields::attributes_at, members::specs::Members::boxed_at, code_generator::specs::Attributes::append_deprecated))]
 fn append_field(text: &mut Text<'_>, context: &Context<'_>, of: &Struct<'_>, k: usize)
     ensures { text.new ≡ text.old ⊳ plain_text context.now.options context.now.set context.now.fields of.now.proto3 of.now.depth of.now.scope.now of.now.full.now k }
 {
     let options = &context.options;
     let field = field_at(context, k);
     let name = field.name();
-    let boxed = boxed_at(context, k, of.full);
+    let row = text_tables::field_row(context.fields, k);
+    let boxed = is_boxed(options, &row, &field, of.full);
     let bytes = setting(options, Kind::Bytes, of.full, name);
     append_deprecated(text, of.depth, is_deprecated(&field));
     put_line(text, of.depth, b"#[prost(");
@@ -131,8 +132,7 @@ pub fn append_each_field(
 )
     ensures { text.new ≡ text.old ⊳ field_texts context.now.options context.now.set context.now.fields of.now.proto3 of.now.depth of.now.scope.now of.now.full.now (numbers_where is_plain context.now.fields (fields.end - fields.start) fields.start) }
 {
-    // by its bounds, which `numbers_where` is defined by
-    for k in fields.start..fields.end {
+    for k in fields {
         append_if_free(text, context, of, k);
     }
 }

@@ -1,8 +1,7 @@
 -- What is written of a struct, one piece behind the other. Assumes nothing.
 use Rattle.std.proofs.Common.{◌≡◌, sym, List, ℕ, suc, ◌+◌, ◌-◌, ◌^◌, ◌≤◌, min, Bool, ◌++◌, length, ap, ◌∙◌, arith, append_assoc, length-append}
 use Rattle.writer.specs.declared.text.Text.{Text}
-use Rattle.writer.specs.Draft.{Draft, draft, extended, Filled}
-use Rattle.writer.specs.Writing.{◌▻◌, draft_of}
+use Rattle.writer.specs.Writing.{◌▻◌}
 use Rattle.writer.proofs.TextLaws.{appended}
 use Rattle.descriptor.specs.Descriptor.{Bytes}
 use Rattle.descriptor.specs.Decode.{entries, parts}
@@ -46,7 +45,3 @@ struct_written g m proto3 d scope t t₁ t₂ t₃ t₄ {g₁} {m₁} {n} {first
     appended t t₁ t₄ _ _ (head ∙ written-flat t header) (appended t₁ t₃ t₄ _ _ (appended t₁ t₂ t₃ _ _ (fields₁ ∙ written-flat t₁ (inside n)) oneofs) (close ∙ written-flat t₃ (end d)))
     ∙ bytes_below t d n below (flat header) (λ (k : ℕ). (flat (inside k) ++ choices k) ++ flat (end d)) (head_deep g.options g.messages d m.full m.number m.part)
     ∙ ap (λ (l : Bytes). t ▻ l) (sym (append_assoc (flat header) (flat (inside (suc d)) ++ choices (suc d)) (flat (end d))) ∙ ap (λ (l : Bytes). l ++ flat (end d)) (sym (append_assoc (flat header) (flat (inside (suc d))) (choices (suc d)))))
-
--- a text that began in the lent buffer
-pub filled_from : (p : Bytes) (t u : Text) {old new : List ℕ} → new ≡ u.buffer.now → u ≡ t ▻ p → draft_of t ≡ draft old 0 → Filled old p new u.length
-filled_from p t u n e s = record { is = ap (λ (l : List ℕ). draft l u.length) n ∙ ap draft_of e ∙ ap (λ (d : Draft). extended d p) s }

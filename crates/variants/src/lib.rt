@@ -12,7 +12,7 @@ use context::Context;
 use descriptor::FieldDescriptor;
 use field_lines::{box_close, box_open};
 use ident::text::put_upper_camel;
-use members::{Oneof, boxed_at, field_at, is_deprecated, setting};
+use members::{Oneof, field_at, is_boxed, is_deprecated, setting};
 use options::{Kind, Options};
 use resolve::{field_type_tag, resolve_type};
 use writer::Text;
@@ -51,7 +51,7 @@ fn variant_line(
 }
 
 /// Field k of the set as a variant of the oneof whose full name `path` is. full: the message's.
-#[tactic(auto, unfolding(crate::specs::Variants::variant_text, code_generator::specs::Attributes::append_deprecated))]
+#[tactic(auto, unfolding(crate::specs::Variants::variant_text, members::specs::Members::boxed_at, code_generator::specs::Attributes::append_deprecated))]
 pub fn append_variant(
     text: &mut Text<'_>,
     context: &Context<'_>,
@@ -68,7 +68,8 @@ pub fn append_variant(
     put_line(text, depth, b"#[prost(");
     variant_tag(text, options, full, &field);
     append_field_attributes(text, options, path, field.name(), depth);
-    let boxed = boxed_at(context, k, path);
+    let row = text_tables::field_row(context.fields, k);
+    let boxed = is_boxed(options, &row, &field, path);
     let bytes = setting(options, Kind::Bytes, full, field.name());
     variant_line(text, options, depth, full, &field, boxed, bytes);
 }

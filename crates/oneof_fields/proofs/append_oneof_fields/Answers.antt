@@ -2,7 +2,7 @@ use Rattle.std.proofs.Common.{ap}
 use Rattle.writer.specs.Writing.{◌▻◌}
 use Rattle.descriptor.specs.Descriptor.{Bytes}
 use Rattle.members.proofs.OneofLaws.{pieces_on, pieces_done, unwritten}
-use Rattle.oneof_fields.proofs.FieldLaws.{field_of, all_fields}
+use Rattle.oneof_fields.proofs.FieldLaws.{field_of, field_named, all_fields}
 use Rattle.oneof_fields.specs.OneofFields.{oneof_field_texts}
 use Rattle.oneof_fields.proofs.append_oneof_fields.Goals as goal
 
@@ -18,7 +18,8 @@ loop-oneof-init c =
 pub loop-oneof-preserved : goal.loop-oneof-preserved
 loop-oneof-preserved c =
     let v = c.args in
-    pieces_on (field_of v.context.now v.depth v.message.now) _ _ _ c.loop-oneof.invariant _ _ _ c.in-Some.ensures.steps c.append_oneof_field.ensures
+    pieces_on (field_of v.context.now v.depth v.message.now) _ _ _ c.loop-oneof.invariant _ _ _ c.in-Some.ensures.steps
+    (field_named v.context.now v.depth v.message.now _ _ _ _ c.name-name.ensures c.append_oneof_field.ensures)
 
 pub returns : goal.returns
 returns c =

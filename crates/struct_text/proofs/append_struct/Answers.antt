@@ -1,6 +1,7 @@
 use Rattle.std.proofs.Common.{rules, ap}
 use Rattle.writer.specs.Writing.{draft_of}
-use Rattle.struct_text.proofs.StructLaws.{struct_written, filled_from}
+use Rattle.writer.proofs.TextLaws.{filled_from}
+use Rattle.struct_text.proofs.StructLaws.{struct_written}
 use Rattle.struct_text.proofs.append_struct.Goals as goal
 
 pub returns : goal.returns

@@ -1,15 +1,16 @@
+use Rattle.std.proofs.Common.{ap, not}
 use Rattle.descriptor.specs.Decode.{decode_enum, decode_oneof}
-use Rattle.enum_text.proofs.PartLaws.{kept_in, meets_unfit, meets_taken, meets_there}
+use Rattle.enum_text.proofs.PartLaws.{meets_unfit, meets_taken, meets_there}
 use Rattle.enum_text.proofs.overlap.enum_overlaps.Goals as goal
 
-pub returns-in_default : goal.returns-in_default
+pub returns-then-not-takes : goal.returns-then-not-takes
 unfolding decode_enum decode_oneof
-returns-in_default c = meets_unfit _ _ _ _ c.name_of-name.ensures c.in_default.ensures
+returns-then-not-takes c = meets_there _ _ _ _ c.name_of-name.ensures _ c.in-Some.ensures _ c.as_bytes.ensures _ c.takes.ensures (ap not c.if-not-takes.true) c.written_overlaps.ensures
 
-pub returns-then-takes : goal.returns-then-takes
+pub returns-else-not-takes : goal.returns-else-not-takes
 unfolding decode_enum decode_oneof
-returns-then-takes c = meets_taken _ _ _ _ c.name_of-name.ensures _ c.in-Some.ensures _ c.as_bytes.ensures _ c.takes.ensures c.if-takes.true
+returns-else-not-takes c = meets_taken _ _ _ _ c.name_of-name.ensures _ c.in-Some.ensures _ c.as_bytes.ensures _ c.takes.ensures (ap not c.if-not-takes.false)
 
-pub returns : goal.returns
+pub returns-in-None : goal.returns-in-None
 unfolding decode_enum decode_oneof
-returns c = meets_there _ _ _ _ c.name_of-name.ensures _ c.in-Some.ensures _ c.as_bytes.ensures _ c.takes.ensures c.if-takes.false _ _ _ c.new.ensures (kept_in _ _ c.build_enum_value_mappings-kept.ensures) _ c.overlaps.ensures
+returns-in-None c = meets_unfit _ _ _ _ c.name_of-name.ensures c.in-None.ensures

@@ -1,21 +1,24 @@
-use mathlib.Core.Path.{sym, ◌∙◌}
-use borrow.Author.Rules.{rules}
-use Rattle.enum_values.proofs.KeptLaws.{none_left, kept_left, others_left}
-use Rattle.enum_values.specs.Kept.{marked}
+use Rattle.std.proofs.Common.{rules, sym, ◌∙◌, Some, None}
+use borrow.Author.Tests.{tests}
+use Rattle.enum_values.proofs.FindLaws.{next_marked}
+use Rattle.parts.proofs.Numbered.{found_fits}
 use Rattle.enum_values.proofs.ValuesIterator.next.Goals as goal
 
-pub returns-in_default-split_first-clause-steps : goal.returns-in_default-split_first-clause-steps
-returns-in_default-split_first-clause-steps c = (sym c.self.view_is ∙ sym c.loop-part.invariant ∙ none_left _ _ c.in_default-split_first.ensures.cases, none_left _ _ c.in_default-split_first.ensures.cases)
+pub invariant_of-self : goal.invariant_of-self
+invariant_of-self c = found_fits _ _ _ _ _ c.find.ensures.ran c.self.invariant
 
-pub returns-then-kept-clause-steps : goal.returns-then-kept-clause-steps
-returns-then-kept-clause-steps c = sym c.self.view_is ∙ sym c.loop-part.invariant ∙ kept_left _ _ _ _ _ _ c.in-Some-split_first.ensures.cases.0 c.in-Some.ensures.steps c.if-kept.true _ c.new.ensures
+pub invariant_of-self-2 : goal.invariant_of-self-2
+invariant_of-self-2 c = found_fits _ _ _ _ _ c.find.ensures.ran c.self.invariant
 
-pub returns-then-kept-clause-goes : goal.returns-then-kept-clause-goes
-returns-then-kept-clause-goes c = let e = returns-then-kept-clause-steps c in search rules
-
-pub loop-part-preserved : goal.loop-part-preserved
-loop-part-preserved c = others_left _ _ _ _ _ _ c.in-Some-split_first.ensures.cases.0 c.in-Some.ensures.steps c.if-kept.false ∙ c.loop-part.invariant
+pub returns-in_err-part-clause-steps : goal.returns-in_err-part-clause-steps
+returns-in_err-part-clause-steps c =
+    let e = next_marked c.self.inside.marks.now _ _ (λ x b q k. search (rules, tests)) c.self.inside.parts c.find.new.self None c.in_err-part.ensures.ran in
+    rw c.from_residual.ensures (sym c.self.view_is ∙ e.0, e.1)
 
 pub returns-clause-steps : goal.returns-clause-steps
-unfolding marked
-returns-clause-steps c = (sym c.self.view_is ∙ sym c.loop-part.invariant ∙ rw c.in_default.ensures.steps.0, rw c.in_default.ensures.steps.1)
+returns-clause-steps c =
+    let e = next_marked c.self.inside.marks.now _ _ (λ x b q k. search (rules, tests)) c.self.inside.parts c.find.new.self (Some (c.in_ok-part.field-0-0, c.in_ok-part.part)) c.in_ok-part.ensures.ran in
+    sym c.self.view_is ∙ rw c.new.ensures e
+
+pub returns-clause-goes : goal.returns-clause-goes
+returns-clause-goes c = let e = returns-clause-steps c in search rules

@@ -1,7 +1,7 @@
 use Rattle.std.proofs.Common.{ap, ◌∙◌}
 use Rattle.checksums.specs.Sums.{sum_of}
 use Rattle.enum_text.proofs.SumLaws.{sum_missing, sum_held}
-use Rattle.enum_text.proofs.overlap.put_sum_of.Goals as goal
+use Rattle.enum_text.proofs.overlap.Variants.put_sum_of.Goals as goal
 
 pub returns-in-Some : goal.returns-in-Some
 returns-in-Some c = sum_held _ _ _ _ c.in-Some.ensures (c.checksum.ensures ∙ ap sum_of c.as_bytes.ensures) c.push.ensures
