@@ -6,9 +6,12 @@ use cases::Case;
 use std::{fs, io};
 
 fn holds(case: Case<'_>) -> bool {
-    case.number.checked_sub(1) == Some(file_names::first_bad_file(case.bytes) as u64)
+    let file = file_names::first_bad_file(case.bytes);
+    usize::try_from(case.number).is_ok_and(|number| number.checked_sub(1) == Some(file))
 }
 
+// As in name_check_cases and rule_cases: a function over the three would be lent the world and `holds`, and each `main` would still
+// call it.
 fn main(rt: HostRuntime) -> io::Result<()> {
     let pack = fs::read(&rt, "cases.bin")?;
     let tally = cases::compare_pack(&mut io::writer(&rt), &pack, holds)?;

@@ -9,15 +9,14 @@ ghost use Rattle.std.specs.Iterator.{at_most};
 use base::refusal::Refusal;
 use cases::Tally;
 use itoa::Buffer;
+use limits::limit::MAX_FILES;
 use std::io::Write;
 use std::rt::Files;
 use std::{fs, io};
-
-/// No text is longer.
-const TEXT: usize = 65536;
+use text_call::MAX_TEXT;
 
 /// Limit 2, and one more, which is refused.
-const FILES: usize = 33;
+const FILES: usize = MAX_FILES + 1;
 
 /// The bytes before the first case.
 const MAGIC: usize = 8;
@@ -41,7 +40,7 @@ fn split_length(bytes: &[u8]) -> Option<(usize, &[u8])>
     ensures { IfSome result (λ r. length r.1.now < length bytes.now) }
 {
     let (length, rest) = bytes.split_first_chunk::<4>()?;
-    // a cast: a `usize` has no `From` of a `u32`
+    // a cast: a `usize` has 64 bits, so nothing is lost, and it has no `From` of a `u32`
     Some((u32::from_le_bytes(*length) as usize, rest))
 }
 
@@ -111,6 +110,7 @@ fn is_printed(case: Case<'_>, text: &mut [u8]) -> Option<bool> {
     None
 }
 
+// Not by `cases::compare_all`, which takes an `Fn`: a case's text is written into the lent buffer.
 fn replay<W: Write>(out: &mut W, pack: &[u8], text: &mut [u8]) -> io::Result<Tally> {
     let (_, bytes) = split(pack, MAGIC);
     let mut tally = Tally::new();
@@ -126,7 +126,7 @@ fn replay<W: Write>(out: &mut W, pack: &[u8], text: &mut [u8]) -> io::Result<Tal
 
 fn replay_pack(rt: &(impl Files + Alloc + Print), path: &str) -> io::Result<()> {
     let pack = fs::read(rt, path)?;
-    let mut text = vec![in rt.alloc(); 0u8; TEXT]?;
+    let mut text = vec![in rt.alloc(); 0u8; MAX_TEXT]?;
     let tally = replay(&mut io::writer(rt), &pack, &mut text)?;
     println!(rt; "{path}: {tally}")
 }

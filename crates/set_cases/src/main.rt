@@ -84,6 +84,7 @@ fn answer_of(set: &[u8]) -> Returned {
 }
 
 /// Is this the answer of the set with that byte? The set stays as it is.
+// Not one expression: the byte is put in and put back around the answer.
 fn answers_changed(set: &mut [u8], at: usize, byte: u8, answer: Returned) -> bool {
     if at >= set.len() {
         return false;
@@ -117,6 +118,7 @@ fn apply(set: &mut Vec<u8>, command: Command<'_>) -> Result<Option<bool>, AllocE
     }
 }
 
+// Not by `cases::compare_all`, which takes an `Fn`: a command changes the set.
 fn compare<W: Write>(out: &mut W, alloc: Global, bytes: &[u8]) -> io::Result<Tally> {
     let mut set = Vec::new(alloc);
     let mut tally = Tally::new();
