@@ -22,14 +22,10 @@ use Rattle.message_graph.specs.declared.Field.{Field}
 use Rattle.message_graph.specs.Rows.{no_field, fields_of, settings_of}
 use Rattle.field_columns.proofs.SetColumns.{map_tab}
 use Rattle.message_graph.specs.Tab.{tab}
-use Rattle.declarations.specs.Rows.{State, declared, Became}
-use Rattle.declarations.specs.declared.counts.Count.{Count}
-use Rattle.declarations.specs.declared.Declaration.{Declaration}
 use Rattle.boxed_settings.specs.Flags.{set_flags}
-use Rattle.targets.specs.Targets.{field_in}
 use Rattle.context_tables.specs.Rows.{message_table, field_table}
 use Rattle.limits.specs.Short.{short}
-use Rattle.set_tables.specs.Filled.{most_fields, declaration_rows, blank_rows, zeros, no_rows, message_places, message_count, field_places, field_count, target_by, field_by, field_of, setting_bytes, columns_at, Ready, settings_to, entries_by, columned, message_rows, field_rows_in}
+use Rattle.set_tables.specs.Filled.{most_fields, declaration_rows, zeros, no_rows, message_places, message_count, field_places, field_count, target_by, field_of, setting_bytes, columns_at, Ready, settings_to, entries_by, columned, message_rows, field_rows_in}
 use Rattle.set_tables.proofs.ZeroLaws.{unset_bytes}
 
 -- a part from the start on
@@ -67,11 +63,6 @@ module _ (set : List ℕ) where
   unfolding zeros
   fresh_bytes most is = rw is
 
-  pub fresh_fields : (rs : List Setting) (most : ℕ) → declaration_rows set ≡ most → (settings : List ℕ) → settings ≡ setting_bytes set rs → (places : List Row) (size : ℕ) (r : List Field)
-      → r ≡ tab size (field_by set places (blank_rows most) settings) → r ≡ tab size (field_of set rs places)
-  unfolding zeros
-  fresh_fields rs most is settings put places size r filled = rw (is, ← put) filled
-
   pub arrays_ready : (rows : List Row) (count : ℕ) → rows ≡ message_places set → count ≡ message_count set → (most : ℕ) → most_fields set ≡ most
       → Ready set rows count (no_rows most) (replicate most no_field) (replicate most false)
   arrays_ready rows count rows_are counted most is = record {
@@ -90,10 +81,6 @@ settings_put set rs bytes end old is room filled = overlaid filled room ∙ rw i
 
 pub settings_unset : (set : List ℕ) (rs : List Setting) (old : List ℕ) → old ≡ zeros (most_fields set) → (found : Bool) → found ≡ list_any (is_of 4) rs → found ≡ false → old ≡ setting_bytes set rs
 settings_unset set rs old is found found_is unset = is ∙ unset_bytes set rs (sym found_is ∙ unset)
-
-pub fields_declared : (set : List ℕ) (places : List Row) (old t : List Declaration) (settings : List ℕ) (c : Count) (size : ℕ) → Became (declared set old) t c
-    → (r : List Field) → r ≡ tab size (field_in set places t c.rows settings) → r ≡ tab size (field_by set places old settings)
-fields_declared set places old t settings c size became r is = is ∙ ap (λ (x : State). tab size (field_in set places x.table x.rows settings)) became.is
 
 -- ---- both tables, by the fields
 

@@ -1,10 +1,6 @@
 use Rattle.set_tables.proofs.EntryLaws.{entries_below}
 use Rattle.set_tables.proofs.FillLaws.{parts_long, message_rows_are, field_rows_are}
-use native.Mathlib.Omega.{arith}
 use Rattle.set_tables.proofs.fill_by.Goals as goal
-
-pub slice_bounds-fill_rows-end-3 : goal.slice_bounds-fill_rows-end-3
-slice_bounds-fill_rows-end-3 c = omega (arith, c.min-k.ensures, c.requires.sized, c.requires.boxes)
 
 pub fill_rows-requires : goal.fill_rows-requires
 fill_rows-requires c = record { boxed_length = parts_long _ _ _ _ _ c.min-k.ensures c.requires.sized c.requires.boxes; entries_below = entries_below _ _ _ c.requires.placed c.requires.counted }

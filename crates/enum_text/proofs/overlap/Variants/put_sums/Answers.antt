@@ -1,9 +1,5 @@
-use Rattle.std.proofs.Common.{refl}
 use Rattle.enum_text.proofs.SumLaws.{summing_end, summing_more}
 use Rattle.enum_text.proofs.overlap.Variants.put_sums.Goals as goal
-
-pub loop-value-init : goal.loop-value-init
-loop-value-init c = rw (c.into_iter-value-iterator.ensures.into_iter_gives, c.values-value-items.ensures.values) refl
 
 pub loop-value-preserved : goal.loop-value-preserved
 loop-value-preserved c = summing_more _ _ _ c.loop-value.invariant c.in-Some.ensures.steps c.put_sum_of.ensures
