@@ -14,15 +14,22 @@ unfoldable pub before : {A : Type 0} → Option A → List A → List A
 before None xs = xs
 before (Some x) xs = x ∷ xs
 
+-- what each step keeps whose call doesn't answer. No: a call that doesn't
+pub kept_over : {S A F : Type 0} (steps : S → Option A → S → Type 0) (No : F → A → F → Type 0) (Holds : S → F → Type 0)
+    → ((s t : S) (x : A) (p q : F) → steps s (Some x) t → No p x q → Holds s p → Holds t q)
+    → (xs : List A) (s t : S) (p q : F) → Yields steps s xs t → FoldsTo No p xs q → Holds s p → Holds t q
+kept_over {S = S} steps No Holds keeps [] s t p q y c h = subst (λ (u : S). Holds u q) y (subst (Holds s) c h)
+kept_over steps No Holds keeps (x ∷ xs) s t p q y c h = kept_over steps No Holds keeps xs y.0 t c.0 q y.2 c.2 (keeps s y.0 x p c.0 y.1 c.1 h)
+
 -- left: what a state has left
 module _ {S A B F : Type 0} (steps : S → Option A → S → Type 0) (left : S → List B) (f : F) where
   -- No: a call that does not answer
   module _ (No : F → A → F → Type 0) (stays : (x : A) (q : F) → No f x q → q ≡ f) (skips : (s t : S) (x : A) (q : F) → steps s (Some x) t → No f x q → left s ≡ left t) where
     passed : (xs : List A) (s t : S) (j : F) → Yields steps s xs t → FoldsTo No f xs j → (left s ≡ left t) × (j ≡ f)
-    passed [] s t j y c = (ap left y, sym c)
-    passed (x ∷ xs) s t j y c =
-        let on = passed xs y.0 t j y.2 (subst (λ k. FoldsTo No k xs j) (stays x c.0 c.1) c.2) in
-        (skips s y.0 x c.0 y.1 c.1 ∙ on.0, on.1)
+    passed xs s t j y c =
+        kept_over steps No (λ (u : S) (p : F). (left s ≡ left u) × (p ≡ f))
+        (λ u v x p q step call h. let is : No f x q = subst (λ (k : F). No k x q) h.1 call in (h.0 ∙ skips u v x q step is, stays x q is))
+        xs s t f j y c (refl, refl)
 
   module _ (done : (s t : S) → steps s None t → (left s ≡ []) × (left t ≡ [])) where
     module _ (g : Mut F (Bor A × Unit {0}) Bool) (test : A → Bool) (seen : A → B) (pure : (x : A) (b : Bool) (q : F) → CalledAt g f x b q → (q ≡ f) × (b ≡ test x)) (turn : (s t : S) (x : A) → steps s (Some x) t → left s ≡ choose (test x) (seen x ∷ left t) (left t)) where

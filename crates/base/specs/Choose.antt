@@ -1,6 +1,6 @@
 -- If, then, else, and its laws: `choices` is what `search` goes through a definition's tests with.
-use Rattle.std.specs.Prelude.{◌≡◌, refl, Bool, true, false, ℕ, ◌≤◌, ◌<◌, ltb, leb, eqb}
-use Rattle.std.proofs.Common.{sym, ◌∙◌, le-ltb, lt-ltb, le-leb, eq-eqb, ne_eqb}
+use Rattle.std.specs.Prelude.{◌≡◌, refl, Bool, true, false, not, ◌&&◌, ℕ, suc, ◌+◌, ◌≤◌, ◌<◌, ltb, leb, eqb}
+use Rattle.std.proofs.Common.{sym, ap, ◌∙◌, arith, le-ltb, lt-ltb, le-leb, eq-eqb, ne_eqb}
 use Rattle.std.proofs.lemmas.Bool.{lt-leb}
 
 unfoldable pub choose {ℓ} : {A : Type ℓ} → Bool → A → A → A
@@ -12,6 +12,27 @@ pub choose_case {ℓ κ} : {A : Type ℓ} (P : A → Type κ) (t : Bool) {a b : 
 unfolding choose
 choose_case P true f g = f refl
 choose_case P false f g = g refl
+
+-- tests in turn, each with a number above 0: where the answer is 0, the first fails, and those behind it answer 0
+pub not_passed : (t : Bool) (k n : ℕ) → choose t (suc k) n ≡ 0 → (t ≡ false) × (n ≡ 0)
+unfolding choose
+not_passed true k n e = absurd (omega arith)
+not_passed false k n e = (refl, e)
+
+-- where more than 0 are counted, the first is one of them
+pub counted : (t : Bool) (n k : ℕ) → suc k ≤ choose t (1 + n) 0 → (t ≡ true) × (k ≤ n)
+unfolding choose
+counted true n k h = (refl, omega arith)
+counted false n k h = absurd (omega arith)
+
+pub chosen : (t c : Bool) → choose t c true ≡ true → t ≡ true → c ≡ true
+unfolding choose
+chosen t c h e = ap (λ (u : Bool). choose u c true) (sym e) ∙ h
+
+pub unless : (t c : Bool) → choose t false c ≡ (not t && c)
+unfolding choose
+unless true c = refl
+unless false c = refl
 
 module _ {ℓ} {A : Type ℓ} (x y z : A) where
   pub then_is : (t : Bool) → t ≡ true → z ≡ x → z ≡ choose t x y

@@ -1,11 +1,14 @@
 -- Lists: what holds of all elements or of one, how many pass a test, how many stand before the first that fails it. Assumes nothing.
-use Rattle.std.specs.Prelude.{ℕ, suc, ◌+◌, ◌≤◌, min, Bool, true, false, ◌&&◌, ◌≡◌, refl, length}
-use Rattle.std.proofs.Common.{sym, ap, arith}
+use Rattle.std.specs.Prelude.{ℕ, suc, ◌+◌, ◌≤◌, min, Bool, true, false, ◌&&◌, ◌||◌, ◌≡◌, refl, length}
+use Rattle.std.proofs.Common.{sym, ap, ◌∙◌, arith, length-append}
 use Rattle.std.specs.List.{list_any, list_all}
-use mathlib.Core.List.{List, [], ◌∷◌, ◌++◌, map}
+use mathlib.Core.List.Memᴰ
+use mathlib.Core.List.{List, [], ◌∷◌, ◌++◌, map, append_assoc, Memᴰ}
+use Rattle.std.proofs.Math.Logic.{⊎_elim}
+use Rattle.std.proofs.lemmas.List.Folds.{list_any-append, list_all-append}
 use Rattle.std.proofs.Math.Nat.{zero-min, min-zero}
 use Rattle.base.specs.Choose.{choose}
-use Rattle.base.specs.Tests.{and_left, and_right}
+use Rattle.base.specs.Tests.{bool_cases, both_ways, and_left, and_right, or_false_left, or_false_right}
 
 unfoldable pub all : {A : Type 0} → (A → Bool) → List A → Bool
 all = list_all
@@ -42,6 +45,14 @@ pub all_map : {A B : Type 0} (p : B → Bool) (g : A → B) (xs : List A) → al
 unfolding all
 all_map p g [] = refl
 all_map p g (x ∷ xs) = ap (λ (u : Bool). p (g x) && u) (all_map p g xs)
+
+pub all_of_append {ℓ κ} : {A : Type ℓ} {B : Type κ} (g : A → List B) (xs ys : List A) → all_of g (xs ++ ys) ≡ all_of g xs ++ all_of g ys
+unfolding all_of
+all_of_append g [] ys = refl
+all_of_append g (x ∷ xs) ys = ap (λ (l : List _). g x ++ l) (all_of_append g xs ys) ∙ sym (append_assoc (g x) (all_of g xs) (all_of g ys))
+
+pub all_of_length : {A B : Type 0} (g : A → List B) (xs ys : List A) → length (all_of g (xs ++ ys)) ≡ length (all_of g xs) + length (all_of g ys)
+all_of_length g xs ys = ap length (all_of_append g xs ys) ∙ length-append (all_of g xs) (all_of g ys)
 
 pub map_length {ℓ κ} : {A : Type ℓ} {B : Type κ} (g : A → B) (xs : List A) → length (map g xs) ≡ length xs
 map_length g [] = refl
@@ -92,3 +103,51 @@ module _ {ℓ} {A : Type ℓ} (P : A → Type 0) where
 pub every_to {ℓ} : {A : Type ℓ} {P Q : A → Type 0} → ((x : A) → P x → Q x) → (xs : List A) → Every P xs → Every Q xs
 every_to f [] p = tt
 every_to f (x ∷ xs) p = (f x p.0, every_to f xs p.1)
+
+module _ {A : Type 0} (p : A → Bool) where
+  pub any_append : (xs ys : List A) → any p (xs ++ ys) ≡ (any p xs || any p ys)
+  unfolding any
+  any_append xs ys = list_any-append p xs ys
+
+  pub all_append : (xs ys : List A) → all p (xs ++ ys) ≡ (all p xs && all p ys)
+  unfolding all
+  all_append xs ys = list_all-append p xs ys
+
+  pub any_left : (xs ys : List A) → any p (xs ++ ys) ≡ false → any p xs ≡ false
+  any_left xs ys h = or_false_left (any p xs) (any p ys) (sym (any_append xs ys) ∙ h)
+
+  pub any_right : (xs ys : List A) → any p (xs ++ ys) ≡ false → any p ys ≡ false
+  any_right xs ys h = or_false_right (any p xs) (any p ys) (sym (any_append xs ys) ∙ h)
+
+-- ---- counts
+
+pub count_append {ℓ} : {A : Type ℓ} (p : A → Bool) (xs ys : List A) → count p (xs ++ ys) ≡ count p xs + count p ys
+unfolding count choose
+count_append p [] ys = omega arith
+count_append p (x ∷ xs) ys = by (p x) (count_append p xs ys)
+  where
+    by : (t : Bool) → count p (xs ++ ys) ≡ count p xs + count p ys → choose t (1 + count p (xs ++ ys)) (count p (xs ++ ys)) ≡ choose t (1 + count p xs) (count p xs) + count p ys
+    by true e = omega arith
+    by false e = e
+
+-- fewer pass the stronger test
+pub count_less : {A : Type 0} (p q : A → Bool) → ((x : A) → p x ≡ true → q x ≡ true) → (xs : List A) → count p xs ≤ count q xs
+unfolding count choose
+count_less p q within [] = omega arith
+count_less p q within (x ∷ xs) = go (p x) (q x) (within x) (count_less p q within xs)
+  where
+    go : (a c : Bool) → (a ≡ true → c ≡ true) → count p xs ≤ count q xs → choose a (1 + count p xs) (count p xs) ≤ choose c (1 + count q xs) (count q xs)
+    go true true h l = omega arith
+    go true false h l = both_ways (h refl) refl
+    go false true h l = omega arith
+    go false false h l = l
+
+pub some_count : {A : Type 0} (p : A → Bool) (xs : List A) (x : A) → Memᴰ x xs → p x ≡ true → 1 ≤ count p xs
+unfolding count choose
+some_count p [] x m is = absurd (Memᴰ.not-nil m)
+some_count p (y ∷ ys) x m is =
+    ⊎_elim (λ e. let passes : p y ≡ true = ap p (sym e) ∙ is in rw passes (omega arith))
+    (λ w.
+    let on = some_count p ys x w is in
+    ⊎_elim (λ h. rw h (omega arith)) (λ h. rw h on) (bool_cases (p y)))
+    (Memᴰ.cases_cons m)

@@ -39,3 +39,30 @@ or_false_left false b p = refl
 pub or_false_right : (a b : Bool) → (a || b) ≡ false → b ≡ false
 or_false_right true b p = both_ways refl p
 or_false_right false b p = p
+
+pub and_false : (a b : Bool) → b ≡ false → (a && b) ≡ false
+and_false true b p = p
+and_false false b p = refl
+
+-- the second test counts only where the first holds
+pub and_same : (a b c : Bool) → (a ≡ true → b ≡ c) → (a && b) ≡ (a && c)
+and_same true b c p = p refl
+and_same false b c p = refl
+
+-- what fails is not implied by what holds
+pub not_implied : {a b : Bool} → (a ≡ true → b ≡ true) → b ≡ false → a ≡ false
+not_implied {a} {b} p q = by a p
+  where
+    by : (t : Bool) → (t ≡ true → b ≡ true) → t ≡ false
+    by true h = both_ways (h refl) q
+    by false h = refl
+
+-- each implies the other
+pub same_test : (a b : Bool) → (a ≡ true → b ≡ true) → (b ≡ true → a ≡ true) → a ≡ b
+same_test true b p q = sym (p refl)
+same_test false true p q = q refl
+same_test false false p q = refl
+
+pub by_test : (P : Bool → Type 0) (t : Bool) → (t ≡ true → P true) → (t ≡ false → P false) → P t
+by_test P true f g = f refl
+by_test P false f g = g refl

@@ -5,7 +5,7 @@ use Rattle.std.proofs.Common.{sym, ◌∙◌}
 use mathlib.Core.List.{List, Memᴰ}
 use Rattle.std.proofs.Math.Logic.{⊎_elim}
 use Rattle.base.specs.Choose.{choose}
-use Rattle.base.specs.Tests.{both_ways, and_left, or_left, or_cases}
+use Rattle.base.specs.Tests.{both_ways, and_left, or_left, or_cases, and_same}
 use Rattle.descriptor.specs.Descriptor.{Bytes, FileDescriptor}
 use Rattle.options.specs.Settings.{Setting}
 use Rattle.name_rules.specs.Accessors.{text, is_repeated, is_message, is_group}
@@ -26,10 +26,6 @@ use Rattle.context_laws.proofs.Links.{led_sound, led_complete, link_of, in_set, 
 -- a singular field of type message or group
 abbrev pub may_box : Row → Bool
 may_box r = (is_message r.field || is_group r.field) && not (is_repeated r.field)
-
-and_same : (t x y : Bool) → (t ≡ true → x ≡ y) → (t && x) ≡ (t && y)
-and_same true x y h = h refl
-and_same false x y h = refl
 
 box_cases : (typed repeated nested set : Bool) → choose repeated false (choose (typed && nested) true set) ≡ choose ((typed && not repeated) && nested) true (choose repeated false set)
 unfolding choose

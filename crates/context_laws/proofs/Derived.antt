@@ -8,6 +8,7 @@ use Rattle.std.proofs.lemmas.List.{length-map}
 use Rattle.base.specs.Bytes.{same, same_refl, same_sound}
 use Rattle.base.specs.Choose.{choose}
 use Rattle.base.specs.Lists.{all}
+use Rattle.base.specs.Tests.{same_test}
 use Rattle.field_types.specs.Types.{type_eq}
 use Rattle.descriptor.specs.Descriptor.{Bytes, FieldDescriptor, FileDescriptor}
 use Rattle.options.specs.Settings.{Setting}
@@ -20,7 +21,7 @@ use Rattle.message_graph.specs.Fields.{owner_of}
 use Rattle.message_graph.specs.Fields as numbers
 use Rattle.message_graph.specs.Leads.{Leads}
 use Rattle.message_graph.specs.Leads.Leads.{here, step}
-use Rattle.message_graph.specs.Decided.{leads_sound, same_test}
+use Rattle.message_graph.specs.Decided.{leads_sound}
 use Rattle.derives.specs.declared.Derive.{Derive}
 use Rattle.derives.specs.declared.Derive.TheVariants.{Copy, Eq}
 use Rattle.derives.specs.Rules.{rule}

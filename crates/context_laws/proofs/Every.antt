@@ -3,11 +3,11 @@ use Rattle.std.specs.Prelude.{◌≡◌, Bool, true, false, ◌&&◌, ◌||◌, 
 use Rattle.std.proofs.Math.Path.{refl, ap}
 use Rattle.std.proofs.Common.{sym, ◌∙◌}
 use Rattle.std.proofs.Math.Bool.{and_assoc, and-true}
-use mathlib.Core.List.{List, [], ◌∷◌, ◌++◌, map}
+use mathlib.Core.List.{List, [], ◌∷◌, map}
 use Rattle.std.proofs.Math.Logic.{⊎_elim}
 use Rattle.base.specs.Bytes.{same, same_sound}
 use Rattle.base.specs.Choose.{choose}
-use Rattle.base.specs.Lists.{all, any, all_map}
+use Rattle.base.specs.Lists.{all, any, all_map, all_append}
 use Rattle.base.specs.Tests.{bool_cases, or_false_left, or_false_right}
 use Rattle.descriptor.specs.Descriptor.{Bytes, FieldDescriptor}
 use Rattle.name_rules.specs.FullNames.{Entry}
@@ -29,11 +29,6 @@ every_is_all [] p q h = refl
 every_is_all (x ∷ xs) p q h =
     every_first (length xs) p
     ∙ rw (h x zero (first refl)) (ap (λ (t : Bool). q x && t) (every_is_all xs (λ k. p (suc k)) q (λ y k at. h y (suc k) (next at))))
-
-all_append : {A : Type 0} (p : A → Bool) (xs ys : List A) → all p (xs ++ ys) ≡ (all p xs && all p ys)
-unfolding all
-all_append p [] ys = refl
-all_append p (x ∷ xs) ys = rw (all_append p xs ys) (sym (and_assoc (p x) (all p xs) (all p ys)))
 
 all_true : {A : Type 0} (p : A → Bool) → ((x : A) → p x ≡ true) → (xs : List A) → all p xs ≡ true
 unfolding all

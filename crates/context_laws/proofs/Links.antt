@@ -5,7 +5,7 @@ use mathlib.Core.List.Memᴰ
 use mathlib.Core.List.{List, [], ◌∷◌, ◌++◌, map, Memᴰ}
 use Rattle.base.specs.Bytes.{same, same_refl, same_sound}
 use Rattle.base.specs.Choose.{choose, choose_case}
-use Rattle.base.specs.Tests.{and_left, or_left}
+use Rattle.base.specs.Tests.{and_left, or_left, same_test}
 use Rattle.descriptor.specs.Descriptor.{Bytes, FieldDescriptor}
 use Rattle.name_rules.specs.Accessors.{is_repeated, is_message, is_group}
 use Rattle.name_rules.specs.FullNames.{Entry}
@@ -14,7 +14,7 @@ use Rattle.message_graph.specs.Leads.{Leads, leadsb}
 use Rattle.message_graph.specs.Leads.Leads.{here, step}
 use Rattle.message_graph.specs.Walks.{walks, walks_sound, walks_complete}
 use Rattle.message_graph.specs.Walks.Walk.{stay, go}
-use Rattle.message_graph.specs.Decided.{leads_sound, leads_complete, same_test}
+use Rattle.message_graph.specs.Decided.{leads_sound, leads_complete}
 use Rattle.context_laws.specs.At.{At}
 use Rattle.context_laws.specs.At.At.{first, next}
 use Rattle.context_laws.specs.Tables.{Row, field_row, rows_from, rows_of, listed, number_of, type_name_of, tables_of, Sound}

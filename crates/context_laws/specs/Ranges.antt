@@ -5,16 +5,17 @@ use Rattle.std.proofs.lemmas.Bool.{false≢true}
 use mathlib.Core.List.Memᴰ
 use mathlib.Core.List.{List, [], ◌∷◌, Memᴰ}
 use Rattle.std.proofs.Math.Option.{Option, some, none}
-use Rattle.base.specs.Choose.{choose}
+use Rattle.base.specs.Choose.{choose, counted}
 use Rattle.base.specs.Lists.{all, first_failing}
 use Rattle.base.specs.Tests.{and_left, and_right}
+use Rattle.name_rules.proofs.AppendLaws.{fields_append}
 use Rattle.descriptor.specs.Descriptor.{Bytes, Forest, done, node, FieldDescriptor, MessageDescriptor, FileDescriptor}
 use Rattle.name_rules.specs.Accessors.{or_else, text, type, label}
 use Rattle.name_rules.specs.Rules.{has_name, within, field_good, message_good, entry_good, messages_good, package_good, syntax_good, file_good}
 use Rattle.name_rules.specs.MapEntries.{map_entries_named}
 use Rattle.name_rules.specs.FullNames.{◌·◌, entries, set_entries, package_scope, fields_of_entries, set_fields}
 use Rattle.name_rules.specs.Answer.{file_named, first_six, names}
-use Rattle.context_laws.specs.SoundSets.{fields_append, past, all_of_all, file_entries}
+use Rattle.context_laws.specs.SoundSets.{all_of_all, file_entries}
 use Rattle.name_rules.proofs.NamesLaws.{no_refusals}
 
 pub record Ranged (f : FieldDescriptor) : Type 0 where
@@ -51,7 +52,7 @@ files_ranged : (all_fields : List FieldDescriptor) (fs : List FileDescriptor) �
 unfolding first_failing set_entries fields_of_entries file_named file_good
 files_ranged all_fields [] h f m = absurd (Memᴰ.not-nil m)
 files_ranged all_fields (x ∷ fs) h f m =
-    let ok = past (file_named all_fields x) (first_failing (file_named all_fields) fs) (length fs) h in
+    let ok = counted (file_named all_fields x) (first_failing (file_named all_fields) fs) (length fs) h in
     let good = and_right (syntax_good x.syntax) _ (and_right (package_good x.package_name) _ (and_left (file_good x) (map_entries_named all_fields x) ok.0)) in
     ⊎_elim (λ w. forest_ranged (package_scope x.package_name) x.messages (and_left (messages_good x.messages) _ good) f w)
     (λ w. files_ranged all_fields fs ok.1 f w)

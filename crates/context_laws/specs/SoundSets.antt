@@ -1,20 +1,21 @@
 -- A set within limit 3 and without refusals 6 and 7 is sound. Assumes nothing.
-use Rattle.std.specs.Prelude.{◌≡◌, refl, Bool, true, false, ◌&&◌, ◌||◌, not, ℕ, suc, ◌+◌, ◌≤◌, ltb, length, Ok}
-use Rattle.std.proofs.Common.{sym, ◌∙◌, ap, subst, ⊎_elim, not-suc-le-zero, arith, length-append, ltb-false}
+use Rattle.std.specs.Prelude.{◌≡◌, refl, Bool, true, false, ◌&&◌, ◌||◌, not, ℕ, suc, ◌+◌, ◌≤◌, length, Ok}
+use Rattle.std.proofs.Common.{sym, ◌∙◌, ap, subst, ⊎_elim, length-append, ltb-false}
 use Rattle.std.proofs.Math.Bool.{or-false, or_assoc}
 use mathlib.Core.List.Memᴰ
-use mathlib.Core.List.{List, [], ◌∷◌, ◌++◌, append_assoc, Memᴰ}
+use mathlib.Core.List.{List, [], ◌∷◌, ◌++◌, Memᴰ}
 use Rattle.std.proofs.lemmas.Bool.{not-true}
 use Rattle.base.specs.Bytes.{same, same_refl, same_sound}
-use Rattle.base.specs.Choose.{choose}
+use Rattle.base.specs.Choose.{choose, counted}
 use Rattle.base.specs.Lists.{all, any, all_of}
-use Rattle.base.specs.Tests.{bool_cases, both_ways, and_left, and_right, or_left, or_right, or_cases, or_false_left, or_false_right}
+use Rattle.base.specs.Tests.{both_ways, and_left, and_right, or_left, or_right, or_cases, or_false_left, or_false_right, not_implied}
+use Rattle.name_rules.proofs.AppendLaws.{declared_append, as_append, fields_append}
 use Rattle.descriptor.specs.Descriptor.{Bytes, Forest, done, node, preorder, FieldDescriptor, EnumDescriptor, MessageDescriptor, FileDescriptor}
 use Rattle.descriptor.specs.Limits.{max_messages, messages_in}
 use Rattle.name_rules.specs.Accessors.{text}
-use Rattle.name_rules.specs.FullNames.{◌·◌, Entry, entries, set_entries, package_scope, Declaration, enum_declarations, entry_declarations, file_declarations, set_declarations, declared, equals, declared_as, fresh, type_declared, fields_of_entries, file_fields, first_undeclared}
+use Rattle.name_rules.specs.FullNames.{◌·◌, Entry, entries, set_entries, package_scope, Declaration, enum_declarations, entry_declarations, file_declarations, set_declarations, declared, declared_as, fresh, type_declared, fields_of_entries, file_fields, first_undeclared}
 use Rattle.name_rules.proofs.NamesLaws.{no_refusals}
-use Rattle.name_rules.specs.Answer.{first_six, first_seven, names}
+use Rattle.name_rules.specs.Answer.{first_seven, names}
 use Rattle.context_laws.specs.Tables.{listed, Distinct, Sound}
 
 -- ---- tests over two lists, one after the other
@@ -23,21 +24,6 @@ listed_append : (x : Bytes) (xs ys : List Entry) → listed (xs ++ ys) x ≡ (li
 unfolding listed any
 listed_append x [] ys = refl
 listed_append x (e ∷ xs) ys = rw (listed_append x xs ys) (sym (or_assoc (same e.full x) (listed xs x) (listed ys x)))
-
-declared_append : (x : Bytes) (xs ys : List Declaration) → declared x (xs ++ ys) ≡ (declared x xs || declared x ys)
-unfolding declared
-declared_append x [] ys = refl
-declared_append x (d ∷ xs) ys = rw (declared_append x xs ys) (sym (or_assoc (same d.full x) (declared x xs) (declared x ys)))
-
-as_append : (x : Bytes) (xs ys : List Declaration) → declared_as false x (xs ++ ys) ≡ (declared_as false x xs || declared_as false x ys)
-unfolding declared_as
-as_append x [] ys = refl
-as_append x (d ∷ xs) ys = rw (as_append x xs ys) (sym (or_assoc (equals d.is_enumeration false && same d.full x) (declared_as false x xs) (declared_as false x ys)))
-
-pub fields_append : (xs ys : List Entry) → fields_of_entries (xs ++ ys) ≡ fields_of_entries xs ++ fields_of_entries ys
-unfolding fields_of_entries
-fields_append [] ys = refl
-fields_append (e ∷ xs) ys = rw (fields_append xs ys) (sym (append_assoc e.message.fields (fields_of_entries xs) (fields_of_entries ys)))
 
 -- ---- the messages among the declarations
 
@@ -52,14 +38,14 @@ no_enum scope x (e ∷ es) = no_enum scope x es
 entry_as : (x : Bytes) (es : List Entry) → declared_as false x (entry_declarations es) ≡ listed es x
 unfolding declared_as listed any
 entry_as x [] = refl
-entry_as x (e ∷ es) = rw (as_append x (enum_declarations e.full e.message.enums) (entry_declarations es), no_enum e.full x e.message.enums, entry_as x es)
+entry_as x (e ∷ es) = rw (as_append false x (enum_declarations e.full e.message.enums) (entry_declarations es), no_enum e.full x e.message.enums, entry_as x es)
 
 set_as : (x : Bytes) (fs : List FileDescriptor) → declared_as false x (set_declarations fs) ≡ listed (set_entries fs) x
 unfolding declared_as listed any set_declarations set_entries file_declarations
 set_as x [] = refl
 set_as x (f ∷ fs) =
-    as_append x (file_declarations f) (set_declarations fs)
-    ∙ rw (as_append x (entry_declarations (file_entries f)) (enum_declarations (package_scope f.package_name) f.enums), no_enum (package_scope f.package_name) x f.enums, entry_as x (file_entries f), or-false, set_as x fs)
+    as_append false x (file_declarations f) (set_declarations fs)
+    ∙ rw (as_append false x (entry_declarations (file_entries f)) (enum_declarations (package_scope f.package_name) f.enums), no_enum (package_scope f.package_name) x f.enums, entry_as x (file_entries f), or-false, set_as x fs)
     (sym (listed_append x (file_entries f) (set_entries fs)))
 
 entry_declared : (x : Bytes) (es : List Entry) → listed es x ≡ true → declared x (entry_declarations es) ≡ true
@@ -74,10 +60,6 @@ file_declared : (x : Bytes) (f : FileDescriptor) → listed (file_entries f) x �
 unfolding file_declarations
 file_declared x f h =
     declared_append x (entry_declarations (file_entries f)) (enum_declarations (package_scope f.package_name) f.enums) ∙ or_left _ (entry_declared x (file_entries f) h)
-
--- what isn't declared isn't listed
-unlisted : {p q : Bool} → (p ≡ true → q ≡ true) → q ≡ false → p ≡ false
-unlisted {p} h e = ⊎_elim (λ w. both_ways (h w) e) (λ w. w) (bool_cases p)
 
 -- ---- declarations that are all fresh
 
@@ -101,7 +83,7 @@ unfolding fresh declared
 fresh_is_apart before [] h = tt
 fresh_is_apart before (d ∷ ds) h =
     let rest = and_right (not (declared d.full before)) (fresh (d ∷ before) ds) h in
-    (unlisted (λ w. both_ways (or_left _ (same_refl d.full)) (fresh_apart (d ∷ before) ds d.full rest w)) refl, fresh_is_apart (d ∷ before) ds rest)
+    (not_implied (λ w. both_ways (or_left _ (same_refl d.full)) (fresh_apart (d ∷ before) ds d.full rest w)) refl, fresh_is_apart (d ∷ before) ds rest)
 
 apart_left : (xs ys : List Declaration) → Apart (xs ++ ys) → Apart xs
 apart_left [] ys p = tt
@@ -115,7 +97,7 @@ distinct_entries : (es : List Entry) → Apart (entry_declarations es) → Disti
 distinct_entries [] p = tt
 distinct_entries (e ∷ es) p =
     let enums = enum_declarations e.full e.message.enums in (
-      unlisted (entry_declared e.full es) (or_false_right (declared e.full enums) (declared e.full (entry_declarations es)) (sym (declared_append e.full enums (entry_declarations es)) ∙ p.0)),
+      not_implied (entry_declared e.full es) (or_false_right (declared e.full enums) (declared e.full (entry_declarations es)) (sym (declared_append e.full enums (entry_declarations es)) ∙ p.0)),
       distinct_entries es (apart_right enums (entry_declarations es) p.1),
     )
 
@@ -123,16 +105,11 @@ distinct_append : (xs ys : List Entry) → Distinct xs → Distinct ys → ((x :
 unfolding listed any
 distinct_append [] ys p q h = q
 distinct_append (e ∷ xs) ys p q h = (
-  listed_append e.full xs ys ∙ rw p.0 (unlisted (λ w. both_ways (or_left _ (same_refl e.full)) (h e.full w)) refl),
+  listed_append e.full xs ys ∙ rw p.0 (not_implied (λ w. both_ways (or_left _ (same_refl e.full)) (h e.full w)) refl),
   distinct_append xs ys p.1 q (λ x w. or_false_right (same e.full x) (listed xs x) (h x w)),
 )
 
 -- ---- files without refusal 7
-
-pub past : (t : Bool) (u n : ℕ) → suc n ≤ choose t (1 + u) 0 → (t ≡ true) × (n ≤ u)
-unfolding choose
-past true u n h = (refl, omega arith)
-past false u n h = absurd (not-suc-le-zero h)
 
 pub all_of_all : {A : Type 0} (p : A → Bool) (xs : List A) → all p xs ≡ true → (x : A) → Memᴰ x xs → p x ≡ true
 unfolding all
@@ -152,7 +129,7 @@ files_pass ds before [] h = record { distinct = tt; new = λ x w. both_ways w re
 files_pass ds before (f ∷ fs) h =
     let here = fresh before (file_declarations f) in
     let sorts = all (type_declared ds) (file_fields f) in
-    let ok = past (here && sorts) (first_undeclared ds (before ++ file_declarations f) fs) (length fs) h in
+    let ok = counted (here && sorts) (first_undeclared ds (before ++ file_declarations f) fs) (length fs) h in
     let is_fresh = and_left here sorts ok.0 in
     let rest = files_pass ds (before ++ file_declarations f) fs ok.1 in
     let apart_from : (x : Bytes) → listed (set_entries fs) x ≡ true → (declared x before || declared x (file_declarations f)) ≡ false = λ x w. sym (declared_append x before (file_declarations f)) ∙ rest.new x w in
@@ -160,7 +137,7 @@ files_pass ds before (f ∷ fs) h =
       distinct = distinct_append (file_entries f) (set_entries fs)
           (distinct_entries (file_entries f) (apart_left (entry_declarations (file_entries f)) (enum_declarations (package_scope f.package_name) f.enums) (fresh_is_apart before (file_declarations f) is_fresh)))
           rest.distinct
-          (λ x w. unlisted (file_declared x f) (or_false_right (declared x before) (declared x (file_declarations f)) (apart_from x w)));
+          (λ x w. not_implied (file_declared x f) (or_false_right (declared x before) (declared x (file_declarations f)) (apart_from x w)));
       new = λ x w.
           ⊎_elim (λ v. fresh_apart before (file_declarations f) x is_fresh (file_declared x f v))
           (λ v. or_false_left (declared x before) (declared x (file_declarations f)) (apart_from x v))

@@ -4,11 +4,11 @@ use mathlib.Core.Bool.{Bool, true, false}
 use mathlib.Core.List.{List, [], ◌∷◌, map}
 use Prim.Native.Nat.{ℕ, ◌+◌, ◌-◌, ◌≤◌}
 use native.Mathlib.Omega.{arith}
-use lib.ListN.{length, take, drop}
+use lib.ListN.{length}
 use lib.Dec.{eqb}
-use Rattle.base.specs.Choose.{choose, choose_case}
+use Rattle.base.specs.Choose.{choose}
 use Rattle.wire.specs.Records.{records, part}
-use Rattle.wire.specs.Contents.{field_of, value_of, payload_of}
+use Rattle.wire.specs.Contents.{field_of, value_of}
 use Rattle.wire.proofs.RecordsLaws.{In, AllIn, records_in, length_part}
 use Rattle.wire.specs.Step.{Record, Step, End, Fault, Found}
 use Rattle.descriptor.specs.Decode.{entries, entries_of, last, last_from, text as decoded, bytes_in, parts, decode_message, decode_enum, decode_file}
@@ -18,31 +18,13 @@ use Rattle.std.proofs.Math.Option as option
 use Rattle.std.specs.Prelude.{Option, None, Some}
 use Rattle.std.specs.Option.{is_some}
 use Rattle.std.specs.List.{last_or}
-use Rattle.descriptor.proofs.PartLaws.{bytes_of}
-use Rattle.descriptor.proofs.PartLaws.{part_part}
+use Rattle.descriptor.specs.Places.{end_in, inside}
+use Rattle.descriptor.proofs.PartLaws.{part_part, inside_is, end_before}
 use Rattle.declarations.specs.declared.places.Place.{Place}
 use Rattle.name_rules.specs.Accessors.{text}
-use Rattle.declarations.specs.Rows.{bytes_at, end_in, place, places_of, places, last_place, lies, package_of, declaration_row}
+use Rattle.declarations.specs.Rows.{bytes_at, place, places_of, places, last_place, lies, package_of, declaration_row}
 use Rattle.declarations.specs.declared.Kind.{Kind}
 use Rattle.declarations.specs.Listed.{name_of}
-
--- the bytes inside a record
-abbrev inside : List ℕ → Record → List ℕ
-inside s f = part s f.start (end_in f - f.start)
-
-inside_is : (s : List ℕ) (f : Record) → inside s f ≡ bytes_in (value_of s f)
-unfolding end_in choose
-inside_is s f =
-    choose_case (λ (n : ℕ). part s f.start (n - f.start) ≡ bytes_in (value_of s f)) (eqb f.wiretype 2)
-    (λ e. let p : choose (eqb f.wiretype 2) (payload_of s f) [] ≡ payload_of s f = rw e in sym p ∙ bytes_of s f)
-    (λ e.
-    let p : choose (eqb f.wiretype 2) (payload_of s f) [] ≡ [] = rw e in
-    let z : f.start - f.start ≡ 0 = omega arith in
-    ap (λ (n : ℕ). take n (drop f.start s)) z ∙ sym p ∙ bytes_of s f)
-
-end_before : (n : ℕ) (f : Record) → In n f → (f.start ≤ end_in f) × (end_in f ≤ n)
-unfolding end_in
-end_before n f l = choose_case (λ (e : ℕ). (f.start ≤ e) × (e ≤ n)) (eqb f.wiretype 2) (λ _. (l.from, l.to)) (λ _. let a = l.from in let c = l.to in (omega arith, omega arith))
 
 -- an embedded message ends behind its bytes
 pub inside_length : (s : List ℕ) (f : Record) → In (length s) f → f.start + length (bytes_in (value_of s f)) ≡ end_in f

@@ -4,6 +4,7 @@ use Rattle.std.specs.Prelude.{ℕ, zero, suc, ◌+◌, ◌-◌, ◌≤◌, ◌�
 use Rattle.std.specs.Option.{is_some, unwrap_or}
 use Rattle.std.specs.List.{last_or}
 use Rattle.base.specs.Choose.{choose}
+use Rattle.descriptor.specs.Places.{end_in}
 use Rattle.wire.specs.Records.{records, part}
 use Rattle.wire.specs.Step.{Record, Step, End, Fault, Found}
 use Rattle.declarations.specs.declared.places.Place.{Place}
@@ -15,10 +16,6 @@ use Rattle.declarations.specs.declared.counts.Count.{Count}
 -- the bytes at a place of the set
 abbrev pub bytes_at : List ℕ → Place → List ℕ
 bytes_at bytes p = part bytes p.start (p.end - p.start)
-
--- where an embedded message ends: one of another wire type has no bytes
-unfoldable pub end_in : Record → ℕ
-end_in f = choose (eqb f.wiretype 2) f.next f.start
 
 -- where one lies in the set, whose message's bytes start at base
 abbrev pub place : ℕ → Record → Place

@@ -7,12 +7,14 @@ use native.Mathlib.Omega.{arith}
 use lib.ListN.{length}
 use Rattle.base.specs.Bytes.{same}
 use Rattle.base.specs.Choose.{choose}
-use Rattle.base.specs.Lists.{all, all_of}
+use Rattle.base.specs.Lists.{all, all_of, all_append, all_of_append}
+use Rattle.base.specs.Tests.{same_test}
+use Rattle.name_rules.proofs.AppendLaws.{declared_append}
 use Rattle.descriptor.specs.Descriptor.{Bytes, FieldDescriptor, EnumDescriptor, FileDescriptor}
 use Rattle.name_rules.specs.FullNames.{package_scope, Entry, Declaration, declared, fresh, type_declared, fields_of_entries, file_fields, file_declarations, first_undeclared}
 use Rattle.declarations.specs.Listed.{Listed, listed_enums, listed_entries, file_entries, listed_file, listed_files, declaration_of}
 use Rattle.declarations.proofs.ListedLaws.{file_declared}
-use Rattle.type_names.proofs.FreshLaws.{declared_append, fresh_fewer}
+use Rattle.type_names.proofs.FreshLaws.{fresh_fewer}
 use Rattle.declared_types.proofs.RowLaws.{D}
 
 abbrev pub good : List Declaration → List Declaration → Listed → Bool
@@ -49,11 +51,6 @@ file_in file m f = in_append file (listed_entries file m (file_entries f)) (list
 abbrev fields_in : List Listed → List FieldDescriptor
 fields_in = all_of (λ (l : Listed). l.fields)
 
-fields_append : (ls ks : List Listed) → fields_in (ls ++ ks) ≡ fields_in ls ++ fields_in ks
-unfolding all_of
-fields_append [] ks = refl
-fields_append (l ∷ ls) ks = ap (λ (x : List FieldDescriptor). l.fields ++ x) (fields_append ls ks) ∙ sym (append_assoc l.fields (fields_in ls) (fields_in ks))
-
 enums_fields : (file : ℕ) (scope : Bytes) (es : List EnumDescriptor) → fields_in (listed_enums file scope es) ≡ []
 unfolding listed_enums all_of
 enums_fields file scope [] = refl
@@ -64,23 +61,18 @@ unfolding listed_entries all_of fields_of_entries
 entries_fields file m [] = refl
 entries_fields file m (e ∷ es) =
     ap (λ (x : List FieldDescriptor). e.message.fields ++ x)
-    (fields_append (listed_enums file e.full e.message.enums) (listed_entries file (m + 1) es) ∙ rw (enums_fields file e.full e.message.enums) (entries_fields file (m + 1) es))
+    (all_of_append (λ (l : Listed). l.fields) (listed_enums file e.full e.message.enums) (listed_entries file (m + 1) es) ∙ rw (enums_fields file e.full e.message.enums) (entries_fields file (m + 1) es))
 
 listed_fields : (file m : ℕ) (f : FileDescriptor) → fields_in (listed_file file m f) ≡ file_fields f
 unfolding listed_file
 listed_fields file m f =
-    fields_append (listed_entries file m (file_entries f)) (listed_enums file (package_scope f.package_name) f.enums)
+    all_of_append (λ (l : Listed). l.fields) (listed_entries file m (file_entries f)) (listed_enums file (package_scope f.package_name) f.enums)
     ∙ rw (enums_fields file (package_scope f.package_name) f.enums, entries_fields file m (file_entries f)) (append-nil (file_fields f))
 
 -- declared before: in which order does not matter
 same_fresh : (b c ds : List Declaration) → ((x : Bytes) → declared x b ≡ declared x c) → fresh b ds ≡ fresh c ds
 same_fresh b c ds h =
-    both (fresh b ds) (fresh c ds) (λ e. fresh_fewer c b ds (λ x q. sym (h x) ∙ q) e) (λ e. fresh_fewer b c ds (λ x q. h x ∙ q) e)
-  where
-    both : (s t : Bool) → (s ≡ true → t ≡ true) → (t ≡ true → s ≡ true) → s ≡ t
-    both true t f g = sym (f refl)
-    both false true f g = g refl
-    both false false f g = refl
+    same_test (fresh b ds) (fresh c ds) (λ e. fresh_fewer c b ds (λ x q. sym (h x) ∙ q) e) (λ e. fresh_fewer b c ds (λ x q. h x ∙ q) e)
 
 moved : (b : List Declaration) (d : Declaration) (x : Bytes) → declared x (d ∷ b) ≡ declared x (b ++ (d ∷ []))
 unfolding declared
@@ -91,15 +83,6 @@ moved b d x = swap (same d.full x) (declared x b) ∙ sym (declared_append x b (
     swap true false = refl
     swap false true = refl
     swap false false = refl
-
-all_both : (p : FieldDescriptor → Bool) (xs ys : List FieldDescriptor) → all p (xs ++ ys) ≡ (all p xs && all p ys)
-unfolding all
-all_both p [] ys = refl
-all_both p (x ∷ xs) ys = ap (λ (b : Bool). p x && b) (all_both p xs ys) ∙ assoc (p x) (all p xs) (all p ys)
-  where
-    assoc : (a b c : Bool) → (a && (b && c)) ≡ ((a && b) && c)
-    assoc true b c = refl
-    assoc false b c = refl
 
 tests : (n a m b : Bool) (x file : ℕ) → choose (n && a) (choose (m && b) x file) file ≡ choose ((n && m) && (a && b)) x file
 unfolding choose
@@ -117,7 +100,7 @@ module _ (ds : List Declaration) (files file : ℕ) where
       ap (λ (x : ℕ). choose (good ds before l) x l.file) (part_bad (before ++ (declaration_of l ∷ [])) ls ks h.1)
       ∙ ap (choose (good ds before l) (choose (fresh (before ++ (declaration_of l ∷ [])) (D ls) && all (type_declared ds) (fields_in ls)) (bad_file ds files ((before ++ (declaration_of l ∷ [])) ++ D ls) ks) file)) h.0
       ∙ tests (not (declared l.full before)) (all (type_declared ds) l.fields) (fresh (before ++ (declaration_of l ∷ [])) (D ls)) (all (type_declared ds) (fields_in ls)) (bad_file ds files ((before ++ (declaration_of l ∷ [])) ++ D ls) ks) file
-      ∙ rw (append_assoc before (declaration_of l ∷ []) (D ls), all_both (type_declared ds) l.fields (fields_in ls), same_fresh (declaration_of l ∷ before) (before ++ (declaration_of l ∷ [])) (D ls) (moved before (declaration_of l)))
+      ∙ rw (append_assoc before (declaration_of l ∷ []) (D ls), all_append (type_declared ds) l.fields (fields_in ls), same_fresh (declaration_of l ∷ before) (before ++ (declaration_of l ∷ [])) (D ls) (moved before (declaration_of l)))
 
 pub files_bad : (ds : List Declaration) (files file m : ℕ) (before : List Declaration) (fs : List FileDescriptor) → files ≡ file + length fs
     → bad_file ds files before (listed_files file m fs) ≡ file + first_undeclared ds before fs

@@ -1,6 +1,6 @@
 -- A table's rows and what they list: look-ups find what is declared. Assumes nothing.
 use mathlib.Core.Path.{◌≡◌, refl, sym, ap, ◌∙◌}
-use mathlib.Core.Bool.{Bool, true, false, ◌&&◌, ◌||◌}
+use mathlib.Core.Bool.{Bool, true, false, ◌||◌}
 use mathlib.Core.List.{List, [], ◌∷◌, ◌++◌, map, append-nil, append_assoc}
 use Prim.Native.Nat.{ℕ, zero, suc, ◌+◌, ◌≤◌, ◌<◌}
 use native.Mathlib.Numerals.{add-one}
@@ -9,16 +9,17 @@ use lib.Dec.{eqb, ltb}
 use borrow.Author.Tests.{eqb-true, eqb-false, le-ltb, lt-ltb, ne_eqb}
 use Rattle.base.specs.Bytes.{same}
 use Rattle.base.specs.Choose.{choose}
+use Rattle.std.proofs.Math.Bool.{or-false}
+use Rattle.name_rules.proofs.AppendLaws.{declared_append, as_append}
 use Rattle.descriptor.specs.Descriptor.{Bytes, FieldDescriptor}
 use Rattle.name_rules.specs.Accessors.{text, type}
-use Rattle.name_rules.specs.FullNames.{Declaration, declared, declared_as, equals, type_declared}
+use Rattle.name_rules.specs.FullNames.{Declaration, declared, declared_as, type_declared}
 use Rattle.declarations.specs.Rows.{row_at, kind_number}
 use Rattle.declarations.specs.Listed.{full, Listed, listed_row, listed, declaration_of}
 use Rattle.declarations.specs.declared.Declaration.{Declaration as Row}
 use Rattle.type_names.specs.declared.Sort.{Sort}
 use Rattle.type_names.specs.declared.Sort.TheVariants.{Enum, Message}
 use Rattle.type_names.specs.LookUp.{named, wanted, fits, find_from, find_row, same_row, before_by, declared_before}
-use Rattle.type_names.proofs.FreshLaws.{declared_append}
 use Rattle.declared_types.specs.Undeclared.{found, field_known}
 
 abbrev pub D : List Listed → List Declaration
@@ -27,17 +28,6 @@ D = map declaration_of
 pub D_append : (ls ks : List Listed) → D (ls ++ ks) ≡ D ls ++ D ks
 D_append [] ks = refl
 D_append (l ∷ ls) ks = ap (λ (ds : List Declaration). declaration_of l ∷ ds) (D_append ls ks)
-
-as_append : (e : Bool) (x : Bytes) (ds es : List Declaration) → declared_as e x (ds ++ es) ≡ (declared_as e x ds || declared_as e x es)
-unfolding declared_as
-as_append e x [] es = refl
-as_append e x (d ∷ ds) es =
-    ap (λ (b : Bool). (equals d.is_enumeration e && same d.full x) || b) (as_append e x ds es)
-    ∙ or_assoc (equals d.is_enumeration e && same d.full x) (declared_as e x ds) (declared_as e x es)
-  where
-    or_assoc : (a b c : Bool) → (a || (b || c)) ≡ ((a || b) || c)
-    or_assoc true b c = refl
-    or_assoc false b c = refl
 
 -- n rows from row i on
 unfoldable pub listed_from : Bytes → List Row → ℕ → ℕ → List Listed
@@ -62,10 +52,6 @@ abbrev sort_of : Bool → Sort
 sort_of true = Enum
 sort_of false = Message
 
-or_false : (b : Bool) → (b || false) ≡ b
-or_false true = refl
-or_false false = refl
-
 module _ (bytes : Bytes) (name F : Bytes) (r : Row) where
   row_none : (e : Bool) → (kind_number r.kind) ≡ 0 → declared_as e name (D (listed_row bytes F r)) ≡ choose (wanted (sort_of e) (kind_number r.kind)) (same F name) false
   unfolding declared_as listed_row wanted choose
@@ -74,13 +60,13 @@ module _ (bytes : Bytes) (name F : Bytes) (r : Row) where
 
   row_enum : (e : Bool) → (kind_number r.kind) ≡ 1 → declared_as e name (D (listed_row bytes F r)) ≡ choose (wanted (sort_of e) (kind_number r.kind)) (same F name) false
   unfolding declared_as listed_row wanted choose
-  row_enum true z = rw z (or_false (same F name))
+  row_enum true z = rw z (or-false (same F name))
   row_enum false z = rw z refl
 
   row_message : (e : Bool) → 2 ≤ (kind_number r.kind) → declared_as e name (D (listed_row bytes F r)) ≡ choose (wanted (sort_of e) (kind_number r.kind)) (same F name) false
   unfolding declared_as listed_row wanted choose
   row_message true z = rw (ne_eqb (kind_number r.kind) 0 (λ q. omega arith), ne_eqb (kind_number r.kind) 1 (λ q. omega arith)) refl
-  row_message false z = rw (ne_eqb (kind_number r.kind) 0 (λ q. omega arith), ne_eqb (kind_number r.kind) 1 (λ q. omega arith), le-ltb (kind_number r.kind) 2 z) (or_false (same F name))
+  row_message false z = rw (ne_eqb (kind_number r.kind) 0 (λ q. omega arith), ne_eqb (kind_number r.kind) 1 (λ q. omega arith), le-ltb (kind_number r.kind) 2 z) (or-false (same F name))
 
 -- a kind is one of three
 pub by_kind {ℓ} : {A : Type ℓ} (k : ℕ) → (k ≡ 0 → A) → (k ≡ 1 → A) → (2 ≤ k → A) → A
@@ -136,8 +122,8 @@ module _ (bytes : List ℕ) (t : List Row) where
   -- a full name declared before
   row_before : (x F : Bytes) (r : Row) → declared x (D (listed_row bytes F r)) ≡ choose (eqb (kind_number r.kind) 0) false (same F x)
   unfolding declared listed_row choose
-  row_before x F r = by_kind (kind_number r.kind) (λ z. rw z refl) (λ z. rw z (or_false (same F x)))
-      (λ z. rw (ne_eqb (kind_number r.kind) 0 (λ q. omega arith), ne_eqb (kind_number r.kind) 1 (λ q. omega arith)) (or_false (same F x)))
+  row_before x F r = by_kind (kind_number r.kind) (λ z. rw z refl) (λ z. rw z (or-false (same F x)))
+      (λ z. rw (ne_eqb (kind_number r.kind) 0 (λ q. omega arith), ne_eqb (kind_number r.kind) 1 (λ q. omega arith)) (or-false (same F x)))
 
   swapped : (a b : Bool) → choose a true b ≡ (b || a)
   unfolding choose

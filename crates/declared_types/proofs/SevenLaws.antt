@@ -1,12 +1,12 @@
 -- The rows of the table of a set give refusal 7 of the set. Assumes nothing.
 use mathlib.Core.Path.{◌≡◌, refl, sym, ap, ◌∙◌}
-use mathlib.Core.Bool.{Bool, true, false, ◌&&◌, not}
+use mathlib.Core.Bool.{Bool, true, ◌&&◌, not}
 use mathlib.Core.List.{List, [], ◌∷◌, ◌++◌, append-nil}
 use Prim.Native.Nat.{ℕ, zero, suc, ◌+◌, ◌-◌, ◌≤◌, ◌<◌}
 use native.Mathlib.Omega.{arith}
 use lib.ListN.{length}
 use borrow.Author.Tests.{ne_eqb}
-use Rattle.base.specs.Choose.{choose}
+use Rattle.base.specs.Choose.{choose, unless}
 use Rattle.base.specs.Lists.{all, all_map, map_length}
 use Rattle.wire.specs.Records.{part}
 use Rattle.descriptor.specs.Descriptor.{Bytes, FileDescriptor}
@@ -27,11 +27,6 @@ all_same : {A : Type 0} (p q : A → Bool) → ((x : A) → p x ≡ q x) → (xs
 unfolding all
 all_same p q h [] = refl
 all_same p q h (x ∷ xs) = rw (h x, all_same p q h xs)
-
-not_and : (b c : Bool) → choose b false c ≡ (not b && c)
-unfolding choose
-not_and true c = refl
-not_and false c = refl
 
 module _ (bytes : List ℕ) (t : List Row) (count : ℕ) (few : count ≤ 65536) where
   abbrev ds : List Declaration
@@ -67,12 +62,12 @@ module _ (bytes : List ℕ) (t : List Row) (count : ℕ) (few : count ≤ 65536)
 
     enum_step : kind_number r.kind ≡ 1 → Step
     unfolding Step row_good listed_row choose bad_file all
-    enum_step z = rw (z, declared_before_is bytes t i small, not_and (declared F before) true) (ap (λ (b : List Declaration). choose (not (declared F before) && true) (bad_file ds files b ks) (row_at t i).file) (D_append (listed bytes t i) _))
+    enum_step z = rw (z, declared_before_is bytes t i small, unless (declared F before) true) (ap (λ (b : List Declaration). choose (not (declared F before) && true) (bad_file ds files b ks) (row_at t i).file) (D_append (listed bytes t i) _))
 
     message_step : 2 ≤ kind_number r.kind → Step
     unfolding Step row_good listed_row choose bad_file
     message_step z =
-        rw (ne_eqb (kind_number (row_at t i).kind) 0 (λ q. omega arith), ne_eqb (kind_number (row_at t i).kind) 1 (λ q. omega arith), declared_before_is bytes t i small, fields_known (part bytes (row_at t i).start ((row_at t i).end - (row_at t i).start)), not_and (declared F before) (all (type_declared ds) (decode_message (part bytes (row_at t i).start ((row_at t i).end - (row_at t i).start))).fields))
+        rw (ne_eqb (kind_number (row_at t i).kind) 0 (λ q. omega arith), ne_eqb (kind_number (row_at t i).kind) 1 (λ q. omega arith), declared_before_is bytes t i small, fields_known (part bytes (row_at t i).start ((row_at t i).end - (row_at t i).start)), unless (declared F before) (all (type_declared ds) (decode_message (part bytes (row_at t i).start ((row_at t i).end - (row_at t i).start))).fields))
         (ap (λ (b : List Declaration). choose (not (declared F before) && all (type_declared ds) (decode_message (part bytes (row_at t i).start ((row_at t i).end - (row_at t i).start))).fields) (bad_file ds files b ks) (row_at t i).file) (D_append (listed bytes t i) _))
 
     row_step : Step

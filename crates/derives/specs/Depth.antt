@@ -7,7 +7,7 @@ use Rattle.std.proofs.Math.Bool.{not}
 use Rattle.std.proofs.lemmas.Bool.{false≢true}
 use Prim.Native.Nat.{ℕ, zero, suc, ◌+◌, ◌≤◌, ◌<◌, zero-le}
 use Rattle.std.proofs.Math.Decide.{ℕ_discrete}
-use Rattle.base.specs.Tests.{bool_cases, and_both}
+use Rattle.base.specs.Tests.{bool_cases, and_both, and_false}
 use Rattle.message_graph.specs.Limit.{messages}
 use Rattle.message_graph.specs.Fields.{Fields, size, owner_of, target_of, kind_of, label_of, link, message_at_below}
 use Rattle.message_graph.specs.Leads.{leadsb}
@@ -25,10 +25,6 @@ pub every_all : (n : ℕ) (p : ℕ → Bool) → ((k : ℕ) → k < n → p k �
 unfolding every
 every_all zero p h = refl
 every_all (suc n) p h = and_both (every_all n p (λ k lt. h k (omega arith))) (h n (le_refl _))
-
-and_false : (x y : Bool) → y ≡ false → (x && y) ≡ false
-and_false true y e = e
-and_false false y e = refl
 
 pub every_not : (n : ℕ) (p : ℕ → Bool) (k : ℕ) → k < n → p k ≡ false → every n p ≡ false
 unfolding every

@@ -10,11 +10,13 @@ use lib.Seq.{drop-drop, take-take, take-nil, take_all}
 use lib.Dec.{eqb}
 use borrow.Author.Tests.{eqb-true}
 use Rattle.base.specs.Choose.{choose, choose_case}
+use Rattle.wire.proofs.RecordsLaws.{In}
+use Rattle.descriptor.specs.Places.{end_in, inside}
 use Rattle.wire.specs.Records.{part}
-use Rattle.wire.specs.Encoding.{Value}
+use Rattle.wire.specs.Encoding.{Field, Value}
 use Rattle.wire.specs.Contents.{payload_of, value_of}
 use Rattle.wire.specs.Step.{Record}
-use Rattle.descriptor.specs.Decode.{bytes_in}
+use Rattle.descriptor.specs.Decode.{bytes_in, parts}
 
 -- a part of a part
 pub drop_take : (x m : ℕ) (l : List ℕ) → drop x (take m l) ≡ take (m - x) (drop x l)
@@ -40,3 +42,23 @@ bytes_of s f =
     (λ e. choose_case (λ (v : Value). [] ≡ bytes_in v) (eqb f.wiretype 0) (λ _. refl)
     (λ _. choose_case (λ (v : Value). [] ≡ bytes_in v) (eqb f.wiretype 1) (λ _. refl)
     (λ _. choose_case (λ (v : Value). [] ≡ bytes_in v) (eqb f.wiretype 2) (λ q. absurd (let z : true ≡ false = sym q ∙ e in let w : ◌≡◌ {A = ℕ} 0 1 = cc in omega arith)) (λ _. refl))))
+
+-- the bytes inside a record
+pub inside_is : (s : List ℕ) (f : Record) → inside s f ≡ bytes_in (value_of s f)
+unfolding end_in choose
+inside_is s f =
+    choose_case (λ (n : ℕ). part s f.start (n - f.start) ≡ bytes_in (value_of s f)) (eqb f.wiretype 2)
+    (λ e. let p : choose (eqb f.wiretype 2) (payload_of s f) [] ≡ payload_of s f = rw e in sym p ∙ bytes_of s f)
+    (λ e.
+    let p : choose (eqb f.wiretype 2) (payload_of s f) [] ≡ [] = rw e in
+    let z : f.start - f.start ≡ 0 = omega arith in
+    ap (λ (n : ℕ). take n (drop f.start s)) z ∙ sym p ∙ bytes_of s f)
+
+pub end_before : (n : ℕ) (f : Record) → In n f → (f.start ≤ end_in f) × (end_in f ≤ n)
+unfolding end_in
+end_before n f l = choose_case (λ (e : ℕ). (f.start ≤ e) × (e ≤ n)) (eqb f.wiretype 2) (λ _. (l.from, l.to)) (λ _. let a = l.from in let c = l.to in (omega arith, omega arith))
+
+pub parts_few : (n : ℕ) (fs : List Field) → length (parts n fs) ≤ length fs
+unfolding parts
+parts_few n [] = omega arith
+parts_few n (f ∷ fs) = let h = parts_few n fs in choose_case (λ (l : List (List ℕ)). length l ≤ suc (length fs)) (eqb f.number n) (λ _. omega arith) (λ _. omega arith)

@@ -4,3 +4,4 @@ pub mod Limits
 pub mod Accessors
 pub mod Steps
 pub mod Seen
+pub mod Places

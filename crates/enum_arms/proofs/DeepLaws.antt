@@ -2,16 +2,14 @@
 use Prim.Native.Nat.{ℕ, zero, suc, ◌-◌, ◌*◌, ◌^◌, ◌≤◌}
 use native.Mathlib.Omega.{arith}
 use mathlib.Core.Path.{◌≡◌, refl, sym, ap, ◌∙◌}
-use mathlib.Core.List.{List}
-use lib.ListN.{length, take}
+use lib.ListN.{length}
 use Rattle.std.proofs.Common.{length-append}
-use Rattle.std.proofs.lemmas.List.Edits.{sets}
 use Rattle.base.specs.Bytes.{b}
 use Rattle.writer.specs.declared.text.Text.{Text as Buffered}
 use Rattle.writer.specs.Text.{indent}
 use Rattle.writer.specs.Draft.{Draft, most, extended}
 use Rattle.writer.specs.Writing.{◌▻◌, draft_of, with_draft}
-use Rattle.writer.proofs.TextLaws.{stored}
+use Rattle.writer.proofs.TextLaws.{full}
 use Rattle.code_generator.specs.Piece.{Text, flat}
 use Rattle.code_generator.specs.Writing.{◌⊳◌}
 use Rattle.code_generator.proofs.WritingLaws.{written-flat}
@@ -20,11 +18,6 @@ indent_length : (n : ℕ) → length (indent n) ≡ n * 4
 unfolding indent
 indent_length zero = refl
 indent_length (suc n) = length-append (indent n) (b "    ") ∙ let e = indent_length n in omega arith
-
-full : (d : Draft) (p : List ℕ) → most ≤ d.length → extended d p ≡ d
-full d p h =
-    let z : 0 ≡ most - d.length = omega arith in
-    sym (stored d p d.buffer d.length (ap (λ (k : ℕ). sets d.buffer d.length (take k p)) z) (omega arith))
 
 filled_up : (d : Draft) (n : ℕ) → 2 ^ 62 ≤ n → most ≤ (extended d (indent n)).length
 unfolding extended

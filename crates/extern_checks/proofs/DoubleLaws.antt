@@ -1,6 +1,6 @@
 -- Laws of refusal 2, as the code goes through the rows. Assumes nothing.
 use mathlib.Core.Path.{◌≡◌, refl, sym, ap, ◌∙◌}
-use mathlib.Core.Bool.{Bool, true, false, ◌||◌, not}
+use mathlib.Core.Bool.{Bool, true, false, not}
 use mathlib.Core.List.{List, [], ◌∷◌}
 use Prim.Native.Nat.{ℕ, suc, ◌+◌, ◌-◌, ◌≤◌, ◌<◌}
 use native.Mathlib.Omega.{arith}
@@ -21,13 +21,10 @@ use Rattle.extern_paths.specs.declared.prost_types.ProstType.{ProstType}
 use Rattle.base.specs.Lists.{any}
 use Rattle.extern_checks.specs.Doubles.{has_gap, valid_path, prost_type_paths, lists, doubled, at_fault, externs_from, externs}
 use Rattle.base.specs.declared.refusal.Refusal.TheVariants.{ExternPath}
-use Rattle.base.proofs.BytesLaws.{same_bytes}
+use Rattle.base.proofs.BytesLaws.{same_bytes, same_turned}
 use Rattle.std.specs.Prelude.{Ok, Err}
-use Rattle.split.proofs.SplitLaws.{by_test, eqb_turned}
-
-or_none : (t : Bool) → (t || false) ≡ t
-or_none true = refl
-or_none false = refl
+use Rattle.std.proofs.Math.Bool.{or-false}
+use Rattle.base.specs.Tests.{by_test}
 
 -- ---- the paths of prost types
 pub any_types : (x : List ℕ) (types : List ProstType) → list_any (λ (t : ProstType). bytes_eq x t.path.now) types ≡ among x (paths_of types)
@@ -48,17 +45,10 @@ prost_alone : any (λ (x : List ℕ). among x []) prost_type_paths ≡ false
 unfolding any prost_type_paths prost_types among
 prost_alone = refl
 
-same_turned : (x y : List ℕ) → same x y ≡ same y x
-unfolding same
-same_turned [] [] = refl
-same_turned [] (y ∷ ys) = refl
-same_turned (x ∷ xs) [] = refl
-same_turned (x ∷ xs) (y ∷ ys) = rw (same_turned xs ys, eqb_turned x y) refl
-
 some_one : (y : List ℕ) (xs : List (List ℕ)) → any (λ (x : List ℕ). among x (y ∷ [])) xs ≡ among y xs
 unfolding any among
 some_one y [] = refl
-some_one y (x ∷ xs) = rw (or_none (same x y), same_turned x y, some_one y xs) refl
+some_one y (x ∷ xs) = rw (or-false (same x y), same_turned x y, some_one y xs) refl
 
 -- ---- what a row lists
 module _ (r : Setting) where
@@ -69,18 +59,18 @@ module _ (r : Setting) where
 
     pub invalid_one : any (λ (x : List ℕ). not (valid_path x)) (lists r) ≡ not (valid_path r.path)
     unfolding any
-    invalid_one = rw one_path (or_none (not (valid_path r.path)))
+    invalid_one = rw one_path (or-false (not (valid_path r.path)))
 
     pub lists_one : (x : List ℕ) → among x (lists r) ≡ bytes_eq x r.path
     unfolding among
-    lists_one x = rw (one_path, same_bytes x r.path) (or_none (same x r.path))
+    lists_one x = rw (one_path, same_bytes x r.path) (or-false (same x r.path))
 
     pub prost_one : any (λ (x : List ℕ). among x (lists r)) prost_type_paths ≡ among r.path prost_type_paths
     prost_one = rw one_path (some_one r.path prost_type_paths)
 
     pub doubled_one : (q : Setting) → doubled r q ≡ among r.path (lists q)
     unfolding doubled any
-    doubled_one q = rw one_path (or_none (among r.path (lists q)))
+    doubled_one q = rw one_path (or-false (among r.path (lists q)))
 
   module _ (n : eqb r.kind 1 ≡ false) where
     other : lists r ≡ choose (eqb r.kind 12) prost_type_paths []

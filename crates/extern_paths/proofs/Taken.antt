@@ -13,16 +13,16 @@ use lib.ListN.{length, take, drop, get_or, length-append, get_or-append}
 use lib.Seq.{take-append-le, take-append_seam, get_or-append_seam}
 use Rattle.base.specs.Choose.{choose}
 use Rattle.base.specs.Lists.{any}
-use Rattle.base.specs.Tests.{both_ways, and_left, and_right, and_both, or_left, or_right, or_cases}
+use Rattle.base.specs.Tests.{both_ways, and_left, and_right, and_both, or_left, or_right, or_cases, by_test}
 use Rattle.base.specs.Bytes.{b, same, same_refl, same_sound}
 use Rattle.base.proofs.BytesLaws.{same_bytes}
+use Rattle.std.proofs.Math.Bool.{and-or_distrib_left}
 use Rattle.heck.specs.Case.{between, class, lowered, raised, parts, words, to_snake_case, to_upper_camel_case}
 use Rattle.ident.specs.Ident.{among as among_words, raw_words, kept_words, addition, with_addition, sanitize_identifier, to_snake, to_upper_camel}
 use Rattle.options.specs.Settings.{Setting, value_of}
 use Rattle.path.specs.Forms.{before_dots, filled, prefixes, among}
 use Rattle.path.specs.PathMap.{first_with, find_best}
 use Rattle.path.proofs.FormLaws.{prefix_empty, prefix_long, prefix_is}
-use Rattle.split.proofs.SplitLaws.{by_test}
 use Rattle.split.specs.Split.{begins, split_behind, split}
 use Rattle.extern_paths.specs.ExternPaths.{extern, extern_paths, taken, first_segment, resolve_by, resolve_ident, extern_text}
 
@@ -65,11 +65,7 @@ any_same p q (r ∷ rs) h = rw (h r, any_same p q rs h) refl
 
 has_more : (kind : ℕ) (f : List ℕ) (fs : List (List ℕ)) (r : Setting) → ((eqb r.kind kind && same r.path f) || has kind fs r) ≡ has kind (f ∷ fs) r
 unfolding among
-has_more kind f fs r = spread (eqb r.kind kind) (same r.path f) (among r.path fs)
-  where
-    spread : (a c d : Bool) → ((a && c) || (a && d)) ≡ (a && (c || d))
-    spread true c d = refl
-    spread false c d = refl
+has_more kind f fs r = sym (and-or_distrib_left (eqb r.kind kind) (same r.path f) (among r.path fs))
 
 found_any : (kind : ℕ) (fs : List (List ℕ)) (i : ℕ) (rs : List Setting) → (find_best kind fs i rs).found ≡ any (has kind fs) rs
 unfolding find_best choose

@@ -1,6 +1,6 @@
 -- What the columns of a set's fields are, over the decoded set. Assumes nothing.
 use mathlib.Core.Path.{◌≡◌, refl, sym, ap, ◌∙◌, subst}
-use mathlib.Core.Bool.{Bool, true}
+use mathlib.Core.Bool.{true}
 use mathlib.Core.List.{List, [], ◌∷◌, ◌++◌, map, map-append, map-map}
 use Prim.Native.Nat.{ℕ, zero, suc, ◌+◌, ◌-◌, ◌≤◌, ◌<◌}
 use native.Mathlib.Omega.{arith}
@@ -10,7 +10,7 @@ use lib.Dec.{leb, ltb}
 use borrow.Author.Tests.{le-leb, lt-leb, lt-ltb, le-ltb}
 use Rattle.base.specs.Choose.{choose}
 use Rattle.base.specs.Tests.{and_left, and_right}
-use Rattle.base.specs.Lists.{all, all_of, first_failing, map_length}
+use Rattle.base.specs.Lists.{all, all_of, first_failing, map_length, first_map}
 use Rattle.descriptor.specs.Descriptor.{FieldDescriptor, MessageDescriptor}
 use Rattle.descriptor.specs.Decode.{decode_field, decode_message, decode_set}
 use Rattle.descriptor.specs.Limits.{messages_in, fields_in}
@@ -63,11 +63,6 @@ module _ {ℓ κ} {A : Type ℓ} {B : Type κ} (held : A → List B) where
       ∙ ap (λ (l : List ℕ). replicate (length (held a)) i ++ l) (owner_numbers xs (i + 1) (omega arith))
 
 -- ---- where a message's fields begin
-
-failing_map {ℓ κ} : {A : Type ℓ} {B : Type κ} (p : B → Bool) (g : A → B) (xs : List A) → first_failing p (map g xs) ≡ first_failing (λ (a : A). p (g a)) xs
-unfolding first_failing
-failing_map p g [] = refl
-failing_map p g (a ∷ xs) = ap (λ (n : ℕ). choose (p (g a)) (1 + n) 0) (failing_map p g xs)
 
 module _ (b x : ℕ) (ys : List ℕ) where
   failing_pass : x ≤ b → (n : ℕ) → first_failing (λ (u : ℕ). leb u b) (replicate n x ++ ys) ≡ n + first_failing (λ (u : ℕ). leb u b) ys
@@ -169,7 +164,7 @@ module _ (set : List ℕ) (messages_table : List Row) (count : ℕ) (table : Mes
       let c = few_rows in
       rw (le-ltb 65535 n (omega arith))
       (ap (first_failing (before i)) rows_are
-      ∙ sym (failing_map (λ (u : ℕ). leb u i) (λ (r : Row). r.up) rs)
+      ∙ sym (first_map (λ (u : ℕ). leb u i) (λ (r : Row). r.up) rs)
       ∙ ap (first_failing (λ (u : ℕ). leb u i)) listed.up
       ∙ ap (λ (b : ℕ). first_failing (λ (u : ℕ). leb u b) (owners fields_of 1 ms)) (let e : i ≡ 0 + i = omega arith in e)
       ∙ failing_owners fields_of ms 0 i)

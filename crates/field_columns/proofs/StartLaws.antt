@@ -1,23 +1,17 @@
 -- How many stand before the first that fails a test, and where a message's rows begin. Assumes nothing.
-use mathlib.Core.Path.{◌≡◌, refl, sym, ap, ◌∙◌}
+use mathlib.Core.Path.{◌≡◌, sym, ap, ◌∙◌}
 use mathlib.Core.Bool.{Bool, true, false}
 use mathlib.Core.List.{List, [], ◌∷◌}
 use Prim.Native.Nat.{ℕ, zero, suc, ◌+◌, ◌≤◌, ◌<◌}
 use native.Mathlib.Omega.{arith}
 use lib.ListN.{length, get_or}
 use borrow.Author.Tests.{le-leb, lt-leb, leb-true}
-use Rattle.base.specs.Choose.{choose, choose_case}
+use Rattle.base.specs.Choose.{choose, choose_case, counted}
 use Rattle.base.specs.Lists.{first_failing}
 use Rattle.message_graph.specs.Tab.{length_tab, tab_at}
 use Rattle.index.specs.Tree.{row_at}
 use Rattle.index.specs.declared.Row.{Row}
 use Rattle.field_columns.specs.Columns.{rows_counted, first_rows, before, start_at}
-
--- one that counts was chosen
-chosen : (b : Bool) (n k : ℕ) → suc k ≤ choose b (1 + n) 0 → (b ≡ true) × (k ≤ n)
-unfolding choose
-chosen true n k h = (refl, omega arith)
-chosen false n k h = absurd (omega arith)
 
 module _ {ℓ} {A : Type ℓ} (p : A → Bool) where
   pub failing_within : (xs : List A) → first_failing p xs ≤ length xs
@@ -29,13 +23,13 @@ module _ {ℓ} {A : Type ℓ} (p : A → Bool) where
   unfolding first_failing choose
   failing_more [] k d h l e = absurd (omega arith)
   failing_more (x ∷ xs) zero d h l e = rw e (omega arith)
-  failing_more (x ∷ xs) (suc k) d h l e = let c = chosen (p x) (first_failing p xs) k l in let on = failing_more xs k d (omega arith) c.1 e in rw c.0 (omega arith)
+  failing_more (x ∷ xs) (suc k) d h l e = let c = counted (p x) (first_failing p xs) k l in let on = failing_more xs k d (omega arith) c.1 e in rw c.0 (omega arith)
 
   failing_here : (xs : List A) (k : ℕ) (d : A) → k < length xs → k ≤ first_failing p xs → p (get_or xs k d) ≡ false → k ≡ first_failing p xs
   unfolding first_failing choose
   failing_here [] k d h l e = absurd (omega arith)
   failing_here (x ∷ xs) zero d h l e = rw e
-  failing_here (x ∷ xs) (suc k) d h l e = let c = chosen (p x) (first_failing p xs) k l in let on = failing_here xs k d (omega arith) c.1 e in rw c.0 (omega arith)
+  failing_here (x ∷ xs) (suc k) d h l e = let c = counted (p x) (first_failing p xs) k l in let on = failing_here xs k d (omega arith) c.1 e in rw c.0 (omega arith)
 
 failing_weaker {ℓ} : {A : Type ℓ} (p q : A → Bool) → ((a : A) → p a ≡ true → q a ≡ true) → (xs : List A) → first_failing p xs ≤ first_failing q xs
 unfolding first_failing choose

@@ -1,7 +1,8 @@
 -- The faults of messages, one message on; and those of a file. Assumes nothing.
-use Rattle.std.proofs.Common.{◌≡◌, ℕ, zero, suc, ◌+◌, ◌-◌, ◌≤◌, min, Bool, true, false, ◌||◌, List, [], ◌∷◌, length, take, refl, sym, ap, ap₂, ◌∙◌, arith, add-one, sub-one}
+use Rattle.std.proofs.Common.{◌≡◌, ℕ, zero, suc, ◌+◌, ◌-◌, ◌≤◌, min, Bool, false, List, [], ◌∷◌, length, take, refl, sym, ap, ap₂, ◌∙◌, arith, add-one, sub-one}
 use Rattle.std.proofs.lemmas.List.{get_or_past}
 use Rattle.std.proofs.Math.Decide.{dec_le}
+use Rattle.std.proofs.Math.Bool.{or-false, or_assoc}
 use Rattle.descriptor.specs.Descriptor.{Bytes}
 use Rattle.descriptor.specs.Decode.{entries, parts, decode_file}
 use Rattle.options.specs.Settings.{Setting}
@@ -16,19 +17,11 @@ use Rattle.file_faults.specs.declared.Faults.{Faults}
 use Rattle.file_faults.specs.FileFaults.{no_faults, ◌or◌, enums_meet, own_faults, message_faults, faults_of, messages_faults, faults_of_file}
 
 -- ---- faults of one or the other
-or_assoc : (a b c : Bool) → ((a || b) || c) ≡ (a || (b || c))
-or_assoc true b c = refl
-or_assoc false b c = refl
-
-or_false : (a : Bool) → (a || false) ≡ a
-or_false true = refl
-or_false false = refl
-
 faults_assoc : (x y z : Faults) → ((x or y) or z) ≡ (x or (y or z))
 faults_assoc x y z = ap₂ (λ (a b : Bool). record { overlap = a; default = b }) (or_assoc x.overlap y.overlap z.overlap) (or_assoc x.default y.default z.default)
 
 faults_none : (x : Faults) → (x or no_faults) ≡ x
-faults_none x = ap₂ (λ (a b : Bool). record { overlap = a; default = b }) (or_false x.overlap) (or_false x.default)
+faults_none x = ap₂ (λ (a b : Bool). record { overlap = a; default = b }) (or-false x.overlap) (or-false x.default)
 
 module _ (rs : List Setting) (set : List ℕ) (messages : List MessageRow) (t : List FieldRow) where
   pub first_nested : (left : ℕ) (scope : Bytes) (i : ℕ) (ps : List Bytes) → messages_faults rs set messages t left scope (i + 1) ps ≡ messages_faults rs set messages t left scope (suc i) ps

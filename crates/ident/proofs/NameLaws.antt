@@ -1,12 +1,13 @@
 -- The tests of names, by the library's words.
-use Rattle.std.proofs.Common.{◌≡◌, refl, sym, ap, ◌∙◌, Bool, true, false, ◌&&◌, ◌||◌, List, [], ◌∷◌, ℕ, eqb}
+use Rattle.std.proofs.Common.{◌≡◌, refl, sym, ap, ◌∙◌, Bool, true, false, ◌&&◌, ◌||◌, List, [], ◌∷◌, ℕ, eqb, eqb-true}
 use Rattle.std.proofs.Math.Bool.{or_assoc}
 use Rattle.std.specs.Char.{is_ascii_alphabetic, is_ascii_alphanumeric}
 use Rattle.std.specs.List.{list_any, list_all}
 use Rattle.base.specs.Choose.{choose}
+use Rattle.base.specs.Tests.{both_ways}
 use Rattle.heck.specs.Case.{between, is_lower, is_upper, is_digit, class, in_word}
 use Rattle.heck.specs.declared.Class.TheVariants.{Other, Digit, Lower, Upper}
-use Rattle.ident.specs.Name.{name_start, every, has_word}
+use Rattle.ident.specs.Name.{name_start, name_part, every, has_word}
 
 pub start_is : (c : ℕ) → name_start c ≡ (is_ascii_alphabetic c || eqb c 95)
 unfolding name_start between
@@ -43,3 +44,11 @@ has_word_is (c ∷ s) = on (in_word (class c)) (has_word_is s) ∙ ap (λ (t : B
     on : (t : Bool) → has_word s ≡ list_any is_ascii_alphanumeric s → choose t true (has_word s) ≡ (t || list_any is_ascii_alphanumeric s)
     on true e = refl
     on false e = e
+
+pub part_no_dot : (c : ℕ) → name_part c ≡ true → eqb c 46 ≡ false
+unfolding name_part name_start between
+part_no_dot c h = on (eqb c 46) refl
+  where
+    on : (t : Bool) → eqb c 46 ≡ t → t ≡ false
+    on false e = refl
+    on true e = both_ways (sym (ap name_part (eqb-true c 46 e)) ∙ h) refl

@@ -4,20 +4,19 @@ use mathlib.Core.Bool.{Bool, true, false}
 use mathlib.Core.List.{List, [], ◌∷◌, ◌++◌, map, map-append}
 use Prim.Native.Nat.{ℕ, zero, suc, ◌+◌, ◌-◌, ◌≤◌}
 use native.Mathlib.Omega.{arith}
-use lib.ListN.{length, take, drop}
+use lib.ListN.{length}
 use lib.Dec.{eqb}
 use borrow.Author.Tests.{le-ltb}
-use Rattle.base.specs.Choose.{choose, choose_case}
+use Rattle.base.specs.Choose.{choose}
 use Rattle.wire.specs.Records.{records, pass, over, part}
-use Rattle.wire.specs.Contents.{field_of, value_of, payload_of}
+use Rattle.wire.specs.Contents.{field_of, value_of}
 use Rattle.wire.proofs.RecordsLaws.{In, AllIn, records_in}
 use Rattle.wire.specs.Step.{Record, Step, End, Fault, Found}
 use Rattle.descriptor.specs.Descriptor.{Bytes, Forest, done, node, MessageDescriptor, preorder}
 use Rattle.descriptor.specs.Decode.{entries, entries_of, bytes_in, parts, decode_message, decode_messages}
 use Rattle.base.specs.Lists.{all_of}
-use Rattle.descriptor.proofs.PartLaws.{bytes_of}
-use Rattle.descriptor.proofs.PartLaws.{part_part}
-use Rattle.index.specs.Places.{end_in, inside}
+use Rattle.descriptor.proofs.PartLaws.{part_part, inside_is, end_before}
+use Rattle.descriptor.specs.Places.{end_in, inside}
 use Rattle.index.specs.Tree.{Place, place, forest_record, forest_in, size, rows, row_bytes, file_record, file_forests, rows_of}
 
 -- the bytes at a place of the set
@@ -40,21 +39,6 @@ unfoldable pub nest : ℕ → List Bytes → Forest Bytes
 nest zero ps = done
 nest (suc n) [] = done
 nest (suc n) (p ∷ ps) = node p (nest n (parts 3 (entries p))) (nest (suc n) ps)
-
--- the bytes inside a record
-pub inside_is : (s : List ℕ) (f : Record) → inside s f ≡ bytes_in (value_of s f)
-unfolding end_in choose
-inside_is s f =
-    choose_case (λ (n : ℕ). part s f.start (n - f.start) ≡ bytes_in (value_of s f)) (eqb f.wiretype 2)
-    (λ e. let p : choose (eqb f.wiretype 2) (payload_of s f) [] ≡ payload_of s f = rw e in sym p ∙ bytes_of s f)
-    (λ e.
-    let p : choose (eqb f.wiretype 2) (payload_of s f) [] ≡ [] = rw e in
-    let z : f.start - f.start ≡ 0 = omega arith in
-    ap (λ (n : ℕ). take n (drop f.start s)) z ∙ sym p ∙ bytes_of s f)
-
-pub end_before : (n : ℕ) (f : Record) → In n f → (f.start ≤ end_in f) × (end_in f ≤ n)
-unfolding end_in
-end_before n f l = choose_case (λ (e : ℕ). (f.start ≤ e) × (e ≤ n)) (eqb f.wiretype 2) (λ _. (l.from, l.to)) (λ _. let a = l.from in let c = l.to in (omega arith, omega arith))
 
 by_number : (set : List ℕ) (k : ℕ) (b : Bool) (F G : Forest Place) (p : Bytes) (ps : List Bytes) → map_forest (bytes_at set) F ≡ nest (suc k) (p ∷ ps)
     → map_forest (bytes_at set) G ≡ nest (suc k) ps → map_forest (bytes_at set) (choose b F G) ≡ nest (suc k) (choose b (p ∷ ps) ps)

@@ -16,6 +16,7 @@ use Rattle.std.specs.Iterator.Adapters.{filter_map_source, filter_map_callee, fi
 use Rattle.std.specs.declared.iter.FilterMap.{FilterMap}
 use Rattle.wire.specs.declared.records.record.Record.{Record}
 use Rattle.base.specs.Choose.{choose}
+use Rattle.base.proofs.FindLaws.{kept_over}
 use Rattle.wire.specs.Message.{Entry, record_seen, seen, records_at, fields_in}
 use Rattle.wire.specs.declared.records.record.Fault.{Fault as FaultAt}
 use Rattle.descriptor.specs.Descriptor.{Bytes, Forest}
@@ -146,8 +147,7 @@ module _ (number left : ℕ) (s : List ℕ) (t₀ : List Row) where
       going_pass (Err f) all rs is h before = going_fault f rs (subst (λ (l : Left). Going t l n file) is before)
 
       going_over : (xs : List (Result Record FaultAt)) (s u : Left) (p q : F) → Yields Steps s xs u → FoldsTo (λ p x q. Called g p (x, tt) None q) p xs q → Going t s n file → Going t u n file
-      going_over [] s u p q y z before = subst (λ (l : Left). Going t l n file) y before
-      going_over (x ∷ xs) s u p q y z before = going_over xs y.0 u z.0 q y.2 z.2 (going_pass x s y.0 y.1 (called p x None z.0 z.1) before)
+      going_over = kept_over Steps (λ p x q. Called g p (x, tt) None q) (λ l _. Going t l n file) (λ s u x p q step call. going_pass x s u step (called p x None q call))
 
       module _ (from to : FilterMap Left F) where
         first_file : (e : Record) (xs : List (Result Record FaultAt)) (o : Option (Result Record FaultAt)) (q : F) → YieldsThen Steps (filter_map_source from) xs o (filter_map_source to)

@@ -1,6 +1,6 @@
 -- Laws of lists of what each holds. Assumes nothing.
 use mathlib.Core.Path.{◌≡◌, refl, sym, ap, ◌∙◌}
-use mathlib.Core.List.{List, [], ◌∷◌, ◌++◌, map, map-append, append_assoc}
+use mathlib.Core.List.{List, [], ◌∷◌, ◌++◌, map, map-append}
 use Prim.Native.Nat.{ℕ, ◌+◌}
 use lib.ListN.{length, length-append, replicate, replicate-append-replicate}
 use Rattle.base.specs.Lists.{all_of}
@@ -11,11 +11,6 @@ module _ {ℓ κ} {A : Type ℓ} {B : Type κ} where
   unfolding all_of
   all_of_same f g same [] = refl
   all_of_same f g same (a ∷ xs) = ap (λ (l : List B). l ++ all_of f xs) (same a) ∙ ap (λ (l : List B). g a ++ l) (all_of_same f g same xs)
-
-  pub all_of_append : (f : A → List B) (xs ys : List A) → all_of f (xs ++ ys) ≡ all_of f xs ++ all_of f ys
-  unfolding all_of
-  all_of_append f [] ys = refl
-  all_of_append f (a ∷ xs) ys = ap (λ (l : List B). f a ++ l) (all_of_append f xs ys) ∙ sym (append_assoc (f a) (all_of f xs) (all_of f ys))
 
 module _ {ℓ κ μ} {A : Type ℓ} {B : Type κ} {C : Type μ} where
   pub all_of_map : (f : B → List C) (g : A → B) (xs : List A) → all_of f (map g xs) ≡ all_of (λ a. f (g a)) xs

@@ -8,7 +8,7 @@ use lib.ListN.{length, length-append, length-take, drop}
 use lib.Dec.{eqb}
 use borrow.Author.Tests.{eqb-true}
 use Rattle.base.specs.Choose.{choose, choose_case}
-use Rattle.base.specs.Lists.{all_of}
+use Rattle.base.specs.Lists.{all_of, all_of_append}
 use Rattle.wire.specs.Step.{Record, Step, End, Fault, Found, step_at}
 use Rattle.wire.specs.Records.{on_step, scan, records, part}
 use Rattle.wire.specs.Encoding.{Field}
@@ -16,9 +16,9 @@ use Rattle.wire.specs.Contents.{field_of, value_of}
 use Rattle.wire.proofs.StepLaws.{Lies, lies}
 use Rattle.descriptor.specs.Descriptor.{Bytes, preorder}
 use Rattle.descriptor.specs.Decode.{entries, entries_of, bytes_in, parts}
-use Rattle.index.specs.Places.{end_in, inside}
-use Rattle.index.proofs.OwnerLaws.{all_of_append}
-use Rattle.index.proofs.DecodedLaws.{inside_is, nest}
+use Rattle.descriptor.specs.Places.{end_in, inside}
+use Rattle.descriptor.proofs.PartLaws.{inside_is}
+use Rattle.index.proofs.DecodedLaws.{nest}
 
 -- the bytes of messages, with one for the key of each
 unfoldable takes : List Bytes → ℕ

@@ -16,9 +16,9 @@ use Rattle.wire.specs.Step.{Record, Step, End, Fault, Found}
 use Rattle.wire.specs.declared.records.record.Fault.{Fault as FaultAt}
 use Rattle.descriptor.specs.Descriptor.{Bytes, Forest, done, node}
 use Rattle.descriptor.specs.Decode.{bytes_in}
-use Rattle.index.specs.Places.{end_in, inside}
+use Rattle.descriptor.specs.Places.{end_in, inside}
 use Rattle.index.specs.Tree.{Place, place, Inner, forest_record, forest_from, forest_in, file_record, files_from}
-use Rattle.index.proofs.DecodedLaws.{inside_is, end_before}
+use Rattle.descriptor.proofs.PartLaws.{inside_is, end_before}
 
 -- the bytes that a record holds, and their place
 abbrev pub held : Entry → Bytes

@@ -8,19 +8,19 @@ use lib.ListN.{length, length-append, replicate, replicate-append-replicate}
 use borrow.Author.Tests.{le-ltb}
 use lib.Dec.{eqb, ltb}
 use Rattle.base.specs.Choose.{choose, choose_case}
-use Rattle.base.specs.Lists.{all_of, map_length}
+use Rattle.base.specs.Lists.{all_of, map_length, all_of_append}
 use Rattle.wire.specs.Records.{records, pass, over}
 use Rattle.wire.specs.Step.{Step, End, Fault, Found}
 use Rattle.descriptor.specs.Descriptor.{Bytes, Forest, preorder, FieldDescriptor, EnumDescriptor, MessageDescriptor, FileDescriptor}
 use Rattle.descriptor.specs.Decode.{entries, parts, decode_field, decode_enum, decode_oneof, decode_message, decode_file, decode_set}
 use Rattle.descriptor.specs.Limits.{messages_in, enums_in}
-use Rattle.index.specs.Places.{inside}
+use Rattle.descriptor.specs.Places.{inside}
 use Rattle.index.specs.Tree.{Place, file_record, file_forests, size, total, rows, row_bytes, rows_of, members, all_members, IndexedFiles}
 use Rattle.index.specs.Owners.{owners}
 use Rattle.index.specs.declared.Row.{Row}
 use Rattle.index.proofs.TreeLaws.{rows_length}
 use Rattle.index.proofs.TableLaws.{Stands, fill_stands}
-use Rattle.index.proofs.OwnerLaws.{all_of_same, all_of_append, all_of_map, map_all_of, owners_map, one_owner}
+use Rattle.index.proofs.OwnerLaws.{all_of_same, all_of_map, map_all_of, owners_map, one_owner}
 use Rattle.index.proofs.DecodedLaws.{bytes_at, map_forest, nest, files_bytes, rows_bytes, rows_of_bytes, one_level, nest_decoded}
 use Rattle.index.proofs.RoomLaws.{set_takes}
 use Rattle.index.proofs.MemberRows.{rows_file, Flat, flat_one, flat_up, embeds, member_rows, members_listed, member_bytes, member_up, member_file}

@@ -4,7 +4,7 @@ use Rattle.base.specs.Choose.{choose}
 use Rattle.wire.specs.Records.{over, part}
 use Rattle.wire.specs.Step.{Record}
 use Rattle.descriptor.specs.Descriptor.{Forest, done, node}
-use Rattle.index.specs.Places.{end_in, inside}
+use Rattle.descriptor.specs.Places.{end_in, inside}
 use Rattle.index.specs.declared.Row.{Row}
 
 -- where an embedded message lies in the set

@@ -1,7 +1,7 @@
 -- What a set has that passes no limit. Assumes nothing.
-use Rattle.std.specs.Prelude.{◌≡◌, refl, Bool, true, false, ℕ, suc, ◌≤◌, ltb, length}
-use Rattle.std.proofs.Common.{arith, ltb-false}
-use Rattle.base.specs.Choose.{choose}
+use Rattle.std.specs.Prelude.{◌≡◌, false, ◌≤◌, ltb, length}
+use Rattle.std.proofs.Common.{ltb-false}
+use Rattle.base.specs.Choose.{not_passed}
 use Rattle.base.specs.Lists.{any}
 use Rattle.descriptor.specs.Descriptor.{Bytes, EnumDescriptor}
 use Rattle.descriptor.specs.Decode.{entries, parts, decode_set, too_deep_file}
@@ -18,12 +18,6 @@ pub record Within (set : Bytes) : Type 0 where
   pub names : passes_8 (decode_set set) ≡ false
   pub full_names : passes_9 (decode_set set) ≡ false
   pub defaults : passes_10 (decode_set set) ≡ false
-
--- a limit in front is not passed, and those behind it
-not_passed : (t : Bool) (k n : ℕ) → choose t (suc k) n ≡ 0 → (t ≡ false) × (n ≡ 0)
-unfolding choose
-not_passed true k n e = absurd (omega arith)
-not_passed false k n e = (refl, e)
 
 pub within : (set : Bytes) → limit_passed set ≡ 0 → Within set
 unfolding limit_passed limit_of_files

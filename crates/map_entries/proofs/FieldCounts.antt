@@ -1,16 +1,17 @@
 -- Counts of uses are counts of fields: the map entry rule of a row. Assumes nothing.
 use mathlib.Core.Path.{◌≡◌, refl, sym, ap, ◌∙◌}
 use mathlib.Core.Bool.{Bool, true, false, ◌&&◌, and-false}
-use mathlib.Core.List.{List, [], ◌∷◌, ◌++◌}
+use mathlib.Core.List.{List, [], ◌∷◌}
 use mathlib.Core.Option.{Option, some, none}
 use Prim.Native.Nat.{ℕ, ◌+◌, ◌≤◌, ◌<◌}
 use native.Mathlib.Omega.{arith}
 use lib.ListN.{get_or}
 use lib.Dec.{eqb}
-use borrow.Author.Tests.{eq-eqb, ne_eqb, le-ltb}
+use borrow.Author.Tests.{le-ltb}
 use Rattle.base.specs.Bytes.{same}
 use Rattle.base.specs.Choose.{choose}
-use Rattle.base.specs.Lists.{count, all_of}
+use Rattle.base.specs.Lists.{count, all_of, count_append}
+use Rattle.base.proofs.BytesLaws.{same_turned}
 use Rattle.descriptor.specs.Descriptor.{Bytes, FieldDescriptor}
 use Rattle.name_rules.specs.Accessors.{is_repeated, is_message}
 use Rattle.name_rules.specs.Rules as rules
@@ -19,26 +20,8 @@ use Rattle.declarations.specs.Listed.{full, Listed, listed}
 use Rattle.declarations.specs.declared.Declaration.{Declaration as Row}
 use Rattle.type_names.specs.LookUp.{named}
 use Rattle.map_entries.specs.Named.{Use, use_of, is_mapping, field_use, uses, naming, mapping_in}
-use Rattle.map_entries.proofs.CountLaws.{by_eq, said_rule}
+use Rattle.map_entries.proofs.CountLaws.{said_rule}
 use Rattle.map_entries.proofs.SaidLaws.{naming_at}
-
-pub count_append {ℓ} : {A : Type ℓ} (p : A → Bool) (xs ys : List A) → count p (xs ++ ys) ≡ count p xs + count p ys
-unfolding count choose
-count_append p [] ys = omega arith
-count_append p (x ∷ xs) ys = by (p x) (count_append p xs ys)
-  where
-    by : (b : Bool) → count p (xs ++ ys) ≡ count p xs + count p ys → choose b (1 + count p (xs ++ ys)) (count p (xs ++ ys)) ≡ choose b (1 + count p xs) (count p xs) + count p ys
-    by true e = omega arith
-    by false e = e
-
-same_flip : (xs ys : List ℕ) → same xs ys ≡ same ys xs
-unfolding same
-same_flip [] [] = refl
-same_flip [] (y ∷ ys) = refl
-same_flip (x ∷ xs) [] = refl
-same_flip (x ∷ xs) (y ∷ ys) =
-    ap (λ (b : Bool). eqb x y && b) (same_flip xs ys)
-    ∙ ap (λ (b : Bool). b && same ys xs) (by_eq x y (λ e. eq-eqb x y e ∙ sym (eq-eqb y x (sym e))) (λ e. ne_eqb x y e ∙ sym (ne_eqb y x (λ q. e (sym q)))))
 
 one_more : (b : Bool) (n : ℕ) → choose b 1 0 + n ≡ choose b (1 + n) n
 unfolding choose
@@ -61,7 +44,7 @@ module _ (bytes : List ℕ) (t : List Row) (j : ℕ) (small : j ≤ 65535) where
 
   named_is : (y : Bytes) → named bytes t y j ≡ same y own
   unfolding named choose
-  named_is y = rw (le-ltb 65535 j small) (same_flip own y)
+  named_is y = rw (le-ltb 65535 j small) (same_turned own y)
 
   names_one : (number : ℕ) (f : FieldDescriptor) → count test (field_use number f) ≡ choose (names_it own f) 1 0
   unfolding field_use count choose

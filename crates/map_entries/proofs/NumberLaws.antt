@@ -8,7 +8,7 @@ use lib.ListN.{length}
 use lib.Dec.{eqb}
 use borrow.Author.Tests.{eq-eqb, ne_eqb}
 use Rattle.base.specs.Choose.{choose, choose_case}
-use Rattle.base.specs.Lists.{all_of}
+use Rattle.base.specs.Lists.{all_of, all_of_append}
 use Rattle.descriptor.specs.Descriptor.{Bytes, FieldDescriptor, EnumDescriptor, FileDescriptor}
 use Rattle.name_rules.specs.Accessors.{text}
 use Rattle.name_rules.specs.FullNames.{◌·◌, package_scope, Entry, set_entries, fields_of_entries, set_fields}
@@ -17,11 +17,6 @@ use Rattle.map_entries.proofs.FieldCounts.{fields_numbered, fields_listed}
 
 -- what each listed declaration gives by a function that gives nothing of an enum
 module _ (g : Listed → List FieldDescriptor) where
-  of_append : (ls ks : List Listed) → all_of g (ls ++ ks) ≡ all_of g ls ++ all_of g ks
-  unfolding all_of
-  of_append [] ks = refl
-  of_append (l ∷ ls) ks = ap (λ (fs : List FieldDescriptor). g l ++ fs) (of_append ls ks) ∙ sym (append_assoc (g l) (all_of g ls) (all_of g ks))
-
   module _ (empty : (l : Listed) → l.fields ≡ [] → g l ≡ []) where
     of_enums : (file : ℕ) (scope : Bytes) (es : List EnumDescriptor) → all_of g (listed_enums file scope es) ≡ []
     unfolding all_of listed_enums
@@ -44,7 +39,7 @@ module _ (g : Listed → List FieldDescriptor) where
       entries_of file m [] = refl
       entries_of file m (e ∷ es) =
           ap (λ (fs : List FieldDescriptor). g (message_at file m e) ++ fs)
-          (of_append (listed_enums file e.full e.message.enums) (listed_entries file (m + 1) es) ∙ rw (of_enums file e.full e.message.enums) (entries_of file (m + 1) es))
+          (all_of_append g (listed_enums file e.full e.message.enums) (listed_entries file (m + 1) es) ∙ rw (of_enums file e.full e.message.enums) (entries_of file (m + 1) es))
           ∙ ap (λ (fs : List FieldDescriptor). fs ++ of_entries h (m + 1) es) (is file m e)
 
       entries_append : (m : ℕ) (es fs : List Entry) → of_entries h m (es ++ fs) ≡ of_entries h m es ++ of_entries h (m + length es) fs
@@ -59,8 +54,8 @@ module _ (g : Listed → List FieldDescriptor) where
       unfolding all_of listed_files listed_file set_entries of_entries
       files_of file m [] = refl
       files_of file m (f ∷ fs) =
-          of_append (listed_file file m f) (listed_files (file + 1) (m + length (file_entries f)) fs)
-          ∙ rw (of_append (listed_entries file m (file_entries f)) (listed_enums file (package_scope f.package_name) f.enums), of_enums file (package_scope f.package_name) f.enums, entries_of file m (file_entries f), append-nil (of_entries h m (file_entries f)), files_of (file + 1) (m + length (file_entries f)) fs)
+          all_of_append g (listed_file file m f) (listed_files (file + 1) (m + length (file_entries f)) fs)
+          ∙ rw (all_of_append g (listed_entries file m (file_entries f)) (listed_enums file (package_scope f.package_name) f.enums), of_enums file (package_scope f.package_name) f.enums, entries_of file m (file_entries f), append-nil (of_entries h m (file_entries f)), files_of (file + 1) (m + length (file_entries f)) fs)
           (sym (entries_append m (file_entries f) (set_entries fs)))
 
 -- all of them

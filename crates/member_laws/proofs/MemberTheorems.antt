@@ -1,12 +1,12 @@
 -- Of an accepted set, with tables that say what they should and room for 2,048 rows: the names of members that meet are those of the name check.
 -- Assumes nothing.
 use Prim.Native.Nat.{ℕ, zero, suc, ◌+◌, ◌≤◌}
-use Rattle.std.specs.Prelude.{◌≡◌, Bool, true, false, ◌&&◌, not, length, Ok}
+use Rattle.std.specs.Prelude.{◌≡◌, Bool, ◌&&◌, not, length, Ok}
 use Rattle.std.proofs.Math.Path.{refl, ap₂}
 use Rattle.std.proofs.Common.{ap, ◌∙◌, ⊎_elim, arith, length-append, take_all}
 use Rattle.std.proofs.Math.Bool.{◌||◌}
 use mathlib.Core.List.{List, [], ◌∷◌, map}
-use Rattle.base.specs.Choose.{choose}
+use Rattle.base.specs.Choose.{unless}
 use Rattle.base.specs.Lists.{any, all_of, Every}
 use Rattle.descriptor.specs.Descriptor.{Bytes, Forest, done, preorder, MessageDescriptor, FileDescriptor}
 use Rattle.descriptor.specs.Decode.{entries, parts, decode_oneof, decode_message, decode_messages, decode_file, decode_set}
@@ -54,11 +54,6 @@ few_files [] h = tt
 few_files (f ∷ fs) h = (every_left Few (preorder f.messages) (messages_in fs) h, few_files fs (every_right Few (preorder f.messages) (messages_in fs) h))
 
 -- what is left out has none
-left_out : (out x : Bool) → choose out false x ≡ (not out && x)
-unfolding choose
-left_out true x = refl
-left_out false x = refl
-
 module _ (rs : List Setting) (set : List ℕ) (messages : List MessageRow) (t : List FieldRow) (room : ℕ) (enough : 786432 ≤ room) where
   abbrev test : Bytes → MessageDescriptor → Forest MessageDescriptor → Bool
   test full m nested = members_meet m nested
@@ -71,7 +66,7 @@ module _ (rs : List Setting) (set : List ℕ) (messages : List MessageRow) (t : 
   unfolding message_meets decode_message decode_oneof
   message_is scope nested i p fit has good few inner inside =
       rw (fit.own.whole, own_is rs set messages t scope nested i p fit has good few room enough, inside)
-      (left_out ((decode_message p).map_entry || taken rs (scope · text (decode_message p).name)) _)
+      (unless ((decode_message p).map_entry || taken rs (scope · text (decode_message p).name)) _)
 
   messages_meet_are : (left : ℕ) (scope : Bytes) (i : ℕ) (ps : List Bytes) → Described rs set messages t scope i (decode_messages left ps) → Every GoodMessage (preorder (decode_messages left ps)) → Every Few (preorder (decode_messages left ps))
       → messages_meet rs room set messages t left scope i ps ≡ any_message rs test scope (decode_messages left ps)

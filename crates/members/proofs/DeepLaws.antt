@@ -1,13 +1,12 @@
 -- What stands a level below a line at the depth d, where depths go up to 2 ^ 64 - 1: behind a line so deep nothing is written. Assumes nothing.
-use Rattle.std.proofs.Common.{◌≡◌, sym, ap, ◌∙◌, ℕ, zero, suc, ◌+◌, ◌-◌, ◌^◌, ◌≤◌, min, List, ◌++◌, length, take, arith, length-append}
-use Rattle.std.proofs.lemmas.List.Edits.{sets}
+use Rattle.std.proofs.Common.{◌≡◌, sym, ap, ◌∙◌, ℕ, zero, suc, ◌+◌, ◌-◌, ◌^◌, ◌≤◌, min, List, ◌++◌, length, arith, length-append}
 use Rattle.std.proofs.Math.Decide.{dec_le}
 use Rattle.base.specs.Bytes.{b}
 use Rattle.writer.specs.declared.text.Text.{Text as Buffered}
 use Rattle.writer.specs.Text.{indent}
 use Rattle.writer.specs.Draft.{Draft, most, extended}
 use Rattle.writer.specs.Writing.{◌▻◌, draft_of, with_draft}
-use Rattle.writer.proofs.TextLaws.{stored, put-append}
+use Rattle.writer.proofs.TextLaws.{full, put-append}
 use Rattle.code_generator.specs.Piece.{Text, ◌⟫◌, flat}
 use Rattle.code_generator.specs.Writing.{◌⊳◌}
 use Rattle.code_generator.proofs.WritingLaws.{written-flat}
@@ -16,11 +15,6 @@ pub indent_deep : (d : ℕ) → d ≤ length (indent d)
 unfolding indent
 indent_deep zero = omega arith
 indent_deep (suc d) = let e = indent_deep d in let h = length-append (indent d) (b "    ") in omega arith
-
-full : (d : Draft) (p : List ℕ) → most ≤ d.length → extended d p ≡ d
-full d p h =
-    let z : 0 ≡ most - d.length = omega arith in
-    sym (stored d p d.buffer d.length (ap (λ (k : ℕ). sets d.buffer d.length (take k p)) z) (omega arith))
 
 long : (d : Draft) (p : List ℕ) → most ≤ length p → most ≤ (extended d p).length
 unfolding extended

@@ -11,7 +11,7 @@ use lib.Dec.{eqb}
 use lib.ListN.{length, get_or, set, length-set, replicate}
 use lib.Seq.{get_or-set_same, get_or-set_other}
 use borrow.Author.Tests.{eqb-true, eq-eqb}
-use Rattle.base.specs.Tests.{and_left, and_right, and_both, both_ways}
+use Rattle.base.specs.Tests.{and_left, and_right, and_both, both_ways, same_test}
 use borrow.Author.Count.{below_more}
 use Rattle.message_graph.specs.Fields.{Fields, is_link}
 use Rattle.message_graph.specs.declared.Field.{Field}
@@ -19,7 +19,7 @@ use Rattle.message_graph.specs.Rows.{row_at, fields_of, message_of, is_link_of, 
 use Rattle.message_graph.proofs.RowLaws.{owner_row, target_row, link_row, length-fields_of}
 use Rattle.message_graph.specs.Leads.{Link, Leads, leadsb}
 use Rattle.message_graph.specs.Leads.Leads.{here, step}
-use Rattle.message_graph.specs.Decided.{join, same_test, leads_sound, leads_complete}
+use Rattle.message_graph.specs.Decided.{join, leads_sound, leads_complete}
 use Rattle.message_graph.specs.Marks.{Marked, Done, clear, Visited}
 
 -- marks

@@ -1,5 +1,5 @@
 -- The test `leadsb` says what `Leads` says. Assumes nothing.
-use Rattle.std.specs.Prelude.{◌≡◌, Bool, true, false}
+use Rattle.std.specs.Prelude.{◌≡◌, true}
 use Rattle.std.proofs.Math.Path.{refl, subst}
 use Rattle.std.proofs.Common.{sym, ◌∙◌, le_of_suc-le-suc, not-suc-le-zero, eq-or-lt_of_le}
 use Rattle.std.proofs.Math.Bool.{or-false}
@@ -11,6 +11,7 @@ use native.Mathlib.Omega.{arith}
 use Rattle.std.proofs.Math.Dec.{eqb}
 use borrow.Author.Tests.{eqb-true, eq-eqb}
 use Rattle.base.specs.Choose.{choose, choose_case}
+use Rattle.base.specs.Tests.{same_test}
 use Rattle.message_graph.specs.Limit.{messages}
 use Rattle.message_graph.specs.Fields.{Fields, size, owner_of, target_of, link, message_at_below}
 use Rattle.message_graph.specs.Walks.{Walk, walks, walks_sound, walks_complete}
@@ -78,11 +79,6 @@ pub decides : (f : Fields) → Decides f
 decides f = record { sound = leads_sound f; complete = leads_complete f }
 
 -- two tests of one thing are equal
-pub same_test : (p q : Bool) → (p ≡ true → q ≡ true) → (q ≡ true → p ≡ true) → p ≡ q
-same_test true q f g = sym (f refl)
-same_test false true f g = g refl
-same_test false false f g = refl
-
 -- a number that no message can have leads to itself alone, and only itself leads to it
 
 module _ {f : Fields} where

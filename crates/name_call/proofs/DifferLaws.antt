@@ -1,6 +1,7 @@
 -- Whether names differ, step by step; and of an accepted set, with its tables: names are found to differ exactly if the name check says yes. Assumes nothing.
 use Rattle.std.specs.Prelude.{◌≡◌, refl, ℕ, Bool, true, false, ◌||◌, ◌&&◌, not, List, length, replicate}
 use Rattle.std.proofs.Common.{arith}
+use Rattle.std.proofs.Math.Bool.{and_assoc}
 use Rattle.descriptor.specs.Descriptor.{Bytes}
 use Rattle.descriptor.specs.Decode.{decode_set}
 use Rattle.options.specs.Settings.{Setting}
@@ -19,10 +20,6 @@ use Rattle.name_call.specs.Differ.{rows_laid, places_differ, names_differ}
 use Rattle.name_call.specs.NameTheorem.{names_differ_is}
 use Rattle.name_call.specs.Answer.{Accepted}
 
-and_assoc : (a b c : Bool) → (a && (b && c)) ≡ ((a && b) && c)
-and_assoc true b c = refl
-and_assoc false b c = refl
-
 not_any : (a b c : Bool) → not (a || (b || c)) ≡ (not a && (not b && not c))
 not_any true b c = refl
 not_any false true c = refl
@@ -39,7 +36,7 @@ places_are rs room set messages t s laid met is =
 module _ (rs : List Setting) (room : ℕ) (set : List ℕ) (messages : List MessageRow) (t : List FieldRow) (p : Bool) (is : p ≡ places_differ rs room set messages t) where
   in_two : names_differ rs room set messages t ≡ (p && not (set_meets rs room set messages t))
   unfolding names_differ places_differ
-  in_two = rw (is, ← and_assoc, ← and_assoc) refl
+  in_two = rw (is, and_assoc, and_assoc) refl
 
   pub by_members : p ≡ true → (now : ℕ) → now ≡ room → (d : Bool) → d ≡ set_meets rs now set messages t → not d ≡ names_differ rs room set messages t
   by_members h now en d ed = rw (in_two, h, ← en, ← ed) refl

@@ -6,7 +6,7 @@ use Rattle.std.proofs.lemmas.List.{length-replicate}
 use Rattle.base.specs.Bytes.{same, same_refl, same_sound, same_length}
 use Rattle.base.specs.Choose.{else_lt}
 use Rattle.base.specs.Lists.{all_of, any, Every}
-use Rattle.base.specs.Tests.{both_ways, and_left, and_right, and_both}
+use Rattle.base.specs.Tests.{both_ways, and_left, and_right, and_both, same_test}
 use Rattle.heck.specs.Case.{between}
 use Rattle.writer.specs.Wrote.{over, over_length, over_cut}
 use Rattle.writer.specs.Draft.{Filled}
@@ -123,11 +123,6 @@ told home name h =
     row_key home name ∙ key_is home name h ∙ append_assoc (home ++ (0 ∷ [])) name (replicate (zeros home name) 0)
     ∙ append_assoc home (0 ∷ []) (name ++ replicate (zeros home name) 0)
 
-both : (a c : Bool) → (a ≡ true → c ≡ true) → (c ≡ true → a ≡ true) → a ≡ c
-both true c f g = sym (f refl)
-both false true f g = g refl
-both false false f g = refl
-
 are : (x y : Bytes) → x ≡ y → same x y ≡ true
 are x y e = rw e (same_refl y)
 
@@ -148,7 +143,7 @@ module _ (p q : Place) (h : Holds p) (k : Holds q) where
   -- same rows are those of same places
   pub row_same : same (place_row p) (place_row q) ≡ same_place p q
   row_same =
-      both (same (place_row p) (place_row q)) (same_place p q)
+      same_test (same (place_row p) (place_row q)) (same_place p q)
       (λ e. let r = same_sound (place_row p) (place_row q) e in and_both (are p.home q.home (row_home r)) (are p.name q.name (row_name r)))
       (λ e.
       let home = same_sound p.home q.home (and_left (same p.home q.home) (same p.name q.name) e) in
@@ -163,9 +158,6 @@ among_rows p (q ∷ ps) h hs = ap₂ ◌||◌ (row_same p q h hs.0) (among_rows 
 de_morgan : (a c : Bool) → (a || not c) ≡ not (not a && c)
 de_morgan true c = refl
 de_morgan false c = refl
-
-pub same_turned : (x y : Bytes) → same x y ≡ same y x
-same_turned x y = both (same x y) (same y x) (λ e. are y x (sym (same_sound x y e))) (λ e. are x y (sym (same_sound y x e)))
 
 -- ---- names in no module, whatever their length: one of the two is short
 pub first_bytes : (n : ℕ) (x y : Bytes) → length x < n → same x (take n y) ≡ same x y

@@ -3,3 +3,5 @@ pub mod WellFormedLaws
 pub mod NamesLaws
 pub mod SyntaxLaws
 pub mod TypeLaws
+pub mod AppendLaws
+pub mod LengthLaws

@@ -3,7 +3,7 @@ use Rattle.std.proofs.Common.{◌≡◌, ℕ, zero, suc, ◌<◌, ◌≤◌, Boo
 use Rattle.std.specs.Prelude.{◌&&◌, leb, ltb, MatchResult}
 use Rattle.std.specs.List.{list_all}
 use borrow.Author.Tests.{ltb-true, leb-true}
-use Rattle.base.specs.Tests.{and_left, and_right}
+use Rattle.base.specs.Tests.{and_left, and_right, and_false}
 use Rattle.field_types.specs.Types.{FieldType, types, type_at, no_type}
 use Rattle.field_types.specs.Kinds.{number}
 use Rattle.field_types.specs.declared.kinds.UnknownType.{UnknownType}
@@ -19,13 +19,9 @@ sort_at [] h k l = absurd (omega arith)
 sort_at (t ∷ ts) h zero l = ltb-true 0 t.sort (and_left (has_sort t) (list_all has_sort ts) h)
 sort_at (t ∷ ts) h (suc k) l = sort_at ts (and_right (has_sort t) (list_all has_sort ts) h) k (omega arith)
 
-both_off : (t u : Bool) → u ≡ false → (t && u) ≡ false
-both_off true u h = h
-both_off false u h = refl
-
 none_known : (n : ℕ) → type_at n ≡ no_type → (leb 1 n && leb n 18) ≡ false
 none_known zero e = refl
-none_known (suc k) e = both_off (leb 1 (suc k)) (leb (suc k) 18) (off (leb (suc k) 18) refl)
+none_known (suc k) e = and_false (leb 1 (suc k)) (leb (suc k) 18) (off (leb (suc k) 18) refl)
   where
     off : (t : Bool) → leb (suc k) 18 ≡ t → t ≡ false
     off false h = refl

@@ -9,7 +9,7 @@ use Prim.Native.Nat.{ℕ, ◌<◌, ◌^◌}
 use lib.Dec.{eqb, ltb, leb}
 use lib.ListN.{length}
 use borrow.Author.Tests.{ltb-true, ltb-false, leb-true, eqb-true, not-true}
-use Rattle.base.specs.Choose.{choose}
+use Rattle.base.specs.Choose.{choose, chosen}
 use Rattle.base.specs.Bytes.{b, same_sound}
 use Rattle.base.specs.Lists.{all, is_empty, Every, all_every, every_append, every_of, every_to, none_fails}
 use Rattle.base.specs.Tests.{and_left, and_right, both_ways}
@@ -214,10 +214,6 @@ good_entry m nested h =
     )
 
 -- what follows of a message's rules holds of every message
-
-chosen : (t x : Bool) → choose t x true ≡ true → t ≡ true → x ≡ true
-unfolding choose
-chosen t x h e = ap (λ (u : Bool). choose u x true) (sym e) ∙ h
 
 pub every_node : (P : MessageDescriptor → Forest MessageDescriptor → Type 0)
     → ((m : MessageDescriptor) (nested : Forest MessageDescriptor) → message_good m ≡ true → (m.map_entry ≡ true → entry_good m nested ≡ true) → P m nested)

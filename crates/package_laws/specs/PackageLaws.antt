@@ -9,12 +9,12 @@ use Rattle.base.specs.Choose.{choose}
 use Rattle.base.specs.Bytes.{same, same_refl, same_sound}
 use Rattle.base.specs.Tests.{both_ways, bool_cases, and_left, and_right, or_cases, or_left, or_right}
 use Rattle.base.specs.Lists.{any, all_of, Every}
+use Rattle.base.proofs.BytesLaws.{same_turned}
 use Rattle.ident.specs.Ident.{to_snake}
 use Rattle.descriptor.specs.Descriptor.{Bytes, FileDescriptor}
 use Rattle.code_generator.specs.Resolve.{local_path}
 use Rattle.name_rules.specs.FullNames.{package_scope}
 use Rattle.name_check.specs.NameCheck.{Place, PackageModule, modules_in, file_modules, same_module, each_once, package_modules, module_place, same_place, places_differ}
-use Rattle.name_rows.proofs.RowLaws.{same_turned}
 use Rattle.paths_reach.specs.Dots.{DotFree, scope_of, path_of_scope, path_dot_free}
 use Rattle.paths_reach.specs.Homes.{Within, once_mem, mem_once, mem_all_of, of_all_of}
 use Rattle.paths_reach.specs.Targets.{every_left, every_reverse}

@@ -1,17 +1,8 @@
 -- Laws of places that differ. Assumes nothing.
 use Rattle.std.specs.Prelude.{◌≡◌, refl, Bool, true, false, ◌||◌, ◌&&◌, not, List, [], ◌∷◌, ◌++◌, map}
 use Rattle.std.proofs.Common.{◌∙◌}
-use Rattle.base.specs.Lists.{any, all_of}
+use Rattle.base.specs.Lists.{any, all_of, any_append}
 use Rattle.name_check.specs.NameCheck.{Place, same_place, places_differ}
-
-pub any_append : {A : Type 0} (p : A → Bool) (xs ys : List A) → any p (xs ++ ys) ≡ (any p xs || any p ys)
-unfolding any
-any_append p [] ys = refl
-any_append p (x ∷ xs) ys = rw (any_append p xs ys) (go (p x) (any p xs) (any p ys))
-  where
-    go : (a b c : Bool) → (a || (b || c)) ≡ ((a || b) || c)
-    go true b c = refl
-    go false b c = refl
 
 pub any_map : {A B : Type 0} (p : B → Bool) (g : A → B) (xs : List A) → any p (map g xs) ≡ any (λ (x : A). p (g x)) xs
 unfolding any

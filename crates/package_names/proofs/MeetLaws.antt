@@ -7,8 +7,9 @@ use Rattle.std.specs.Str.{bytes_eq}
 use Rattle.std.proofs.Common.{sym, ap, ap₂, ◌∙◌, cond, append_assoc, append-nil, length-append, take_at}
 use Rattle.base.specs.Bytes.{b, same, same_refl}
 use Rattle.base.specs.Choose.{choose}
-use Rattle.base.specs.Lists.{any}
-use Rattle.base.proofs.BytesLaws.{same_bytes}
+use Rattle.base.specs.Lists.{any, any_append}
+use Rattle.base.proofs.BytesLaws.{same_bytes, same_turned}
+use Rattle.std.proofs.Math.Bool.{or-false, or_assoc}
 use Rattle.split.specs.Split.{begins, push, split_behind}
 use Rattle.extern_paths.specs.Split.{split}
 use Rattle.descriptor.specs.Descriptor.{Bytes, FileHeader, file_header}
@@ -16,7 +17,6 @@ use Rattle.descriptor.specs.Decode.{entries, parts, decode_file}
 use Rattle.descriptor.specs.Seen.{text_seen}
 use Rattle.code_generator.specs.Resolve.{local_path}
 use Rattle.joined.proofs.ShownLaws.{with_package, without_package}
-use Rattle.name_rows.proofs.RowLaws.{same_turned}
 use Rattle.package_names.specs.Packages.{file_segments, meets, cut_snake, parts_meet, package_meets, packages_meet, part_stands}
 use Rattle.package_names.proofs.StandLaws.{stand, stands_none}
 
@@ -78,18 +78,10 @@ unfolding meets choose
 meets_itself [] = refl
 meets_itself (x ∷ xs) = rw (same_refl x) (meets_itself xs)
 
-or_none : (t : Bool) → (t || false) ≡ t
-or_none true = refl
-or_none false = refl
-
 or_twice : (t u : Bool) → ((t || u) || (u || false)) ≡ (t || u)
 or_twice true u = refl
 or_twice false true = refl
 or_twice false false = refl
-
-or_behind : (t u w : Bool) → ((t || u) || w) ≡ (t || (u || w))
-or_behind true u w = refl
-or_behind false u w = refl
 
 or_crossed : (t u v w : Bool) → ((t || (u || false)) || (v || w)) ≡ ((t || v) || (u || w))
 or_crossed true u v w = refl
@@ -98,11 +90,6 @@ or_crossed false true false w = refl
 or_crossed false false v w = refl
 
 module _ {A : Type 0} where
-  any_append : (p : A → Bool) (xs ys : List A) → any p (xs ++ ys) ≡ (any p xs || any p ys)
-  unfolding any
-  any_append p [] ys = refl
-  any_append p (x ∷ xs) ys = ap (λ (t : Bool). p x || t) (any_append p xs ys) ∙ sym (or_behind (p x) (any p xs) (any p ys))
-
   module _ (R : A → A → Bool) (turned : (x y : A) → R x y ≡ R y x) (itself : (x : A) → R x x ≡ false) where
     -- one more behind those that are asked
     one_more : (x : A) (ps qs : List A) → any (λ (p : A). any (R p) (qs ++ (x ∷ []))) ps ≡ (any (λ (p : A). any (R p) qs) ps || any (R x) ps)
@@ -118,7 +105,7 @@ module _ {A : Type 0} where
     all_of_more x ps =
         any_append (λ (p : A). any (R p) (ps ++ (x ∷ []))) ps (x ∷ [])
         ∙ ap₂ (λ (t u : Bool). t || (u || false)) (one_more x ps ps)
-        (any_append (R x) ps (x ∷ []) ∙ ap (λ (t : Bool). any (R x) ps || (t || false)) (itself x) ∙ or_none (any (R x) ps))
+        (any_append (R x) ps (x ∷ []) ∙ ap (λ (t : Bool). any (R x) ps || (t || false)) (itself x) ∙ or-false (any (R x) ps))
         ∙ or_twice (any (λ (p : A). any (R p) ps) ps) (any (R x) ps)
 
     -- each of those behind some, asked of those before it
@@ -127,13 +114,13 @@ module _ {A : Type 0} where
 
     once_from : (ps xs : List A) → any (λ (p : A). any (R p) (ps ++ xs)) (ps ++ xs) ≡ (any (λ (p : A). any (R p) ps) ps || asked (ps ++ xs) (length ps) xs)
     unfolding any
-    once_from ps [] = rw (append-nil ps) (sym (or_none (any (λ (p : A). any (R p) ps) ps)))
+    once_from ps [] = rw (append-nil ps) (sym (or-false (any (λ (p : A). any (R p) ps) ps)))
     once_from ps (x ∷ xs) =
         let e : (ps ++ (x ∷ [])) ++ xs ≡ ps ++ (x ∷ xs) = append_assoc ps (x ∷ []) xs in
         ap (λ (l : List A). any (λ (p : A). any (R p) l) l) (sym e)
         ∙ once_from (ps ++ (x ∷ [])) xs
         ∙ ap₂ ◌||◌ (all_of_more x ps) (ap₂ (λ (l : List A) (n : ℕ). asked l n xs) e (length-append ps (x ∷ [])))
-        ∙ or_behind (any (λ (p : A). any (R p) ps) ps) (any (R x) ps) (asked (ps ++ (x ∷ xs)) (length ps + 1) xs)
+        ∙ or_assoc (any (λ (p : A). any (R p) ps) ps) (any (R x) ps) (asked (ps ++ (x ∷ xs)) (length ps + 1) xs)
         ∙ ap (λ (l : List A). any (λ (p : A). any (R p) ps) ps || (any (R x) l || asked (ps ++ (x ∷ xs)) (length ps + 1) xs)) (sym (take_at ps (x ∷ xs) (length ps) refl))
 
     once : (xs : List A) → list_any (λ (p : ℕ × A). any (R p.1) (take p.0 xs)) (enumerate_from 0 xs) ≡ any (λ (p : A). any (R p) xs) xs

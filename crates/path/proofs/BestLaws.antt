@@ -8,7 +8,7 @@ use lib.Dec.{eqb, ltb}
 use lib.ListN.{length}
 use borrow.Author.Tests.{le-ltb, lt-ltb, ne_eqb}
 use Rattle.base.specs.Choose.{choose, choose_case, then_is, else_is}
-use Rattle.base.specs.Tests.{both_ways, and_left, and_right}
+use Rattle.base.specs.Tests.{both_ways, and_left, and_right, by_test}
 use Rattle.base.specs.Bytes.{b, same, same_sound}
 use Rattle.base.proofs.BytesLaws.{same_bytes}
 use Rattle.options.specs.Settings.{Setting, found_at}
@@ -21,10 +21,6 @@ use Rattle.std.specs.Str.{bytes_eq}
 use Rattle.path.proofs.FormLaws.{Falls, behind_falls, before_falls}
 
 -- by the two cases of a test
-by_test : (P : Bool → Type 0) (t : Bool) → (t ≡ true → P true) → (t ≡ false → P false) → P t
-by_test P true f g = f refl
-by_test P false f g = g refl
-
 -- ---- worths fall, from below w on, and stay above 0
 abbrev pub Below : ℕ → List Form → Type 0
 Below w [] = 0 < w

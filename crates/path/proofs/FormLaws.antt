@@ -13,6 +13,7 @@ use Rattle.std.specs.Str.{bytes_eq}
 use Rattle.base.specs.Choose.{choose}
 use Rattle.base.specs.Bytes.{same, same_length}
 use Rattle.base.proofs.BytesLaws.{same_bytes}
+use Rattle.std.proofs.Math.Bool.{or-false, and-or_distrib_left}
 use Rattle.path.specs.Forms.{behind_dots, before_dots, filled, suffixes, prefixes, among}
 
 -- ---- lengths fall, from below n on
@@ -72,13 +73,9 @@ empty_none [] xs h = filled_none xs
 empty_none (c ∷ x) xs h = absurd (omega arith)
 
 -- ---- suffixes
-or_none : (t : Bool) → (t || false) ≡ t
-or_none true = refl
-or_none false = refl
-
 suffix_here : (s x : List ℕ) (t : Bool) → length s ≡ length x → among x (choose t (s ∷ behind_dots s) (behind_dots s)) ≡ (t && same x s)
 unfolding choose among
-suffix_here s x true e = rw (too_long (length s) x (behind_dots s) (behind_falls s) (omega arith)) (or_none (same x s))
+suffix_here s x true e = rw (too_long (length s) x (behind_dots s) (behind_falls s) (omega arith)) (or-false (same x s))
 suffix_here s x false e = too_long (length s) x (behind_dots s) (behind_falls s) (omega arith)
 
 suffix_later : (s x : List ℕ) (t : Bool) → length x < length s → among x (choose t (s ∷ behind_dots s) (behind_dots s)) ≡ among x (behind_dots s)
@@ -112,11 +109,7 @@ among_cons : (c d : ℕ) (t : Bool) (x : List ℕ) (xs : List (List ℕ)) → am
 unfolding among same choose
 among_cons c d true x [] = sym (and-false (eqb d c))
 among_cons c d false x [] = sym (and-false (eqb d c))
-among_cons c d t x (y ∷ ys) = rw (among_cons c d t x ys) (spread (eqb d c) (same x y) (among x ys))
-  where
-    spread : (p q r : Bool) → ((p && q) || (p && r)) ≡ (p && (q || r))
-    spread true q r = refl
-    spread false q r = refl
+among_cons c d t x (y ∷ ys) = rw (among_cons c d t x ys) (sym (and-or_distrib_left (eqb d c) (same x y) (among x ys)))
 
 swap : (p q r : Bool) → (p && (q && r)) ≡ (q && (p && r))
 swap true q r = refl

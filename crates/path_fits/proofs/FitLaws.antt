@@ -1,16 +1,17 @@
 -- In a set that passes none of the limits every name has room. Assumes nothing.
-use Rattle.std.specs.Prelude.{◌≡◌, Bool, true, false, ◌||◌, ◌⊎◌, ℕ, suc, ◌+◌, ◌≤◌, ltb, length}
+use Rattle.std.specs.Prelude.{◌≡◌, Bool, false, ◌||◌, ◌⊎◌, ℕ, ◌+◌, ◌≤◌, ltb, length}
 use Rattle.std.proofs.Math.Path.{refl}
 use Rattle.std.proofs.Common.{inl, inr, arith, length-append, take_all, ltb-false, le-leb}
 use mathlib.Core.List.{List, [], ◌∷◌, ◌++◌}
-use Rattle.std.proofs.Math.Option.{Option, some, none}
-use Rattle.base.specs.Choose.{choose}
-use Rattle.base.specs.Lists.{any, all_of, Every}
+use Rattle.std.proofs.Math.Option.{Option}
+use Rattle.base.specs.Lists.{any, all_of, Every, any_left, any_right}
 use Rattle.base.specs.Tests.{or_false_left, or_false_right}
+use Rattle.name_rules.proofs.LengthLaws.{name_length, path_length, scope_length}
+use Rattle.limit_facts.specs.Within.{within}
 use Rattle.ident.specs.Ident.{to_upper_camel}
 use Rattle.descriptor.specs.Descriptor.{Bytes, Forest, done, node, preorder, FieldDescriptor, ValueDescriptor, EnumDescriptor, MessageDescriptor, FileDescriptor}
 use Rattle.descriptor.specs.Decode.{decode_set}
-use Rattle.descriptor.specs.Limits.{max_values, max_name, max_full_name, messages_in, length_of, enums_in, long_name, long_package, long_in_message, long_in_enum, package_length, full_length, enum_lengths, full_lengths, file_lengths, passes_1, passes_8, passes_9, limit_of_files, limit_passed}
+use Rattle.descriptor.specs.Limits.{max_values, max_name, max_full_name, messages_in, length_of, enums_in, long_name, long_package, long_in_message, long_in_enum, package_length, full_length, enum_lengths, full_lengths, file_lengths, passes_8, passes_9, limit_passed}
 use Rattle.name_rules.specs.Accessors.{text}
 use Rattle.name_rules.specs.FullNames.{◌·◌, package_scope}
 use Rattle.joined.specs.Joined.{max_path, fits, whole_path}
@@ -31,37 +32,12 @@ name_fits scope name h k =
       camel = take_all max_path (to_upper_camel name) (omega arith);
     }
 
-name_length : (n : Option Bytes) → length (text n) ≡ length_of n
-name_length none = refl
-name_length (some b) = refl
-
 short : (n : Option Bytes) → long_name n ≡ false → length (text n) ≤ max_short_name
 short n h = let l = name_length n in let k = ltb-false max_name (length_of n) h in omega arith
-
-path_length : (scope : Bytes) (n : Option Bytes) → length (scope · text n) ≡ length scope + (1 + length_of n)
-path_length scope n = let l = length-append scope (46 ∷ text n) in let m = name_length n in omega arith
-
-scope_length : (p : Option Bytes) → length (package_scope p) ≤ package_length p + 1
-scope_length none = omega arith
-scope_length (some []) = omega arith
-scope_length (some (c ∷ cs)) = omega arith
 
 -- ---- lists in which a test finds nothing
 
 module _ {A : Type 0} (p : A → Bool) where
-  any_left : (xs ys : List A) → any p (xs ++ ys) ≡ false → any p xs ≡ false
-  unfolding any
-  any_left [] ys h = refl
-  any_left (x ∷ xs) ys h =
-      let here = or_false_left (p x) (any p (xs ++ ys)) h in
-      let rest = any_left xs ys (or_false_right (p x) (any p (xs ++ ys)) h) in
-      rw (here, rest)
-
-  any_right : (xs ys : List A) → any p (xs ++ ys) ≡ false → any p ys ≡ false
-  unfolding any
-  any_right [] ys h = h
-  any_right (x ∷ xs) ys h = any_right xs ys (or_false_right (p x) (any p (xs ++ ys)) h)
-
   none_every : (P : A → Type 0) → ((x : A) → p x ≡ false → P x) → (xs : List A) → any p xs ≡ false → Every P xs
   unfolding any
   none_every P f [] h = tt
@@ -78,8 +54,8 @@ module _ {A : Type 0} (p : A → Bool) where
   unfolding any all_of
   any_in_each g [] h = refl
   any_in_each g (x ∷ xs) h =
-      let here = any_left (g x) (all_of g xs) h in
-      let rest = any_in_each g xs (any_right (g x) (all_of g xs) h) in
+      let here = any_left p (g x) (all_of g xs) h in
+      let rest = any_in_each g xs (any_right p (g x) (all_of g xs) h) in
       rw (here, rest)
 
 -- ---- what the limits refuse of an enum and a message
@@ -225,22 +201,5 @@ names_fit fs six eight nine =
     (any_left bad_enum of_files of_messages bad)
     nine
 
--- the limit in front is not passed, and those behind it
-not_passed : (t : Bool) (k n : ℕ) → choose t (suc k) n ≡ 0 → (t ≡ false) × (n ≡ 0)
-unfolding choose
-not_passed true k n e = absurd (omega arith)
-not_passed false k n e = (refl, e)
-
 pub set_fits : (set : Bytes) → limit_passed set ≡ 0 → Every FileFits (decode_set set)
-unfolding limit_passed limit_of_files
-set_fits set e =
-    let one = not_passed (passes_1 set) 0 _ e in
-    let two = not_passed _ 1 _ one.1 in
-    let three = not_passed _ 2 _ two.1 in
-    let four = not_passed _ 3 _ three.1 in
-    let five = not_passed _ 4 _ four.1 in
-    let six = not_passed _ 5 _ five.1 in
-    let seven = not_passed _ 6 _ six.1 in
-    let eight = not_passed _ 7 _ seven.1 in
-    let nine = not_passed _ 8 _ eight.1 in
-    names_fit (decode_set set) six.0 eight.0 nine.0
+set_fits set e = let w = within set e in names_fit (decode_set set) w.values w.names w.full_names

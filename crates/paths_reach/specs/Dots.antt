@@ -8,7 +8,8 @@ use Rattle.base.specs.Bytes.{b}
 use Rattle.base.specs.Choose.{choose}
 use Rattle.base.specs.Lists.{Every}
 use Rattle.base.specs.Tests.{both_ways, and_left, and_right}
-use Rattle.heck.specs.Case.{between, is_digit}
+use Rattle.ident.proofs.NameLaws.{part_no_dot}
+use Rattle.heck.specs.Case.{is_digit}
 use Rattle.ident.specs.Name.{name_start, name_part, every, is_name}
 use Rattle.descriptor.specs.Descriptor.{Bytes}
 use Rattle.extern_paths.specs.Split.{begins, push, split_behind, split}
@@ -25,14 +26,6 @@ scope_of [] = []
 scope_of (x ∷ h) = scope_of h · x
 
 -- ---- identifiers have none
-part_no_dot : (c : ℕ) → name_part c ≡ true → eqb c 46 ≡ false
-unfolding name_part name_start between
-part_no_dot c h = go (eqb c 46) refl
-  where
-    go : (t : Bool) → eqb c 46 ≡ t → t ≡ false
-    go false e = refl
-    go true e = both_ways (sym (ap name_part (eqb-true c 46 e)) ∙ h) refl
-
 every_no_dot : (s : Bytes) → every name_part s ≡ true → DotFree s
 unfolding every choose
 every_no_dot [] h = tt

@@ -7,22 +7,21 @@ use Rattle.std.proofs.Math.Bool.{true, false}
 use Rattle.std.proofs.Math.Option.{Option, some, none}
 use Rattle.std.proofs.Math.Logic.{inl, inr, ⊎_elim}
 use mathlib.Core.List.Memᴰ
-use mathlib.Core.List.{List, [], ◌∷◌, ◌++◌, map, append_assoc, Memᴰ}
+use mathlib.Core.List.{List, [], ◌∷◌, ◌++◌, map, Memᴰ}
 use native.Mathlib.Omega.{arith}
-use borrow.Author.Tests.{ltb-true, ltb-false, eqb-true}
-use Rattle.base.specs.Choose.{choose}
+use borrow.Author.Tests.{ltb-false, eqb-true}
+use Rattle.base.specs.Choose.{choose, chosen}
 use Rattle.base.specs.Bytes.{same, same_refl}
 use Rattle.base.specs.Tests.{bool_cases, both_ways, and_left, and_right}
-use Rattle.base.specs.Lists.{count, all, all_of, all_every, none_fails}
+use Rattle.base.specs.Lists.{count, all, all_of, all_every, none_fails, count_append, count_less, some_count, all_of_append}
+use Rattle.name_rules.proofs.AppendLaws.{fields_append}
 use Rattle.descriptor.specs.Descriptor.{Bytes, Forest, done, node, FieldDescriptor, MessageDescriptor, FileDescriptor}
-use Rattle.name_rules.specs.Accessors.{text, is_repeated, is_message}
+use Rattle.name_rules.specs.Accessors.{text}
 use Rattle.name_rules.specs.Rules.{is_text, file_good}
 use Rattle.name_rules.specs.FullNames.{package_scope, entries, set_entries, fields_of_entries, set_fields}
 use Rattle.name_rules.specs.MapEntries.{names_it, maps_it, entry_named, entries_named, map_entries_named}
 use Rattle.name_rules.specs.Answer.{file_named, first_six, names}
-use Rattle.name_rules.proofs.NamesLaws.{no_refusals}
-use Rattle.map_entries.proofs.FieldCounts.{count_append}
-use Rattle.type_names.proofs.SevenTheorems.{fields_append}
+use Rattle.name_rules.proofs.NamesLaws.{no_refusals, none_around, maps_names}
 use Rattle.paths_reach.specs.Dots.{scope_of, scope_of_names, dotted_package}
 use Rattle.paths_reach.specs.Written.{package_names}
 use Rattle.paths_reach.specs.Nodes.{Node, names_of, nodes, file_nodes}
@@ -32,24 +31,12 @@ use Rattle.paths_reach.specs.Targets.{entry_of, file_entries_are}
 
 -- ---- counts
 module _ {A : Type 0} (p q : A → Bool) (within : (x : A) → p x ≡ true → q x ≡ true) where
-  -- fewer pass the stronger test
-  count_less : (xs : List A) → count p xs ≤ count q xs
-  unfolding count choose
-  count_less [] = omega arith
-  count_less (x ∷ xs) = go (p x) (q x) (within x) (count_less xs)
-    where
-      go : (a c : Bool) → (a ≡ true → c ≡ true) → count p xs ≤ count q xs → choose a (1 + count p xs) (count p xs) ≤ choose c (1 + count q xs) (count q xs)
-      go true true h l = omega arith
-      go true false h l = both_ways (h refl) refl
-      go false true h l = omega arith
-      go false false h l = l
-
-  -- and strictly fewer where one passes only the other
+  -- strictly fewer pass the stronger test where one passes only the other
   count_fewer : (xs : List A) (x : A) → Memᴰ x xs → p x ≡ false → q x ≡ true → suc (count p xs) ≤ count q xs
   unfolding count choose
   count_fewer [] x i a c = absurd (Memᴰ.not-nil i)
   count_fewer (y ∷ xs) x i a c =
-      ⊎_elim (λ e. let l = count_less xs in first (p y) (q y) (subst (λ (z : A). p z ≡ false) e a) (subst (λ (z : A). q z ≡ true) e c) l)
+      ⊎_elim (λ e. let l = count_less p q within xs in first (p y) (q y) (subst (λ (z : A). p z ≡ false) e a) (subst (λ (z : A). q z ≡ true) e c) l)
       (λ j. next (p y) (q y) (within y) (count_fewer xs x j a c)) (Memᴰ.cases_cons i)
     where
       first : (s t : Bool) → s ≡ false → t ≡ true → count p xs ≤ count q xs → suc (choose s (1 + count p xs) (count p xs)) ≤ choose t (1 + count q xs) (count q xs)
@@ -62,9 +49,6 @@ module _ {A : Type 0} (p q : A → Bool) (within : (x : A) → p x ≡ true → 
       next true false h l = both_ways (h refl) refl
       next false true h l = omega arith
       next false false h l = l
-
-some_count : {A : Type 0} (p : A → Bool) (xs : List A) (x : A) → Memᴰ x xs → p x ≡ true → 1 ≤ count p xs
-some_count p xs x i e = let l = count_fewer (λ _. false) p (λ y h. both_ways h refl) xs x i refl e in omega arith
 
 -- ---- over the fields of messages
 abbrev fields_in : Node → List FieldDescriptor
@@ -101,17 +85,12 @@ unfolding fields_of_entries all_of
 fields_of_nodes [] = refl
 fields_of_nodes (n ∷ ns) = ap (λ (l : List FieldDescriptor). fields_in n ++ l) (fields_of_nodes ns)
 
-all_of_append : (xs ys : List Node) → all_of fields_in (xs ++ ys) ≡ all_of fields_in xs ++ all_of fields_in ys
-unfolding all_of
-all_of_append [] ys = refl
-all_of_append (x ∷ xs) ys = ap (λ (l : List FieldDescriptor). fields_in x ++ l) (all_of_append xs ys) ∙ sym (append_assoc (fields_in x) (all_of fields_in xs) (all_of fields_in ys))
-
 pub set_fields_are : (set : List FileDescriptor) → set_fields set ≡ all_of fields_in (set_nodes set)
 unfolding set_entries all_of fields_of_entries
 set_fields_are [] = refl
 set_fields_are (f ∷ fs) =
     fields_append (entries (package_scope f.package_name) f.messages) (set_entries fs)
-    ∙ rw (file_entries_are f, fields_of_nodes (file_nodes f), set_fields_are fs) (sym (all_of_append (file_nodes f) (all_of file_nodes fs)))
+    ∙ rw (file_entries_are f, fields_of_nodes (file_nodes f), set_fields_are fs) (sym (all_of_append fields_in (file_nodes f) (all_of file_nodes fs)))
 
 pub field_in_set : (set : List FileDescriptor) (n : Node) → Memᴰ n (set_nodes set) → (f : FieldDescriptor) → Memᴰ f n.message.fields → Memᴰ f (set_fields set)
 field_in_set set n i f j = subst (λ (l : List FieldDescriptor). Memᴰ f l) (sym (set_fields_are set)) (mem_all_of fields_in (set_nodes set) i j)
@@ -146,10 +125,6 @@ record Around (fields : List FieldDescriptor) (ns : List Node) (n : Node) : Type
   inside : Memᴰ n (tops (names_of around) around.nested)
   named : entry_named fields around.message.fields (scope_of (names_of n)) ≡ true
 
-chosen : (t c : Bool) → choose t c true ≡ true → t ≡ true → c ≡ true
-unfolding choose
-chosen t c h e = ap (λ (u : Bool). choose u c true) (sym e) ∙ h
-
 wider : (fields : List FieldDescriptor) (ms ns : List Node) (n : Node) → Within ms ns → Around fields ms n → Around fields ns n
 wider fields ms ns n w a = record { around = a.around; there = w a.around a.there; inside = a.inside; named = a.named }
 
@@ -180,10 +155,6 @@ find_around fields parent h (node m nested following) named n i e =
     (find_around fields parent h following (and_right (entries_named fields m.fields (scope_of full) nested) (entries_named fields parent (scope_of h) following) rest) n l e))
     (Memᴰ.append_cases (nodes full nested) j))
     (Memᴰ.cases_cons i)
-
-none_around : (fields : List FieldDescriptor) (full : Bytes) → entry_named fields [] full ≡ true → ⊥
-unfolding entry_named count
-none_around fields full h = let l = ltb-true 0 0 (and_left (ltb 0 (count (maps_it full) [])) (eqb (count (maps_it full) []) (count (names_it full) fields)) h) in omega arith
 
 -- ---- a set without refusal 6
 no_six : (set : List FileDescriptor) → names set ≡ Ok tt → all (file_named (set_fields set)) set ≡ true
@@ -217,9 +188,6 @@ module _ (set : List FileDescriptor) (good : names set ≡ Ok tt) where
       full : Bytes
       full = scope_of (names_of n)
 
-      maps_names : (g : FieldDescriptor) → maps_it full g ≡ true → names_it full g ≡ true
-      maps_names g h = and_right (is_message g) (names_it full g) (and_right (is_repeated g) (is_message g && names_it full g) h)
-
       all_told : (a : Around (set_fields set) (set_nodes set) n) → count (maps_it full) a.around.message.fields ≡ count (names_it full) (all_of fields_in (set_nodes set))
       unfolding entry_named full
       all_told a =
@@ -235,7 +203,7 @@ module _ (set : List FileDescriptor) (good : names set ≡ Ok tt) where
           ⊎_elim (λ e. subst (λ (z : Node). Memᴰ n (tops (names_of z) z.nested)) e a.inside)
           (λ l.
           let told = all_told a in
-          let less = count_less (maps_it full) (names_it full) maps_names a.around.message.fields in
+          let less = count_less (maps_it full) (names_it full) (maps_names full) a.around.message.fields in
           let one = some_count (names_it full) m.message.fields f field named in
           absurd (omega arith))
           (two_nodes (names_it full) (set_nodes set) a.there around)
@@ -250,11 +218,11 @@ module _ (set : List FileDescriptor) (good : names set ≡ Ok tt) where
           let told = all_told a in
           ⊎_elim
           (λ q.
-          let fewer = count_fewer (maps_it full) (names_it full) maps_names a.around.message.fields f (subst (λ (z : Node). Memᴰ f z.message.fields) (sym q) field) e named in
+          let fewer = count_fewer (maps_it full) (names_it full) (maps_names full) a.around.message.fields f (subst (λ (z : Node). Memᴰ f z.message.fields) (sym q) field) e named in
           let most = one_node (names_it full) (set_nodes set) a.there in
           absurd (omega arith))
           (λ l.
-          let less = count_less (maps_it full) (names_it full) maps_names a.around.message.fields in
+          let less = count_less (maps_it full) (names_it full) (maps_names full) a.around.message.fields in
           let one = some_count (names_it full) m.message.fields f field named in
           absurd (omega arith))
           (two_nodes (names_it full) (set_nodes set) a.there around))

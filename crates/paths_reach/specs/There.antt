@@ -7,7 +7,7 @@ use Rattle.std.proofs.Math.Logic.{⊎_elim}
 use mathlib.Core.List.Memᴰ
 use mathlib.Core.List.{List, [], ◌∷◌, ◌++◌, map, Memᴰ}
 use Rattle.base.specs.Choose.{choose}
-use Rattle.base.specs.Tests.{both_ways, or_left, or_right}
+use Rattle.base.specs.Tests.{both_ways, or_left, or_right, not_implied}
 use Rattle.base.specs.Lists.{is_empty}
 use Rattle.descriptor.specs.Descriptor.{Bytes, Forest, done, node, EnumDescriptor, MessageDescriptor}
 use Rattle.options.specs.Settings.{Setting}
@@ -57,13 +57,6 @@ nested_types h (node m nested following) c n i e =
     (λ j. ⊎_elim (λ l. or_left (has_nested_types following) (ap not (no_entry_around m nested c.0 (text m.name ∷ h) n l))) (λ l. or_right (not m.map_entry) (nested_types h following c.1.1 n l e)) (Memᴰ.append_cases (nodes (text m.name ∷ h) nested) j))
     (Memᴰ.cases_cons i)
 
-pub not_taken : {t u : Bool} → (t ≡ true → u ≡ true) → u ≡ false → t ≡ false
-not_taken {t} k e = go t refl
-  where
-    go : (s : Bool) → t ≡ s → s ≡ false
-    go false q = refl
-    go true q = both_ways (k q) e
-
 -- ---- what is written of a message
 abbrev pub all_of_node : List Setting → Node → List Named
 all_of_node rs n = node_nameds rs n.home n.message n.nested (message_nameds rs (names_of n) n.nested)
@@ -103,7 +96,7 @@ module _ (rs : List Setting) where
       let rest = enum_nameds rs full m.enums ++ map (oneof_named full) (oneof_fields m nested) in
       let has : has_module m nested ≡ true = or_right (not (is_empty m.enums)) (or_left (not (is_empty (oneof_fields m nested))) (nested_types full nested c.1.0 n l e)) in
       Memᴰ.append_left (message_nameds rs h following)
-      (chosen_out left_out (neither m.map_entry (taken rs (scope_of full)) (no_entry_around m nested c.0 full n l) (not_taken (λ q. taken_nodes rs (text m.name) h nested q n l) t)) (λ z p. p) y
+      (chosen_out left_out (neither m.map_entry (taken rs (scope_of full)) (no_entry_around m nested c.0 full n l) (not_implied (λ q. taken_nodes rs (text m.name) h nested q n l) t)) (λ z p. p) y
       (Memᴰ.tail (chosen_in (has_module m nested) has (λ z p. p) y (Memᴰ.tail (Memᴰ.append_left rest deep))))))
       (λ l y k. Memᴰ.append_right here (node_there h following c.1.1 n l e t y k))
       (Memᴰ.append_cases (nodes full nested) j))

@@ -6,7 +6,7 @@ use Rattle.std.proofs.Math.Bool.{false}
 use mathlib.Core.List.Memᴰ
 use mathlib.Core.List.{List, [], ◌∷◌, ◌++◌, map, Memᴰ}
 use Rattle.base.specs.Choose.{choose_case}
-use Rattle.base.specs.Tests.{both_ways, and_left, and_right, or_left, or_right, or_cases}
+use Rattle.base.specs.Tests.{both_ways, and_left, and_right, or_left, or_right, or_cases, not_implied}
 use Rattle.base.specs.Lists.{all, Every}
 use Rattle.field_types.specs.Types.{FieldType, types, no_type, sort_of, group, message, enumerated}
 use Rattle.descriptor.specs.Descriptor.{Bytes, FieldDescriptor, EnumDescriptor, FileDescriptor}
@@ -26,7 +26,7 @@ use Rattle.paths_reach.specs.Written.{type_named, enum_nameds, message_nameds, p
 use Rattle.paths_reach.specs.Nodes.{Node, names_of, file_nodes}
 use Rattle.paths_reach.specs.Homes.{whole}
 use Rattle.paths_reach.specs.Closed.{every_at, file_within}
-use Rattle.paths_reach.specs.There.{taken_inside, not_taken, node_there, enum_there, struct_in_node, enum_in_node}
+use Rattle.paths_reach.specs.There.{taken_inside, node_there, enum_there, struct_in_node, enum_in_node}
 use Rattle.paths_reach.specs.Targets.{name_free, package_free, FineNode, fine_node, entry_of, file_entries_are, in_set}
 
 -- ---- by number
@@ -177,7 +177,7 @@ module _ (rs : List Setting) (set : List FileDescriptor) (good : names set ≡ O
             file_within rs set f i (type_named (names_of n) (text e.name))
             (Memᴰ.append_left (enum_nameds rs (package_names f) f.enums)
             (node_there rs (package_names f) f.messages (well_formed f i).nothing_nested n j (no_entry n e fine k)
-            (not_taken (taken_inside rs (text n.message.name) n.home (text e.name)) out) (type_named (names_of n) (text e.name)) (enum_in_node rs n e k out)));
+            (not_implied (taken_inside rs (text n.message.name) n.home (text e.name)) out) (type_named (names_of n) (text e.name)) (enum_in_node rs n e k out)));
       }
   enum_target full (in_file f i e k q) =
       record {

@@ -1,18 +1,17 @@
 -- How many declared places a set has at most: two for each message, one for each enum and each field. Assumes nothing.
 use Prim.Native.Nat.{ℕ, suc, ◌+◌, ◌*◌, ◌≤◌}
 use Rattle.std.specs.Prelude.{◌≡◌, refl, Bool, true, false, ◌||◌, eqb, leb}
-use Rattle.std.proofs.Common.{ap, ◌∙◌, eqb-true, leb-true, leb-false}
+use Rattle.std.proofs.Common.{eqb-true, leb-true, leb-false}
 use Rattle.std.proofs.Math.Option.{Option, some, none}
 use mathlib.Core.List.{List, [], ◌∷◌, ◌++◌}
 use native.Mathlib.Omega.{arith}
 use Rattle.std.proofs.Math.ListN.{length, length-append}
 use Rattle.base.specs.Choose.{choose, choose_case}
-use Rattle.base.specs.Lists.{count, is_empty, all_of, map_length}
+use Rattle.base.specs.Lists.{count, is_empty, all_of, map_length, all_of_length}
 use Rattle.base.specs.Tests.{both_ways}
 use Rattle.ident.specs.Ident.{to_snake, to_upper_camel}
 use Rattle.descriptor.specs.Descriptor.{Bytes, Forest, done, node, preorder, FieldDescriptor, EnumDescriptor, MessageDescriptor, FileDescriptor}
 use Rattle.descriptor.specs.Limits.{messages_in, fields_in, enums_in}
-use Rattle.index.proofs.OwnerLaws.{all_of_append}
 use Rattle.options.specs.Settings.{Setting}
 use Rattle.extern_paths.specs.ExternPaths.{taken}
 use Rattle.name_rules.specs.Accessors.{text}
@@ -124,9 +123,6 @@ fields_of ms = length (all_of (λ (m : MessageDescriptor). m.fields) ms)
 abbrev enums_of : List MessageDescriptor → ℕ
 enums_of ms = length (all_of (λ (m : MessageDescriptor). m.enums) ms)
 
-spread : {A B : Type 0} (g : A → List B) (xs ys : List A) → length (all_of g (xs ++ ys)) ≡ length (all_of g xs) + length (all_of g ys)
-spread g xs ys = ap length (all_of_append g xs ys) ∙ length-append (all_of g xs) (all_of g ys)
-
 most_is : (rs : List Setting) (F : Forest MessageDescriptor) → most rs F ≡ 2 * length (preorder F) + enums_of (preorder F) + fields_of (preorder F)
 unfolding preorder all_of
 most_is rs done = refl
@@ -135,8 +131,8 @@ most_is rs (node m nested following) =
     let k = most_is rs following in
     let ms = preorder nested ++ preorder following in
     let size = length-append (preorder nested) (preorder following) in
-    let enums = spread (λ (x : MessageDescriptor). x.enums) (preorder nested) (preorder following) in
-    let fields = spread (λ (x : MessageDescriptor). x.fields) (preorder nested) (preorder following) in
+    let enums = all_of_length (λ (x : MessageDescriptor). x.enums) (preorder nested) (preorder following) in
+    let fields = all_of_length (λ (x : MessageDescriptor). x.fields) (preorder nested) (preorder following) in
     let own_enums = length-append m.enums (all_of (λ (x : MessageDescriptor). x.enums) ms) in
     let own_fields = length-append m.fields (all_of (λ (x : MessageDescriptor). x.fields) ms) in
     omega arith
@@ -156,8 +152,8 @@ module _ (rs : List Setting) where
       let places = length-append (message_places rs scope f.messages) (enum_places rs scope f.enums) in
       let sum = length-append (file_places rs f) (all_of (file_places rs) fs) in
       let size = length-append ms (messages_in fs) in
-      let all_enums = spread (λ (x : MessageDescriptor). x.enums) ms (messages_in fs) in
-      let all_fields = spread (λ (x : MessageDescriptor). x.fields) ms (messages_in fs) in
+      let all_enums = all_of_length (λ (x : MessageDescriptor). x.enums) ms (messages_in fs) in
+      let all_fields = all_of_length (λ (x : MessageDescriptor). x.fields) ms (messages_in fs) in
       let file_enums = length-append f.enums (all_of (λ (g : FileDescriptor). g.enums) fs) in
       omega arith
 

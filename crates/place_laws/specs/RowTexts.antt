@@ -5,13 +5,12 @@ use Rattle.std.proofs.Math.Path.{refl, sym, ap₂}
 use Rattle.std.proofs.Common.{ap, ◌∙◌, ⊎_elim, arith, take_all}
 use mathlib.Core.List.{List, [], ◌∷◌, ◌++◌, map, append_assoc, append-nil}
 use Rattle.base.specs.Choose.{choose}
-use Rattle.base.specs.Lists.{is_empty, all_of, Every}
+use Rattle.base.specs.Lists.{is_empty, all_of, Every, all_of_append}
 use Rattle.writer.specs.Text.{pick}
 use Rattle.ident.specs.Ident.{to_snake, to_upper_camel}
 use Rattle.descriptor.specs.Descriptor.{Bytes, Forest, done, MessageDescriptor, FileDescriptor}
 use Rattle.descriptor.specs.Decode.{entries, parts, decode_oneof, decode_enum, decode_message, decode_messages, decode_file}
 use Rattle.index.specs.Tree.{size}
-use Rattle.index.proofs.OwnerLaws.{all_of_append}
 use Rattle.options.specs.Settings.{Setting}
 use Rattle.extern_paths.specs.ExternPaths.{taken}
 use Rattle.name_rules.specs.Accessors.{text}

@@ -1,12 +1,11 @@
 -- Full names between their dots. Assumes nothing.
-use Rattle.std.specs.Prelude.{ℕ, ◌≡◌, refl, Bool, true, false, ◌&&◌, ◌⊎◌, List, [], ◌∷◌, ◌++◌, eqb, drop}
-use Rattle.std.proofs.Common.{ap, subst, ◌∙◌, inl, inr, eqb-true}
+use Rattle.std.specs.Prelude.{ℕ, ◌≡◌, refl, Bool, true, false, ◌&&◌, List, [], ◌∷◌, ◌++◌, eqb, drop}
+use Rattle.std.proofs.Common.{ap, ◌∙◌}
 use Rattle.base.specs.Bytes.{b}
 use Rattle.base.specs.Choose.{choose}
 use Rattle.base.specs.Lists.{Every, every_append}
-use Rattle.base.specs.Tests.{bool_cases, both_ways}
-use Rattle.heck.specs.Case.{between}
-use Rattle.ident.specs.Name.{name_start, name_part, every}
+use Rattle.ident.proofs.NameLaws.{part_no_dot}
+use Rattle.ident.specs.Name.{name_part, every}
 use Rattle.ident.proofs.EveryLaws.{every_head, every_tail}
 use Rattle.descriptor.specs.Descriptor.{Bytes}
 use Rattle.extern_paths.specs.Split.{begins, push, split_behind, split}
@@ -57,18 +56,10 @@ segments_append (c ∷ s) n = rw (segments_append s n) (on (eqb c 46))
     on true = refl
     on false = onto_append c (segments s) (segments n) (some_segments s)
 
-no_dot : (c : ℕ) → name_part c ≡ true → eqb c 46 ≡ false
-unfolding name_part name_start between
-no_dot c h = on (bool_cases (eqb c 46))
-  where
-    on : (eqb c 46 ≡ true) ⊎ (eqb c 46 ≡ false) → eqb c 46 ≡ false
-    on (inl e) = both_ways (subst (λ (z : ℕ). name_part z ≡ true) (eqb-true c 46 e) h) refl
-    on (inr e) = e
-
 segments_name : (n : Bytes) → every name_part n ≡ true → segments n ≡ n ∷ []
 unfolding segments choose
 segments_name [] h = refl
-segments_name (c ∷ n) h = rw (no_dot c (every_head name_part c n h), segments_name n (every_tail name_part c n h))
+segments_name (c ∷ n) h = rw (part_no_dot c (every_head name_part c n h), segments_name n (every_tail name_part c n h))
 
 -- ---- a full name: a dot, and names that convert between dots
 pub record Dotted (full : Bytes) : Type 0 where

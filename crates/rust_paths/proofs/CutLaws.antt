@@ -8,14 +8,14 @@ use lib.Dec.{eqb}
 use lib.ListN.{length, take, drop, length-drop, drop_of_length-le}
 use lib.Seq.{take_all, drop-drop, drop-append-add}
 use Rattle.base.specs.Choose.{choose, choose_case}
-use Rattle.base.specs.Tests.{both_ways, and_left, and_right}
+use Rattle.base.specs.Tests.{both_ways, and_left, and_right, by_test}
 use borrow.Author.Tests.{eqb-true}
 use Rattle.std.specs.Str.{bytes_eq}
 use Rattle.base.specs.Bytes.{b, same, same_sound}
 use Rattle.base.proofs.BytesLaws.{same_bytes}
 use Rattle.split.specs.Split.{begins, push, split_behind, split}
 use Rattle.rust_paths.specs.Parts.{cut, is_tail}
-use Rattle.split.proofs.SplitLaws.{begins_starts, by_test, split_is}
+use Rattle.split.proofs.SplitLaws.{begins_starts, split_is}
 
 -- all of p, or all but its last byte
 pub record Cut (p : List ℕ) (n : ℕ) : Type 0 where

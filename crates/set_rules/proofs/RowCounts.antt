@@ -1,16 +1,14 @@
 -- A set within the limits has 544 files and declarations at most, and one of 300 bytes 150. Assumes nothing.
 use mathlib.Core.Path.{◌≡◌, refl, sym, ap, ◌∙◌}
-use mathlib.Core.Bool.{Bool, true, false}
-use mathlib.Core.List.{List, [], ◌∷◌, ◌++◌, map, append_assoc}
+use mathlib.Core.List.{List, [], ◌∷◌, ◌++◌, map}
 use Prim.Native.Nat.{ℕ, suc, ◌+◌, ◌*◌, ◌≤◌}
 use native.Mathlib.Omega.{arith}
 use lib.ListN.{length, length-append}
-use borrow.Author.Tests.{ltb-false}
-use Rattle.base.specs.Choose.{choose}
-use Rattle.base.specs.Lists.{all_of, map_length}
+use Rattle.base.specs.Lists.{all_of, map_length, all_of_append}
+use Rattle.limit_facts.specs.Within.{within}
 use Rattle.descriptor.specs.Descriptor.{Bytes, EnumDescriptor, MessageDescriptor, FileDescriptor}
 use Rattle.descriptor.specs.Decode.{decode_set}
-use Rattle.descriptor.specs.Limits.{max_files, max_messages, max_enums, messages_in, enums_in, passes_1, limit_of_files, limit_passed}
+use Rattle.descriptor.specs.Limits.{messages_in, enums_in, limit_passed}
 use Rattle.name_rules.specs.FullNames.{Entry, set_entries, package_scope}
 use Rattle.declarations.specs.Listed.{file_entries, listed_enums, listed_entries, listed_file, listed_files}
 use Rattle.field_columns.proofs.EntryLaws.{set_messages}
@@ -19,11 +17,6 @@ use Rattle.limits.proofs.Sizes.{declarations_short}
 use Rattle.declarations.specs.declared.Declaration.{Declaration as Row}
 use Rattle.map_entries.specs.declared.Namers.{Namers}
 use Rattle.set_rules.specs.Room.{Room, row_count}
-
-all_of_append {ℓ κ} : {A : Type ℓ} {B : Type κ} (g : A → List B) (xs ys : List A) → all_of g (xs ++ ys) ≡ all_of g xs ++ all_of g ys
-unfolding all_of
-all_of_append g [] ys = refl
-all_of_append {B = B} g (x ∷ xs) ys = ap (λ (l : List B). g x ++ l) (all_of_append g xs ys) ∙ sym (append_assoc (g x) (all_of g xs) (all_of g ys))
 
 abbrev enums_of : Entry → List EnumDescriptor
 enums_of e = e.message.enums
@@ -74,23 +67,12 @@ declarations_counted fs =
     let e = length-append (all_of (λ (f : FileDescriptor). f.enums) fs) (all_of (λ (y : MessageDescriptor). y.enums) (messages_in fs)) in
     omega arith
 
--- a limit in front is not passed, and those behind it
-not_passed : (t : Bool) (k n : ℕ) → choose t (suc k) n ≡ 0 → (t ≡ false) × (n ≡ 0)
-unfolding choose
-not_passed true k n e = absurd (omega arith)
-not_passed false k n e = (refl, e)
-
 pub few_rows : (set : Bytes) → limit_passed set ≡ 0 → row_count set ≤ 544
-unfolding limit_passed limit_of_files
 few_rows set e =
-    let one = not_passed (passes_1 set) 0 _ e in
-    let two = not_passed _ 1 _ one.1 in
-    let three = not_passed _ 2 _ two.1 in
-    let four = not_passed _ 3 _ three.1 in
-    let five = not_passed _ 4 _ four.1 in
-    let files = ltb-false max_files (length (decode_set set)) two.0 in
-    let messages = ltb-false max_messages (length (messages_in (decode_set set))) three.0 in
-    let enums = ltb-false max_enums (length (enums_in (decode_set set))) five.0 in
+    let w = within set e in
+    let files = w.files in
+    let messages = w.messages in
+    let enums = w.enums in
     let count = declarations_counted (decode_set set) in
     omega arith
 

@@ -11,7 +11,7 @@ use lib.Dec.{eqb, ltb}
 use lib.ListN.{length, take, drop, get_or, length-drop, drop_of_length-le}
 use lib.Seq.{drop-cons, drop-drop, take-length}
 use Rattle.base.specs.Choose.{choose, choose_case}
-use Rattle.base.specs.Tests.{both_ways, and_right}
+use Rattle.base.specs.Tests.{both_ways, and_right, by_test}
 use Rattle.base.proofs.BytesLaws.{same_bytes}
 use Rattle.std.specs.Str.{bytes_eq}
 use Rattle.std.specs.List.{list_any}
@@ -23,10 +23,6 @@ use Rattle.std.proofs.lemmas.List.Recursion.{is_position_or_len}
 use Rattle.std.proofs.lemmas.List.Sums.{prefix_len-le-length}
 use Rattle.std.specs.Option.{MatchOption, option_copied}
 use Rattle.std.specs.List.{slice_range, position_or_len}
-
-pub by_test : (P : Bool → Type 0) (t : Bool) → (t ≡ true → P true) → (t ≡ false → P false) → P t
-by_test P true f g = f refl
-by_test P false f g = g refl
 
 -- ---- does the separator stand here?
 pub begins_starts : (sep s : List ℕ) → begins sep s ≡ bytes_eq sep (take (length sep) s)

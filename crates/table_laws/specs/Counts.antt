@@ -1,5 +1,5 @@
 -- Which fields of a set name a map entry, by the counts of refusal 6. Assumes nothing.
-use Rattle.std.specs.Prelude.{◌≡◌, Bool, ◌&&◌, eqb, ltb, length}
+use Rattle.std.specs.Prelude.{◌≡◌, Bool, eqb, ltb, length}
 use Rattle.std.proofs.Math.Path.{refl, ap}
 use Rattle.std.proofs.Common.{sym, ◌∙◌}
 use Rattle.std.proofs.Math.Bool.{true, false}
@@ -12,33 +12,21 @@ use native.Mathlib.Omega.{arith}
 use borrow.Author.Tests.{eqb-true}
 use Rattle.base.specs.Bytes.{same, same_refl}
 use Rattle.base.specs.Choose.{choose}
-use Rattle.base.specs.Lists.{count}
-use Rattle.base.specs.Tests.{bool_cases, both_ways, and_right}
+use Rattle.base.specs.Lists.{count, count_append, count_less, some_count}
+use Rattle.base.specs.Tests.{both_ways, and_right}
+use Rattle.name_rules.proofs.NamesLaws.{maps_names}
 use Rattle.descriptor.specs.Descriptor.{Bytes, FieldDescriptor}
-use Rattle.name_rules.specs.Accessors.{text, is_repeated, is_message}
+use Rattle.name_rules.specs.Accessors.{text}
 use Rattle.name_rules.specs.Rules.{is_text}
 use Rattle.name_rules.specs.FullNames.{Entry, fields_of_entries}
 use Rattle.name_rules.specs.MapEntries.{names_it, maps_it, entry_named}
 use Rattle.map_entries.proofs.CountLaws.{by_eq}
-use Rattle.map_entries.proofs.FieldCounts.{count_append}
 use Rattle.context_laws.specs.At.{At}
 use Rattle.context_laws.specs.At.At.{first, next}
 
 -- ---- two tests of which one is the stronger
 
 module _ {A : Type 0} (p q : A → Bool) (within : (x : A) → p x ≡ true → q x ≡ true) where
-  less : (a c : Bool) → (a ≡ true → c ≡ true) → (n m : ℕ) → n ≤ m → choose a (1 + n) n ≤ choose c (1 + m) m
-  unfolding choose
-  less true true h n m l = omega arith
-  less true false h n m l = both_ways (h refl) refl
-  less false true h n m l = omega arith
-  less false false h n m l = l
-
-  count_less : (xs : List A) → count p xs ≤ count q xs
-  unfolding count
-  count_less [] = omega arith
-  count_less (x ∷ xs) = less (p x) (q x) (within x) (count p xs) (count q xs) (count_less xs)
-
   -- where as many pass the stronger one, those are all that pass the other
   head_passes : (a c : Bool) (n m : ℕ) → n ≤ m → choose c (1 + m) m ≤ choose a (1 + n) n → c ≡ true → a ≡ true
   unfolding choose
@@ -57,19 +45,9 @@ module _ {A : Type 0} (p q : A → Bool) (within : (x : A) → p x ≡ true → 
   unfolding count
   counts_same [] h x m is = absurd (Memᴰ.not-nil m)
   counts_same (y ∷ ys) h x m is =
-      ⊎_elim (λ e. ap p e ∙ head_passes (p y) (q y) (count p ys) (count q ys) (count_less ys) h (ap q (sym e) ∙ is))
+      ⊎_elim (λ e. ap p e ∙ head_passes (p y) (q y) (count p ys) (count q ys) (count_less p q within ys) h (ap q (sym e) ∙ is))
       (λ w. counts_same ys (tail_counts (p y) (q y) (within y) (count p ys) (count q ys) h) x w is)
       (Memᴰ.cases_cons m)
-
-some_count : {A : Type 0} (p : A → Bool) (xs : List A) (x : A) → Memᴰ x xs → p x ≡ true → 1 ≤ count p xs
-unfolding count choose
-some_count p [] x m is = absurd (Memᴰ.not-nil m)
-some_count p (y ∷ ys) x m is =
-    ⊎_elim (λ e. let passes : p y ≡ true = ap p (sym e) ∙ is in rw passes (omega arith))
-    (λ w.
-    let on = some_count p ys x w is in
-    ⊎_elim (λ h. rw h (omega arith)) (λ h. rw h on) (bool_cases (p y)))
-    (Memᴰ.cases_cons m)
 
 -- ---- over the fields of messages
 
@@ -107,9 +85,6 @@ module _ (p : FieldDescriptor → Bool) where
       omega arith
 
 -- ---- the fields that name a map entry
-
-maps_names : (x : Bytes) (f : FieldDescriptor) → maps_it x f ≡ true → names_it x f ≡ true
-maps_names x f h = and_right (is_message f) (names_it x f) (and_right (is_repeated f) (is_message f && names_it x f) h)
 
 pub names_from : (o : Option Bytes) (x : Bytes) → 0 < length x → x ≡ text o → is_text x o ≡ true
 names_from none x some_bytes e = absurd (let l : length x ≡ 0 = ap length e in omega arith)

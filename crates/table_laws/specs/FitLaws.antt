@@ -1,48 +1,21 @@
 -- Limits 8 and 9 keep every path within its buffer. Assumes nothing.
-use Rattle.std.specs.Prelude.{◌≡◌, Bool, true, false, ◌||◌, ℕ, suc, ◌+◌, ◌≤◌, ltb, length}
-use Rattle.std.proofs.Math.Path.{refl}
+use Rattle.std.specs.Prelude.{◌≡◌, Bool, false, ◌||◌, ℕ, ◌+◌, ◌≤◌, ltb, length}
 use mathlib.Core.List.{List, [], ◌∷◌, ◌++◌}
-use Rattle.std.proofs.Math.Option.{Option, some, none}
-use Rattle.std.proofs.Common.{arith, length-append, ltb-false}
-use Rattle.base.specs.Choose.{choose}
-use Rattle.base.specs.Lists.{any, all_of}
+use Rattle.std.proofs.Common.{arith, ltb-false}
+use Rattle.base.specs.Lists.{any, all_of, any_left, any_right}
 use Rattle.base.specs.Tests.{or_false_left, or_false_right}
+use Rattle.limit_facts.specs.Within.{within}
+use Rattle.name_rules.proofs.LengthLaws.{path_length, scope_length}
 use Rattle.descriptor.specs.Descriptor.{Bytes, Forest, done, node, preorder, FieldDescriptor, MessageDescriptor, FileDescriptor}
 use Rattle.descriptor.specs.Decode.{decode_set}
-use Rattle.descriptor.specs.Limits.{max_set, max_messages, max_fields, max_name, max_full_name, messages_in, fields_in, length_of, enums_in, long_name, long_package, long_in_message, long_in_enum, package_length, full_length, enum_lengths, full_lengths, file_lengths, passes_8, passes_9, passes_1, limit_of_files, limit_passed}
+use Rattle.descriptor.specs.Limits.{max_set, max_messages, max_fields, max_name, max_full_name, messages_in, fields_in, length_of, enums_in, long_name, long_package, long_in_message, long_in_enum, package_length, full_length, enum_lengths, full_lengths, file_lengths, passes_8, passes_9, limit_passed}
 use Rattle.name_rules.specs.Accessors.{text}
 use Rattle.name_rules.specs.FullNames.{◌·◌, package_scope, Entry, entries, set_entries}
 use Rattle.table_laws.specs.SettingLaws.{NamesFit, Fit}
 
-module _ {A : Type 0} (p : A → Bool) where
-  any_left : (xs ys : List A) → any p (xs ++ ys) ≡ false → any p xs ≡ false
-  unfolding any
-  any_left [] ys h = refl
-  any_left (x ∷ xs) ys h =
-      let here = or_false_left (p x) (any p (xs ++ ys)) h in
-      let rest = any_left xs ys (or_false_right (p x) (any p (xs ++ ys)) h) in
-      rw (here, rest)
-
-  any_right : (xs ys : List A) → any p (xs ++ ys) ≡ false → any p ys ≡ false
-  unfolding any
-  any_right [] ys h = h
-  any_right (x ∷ xs) ys h = any_right xs ys (or_false_right (p x) (any p (xs ++ ys)) h)
-
 fit_append : (xs ys : List Entry) → Fit xs → Fit ys → Fit (xs ++ ys)
 fit_append [] ys h k = k
 fit_append (x ∷ xs) ys h k = (h.0, fit_append xs ys h.1 k)
-
-name_length : (n : Option Bytes) → length (text n) ≡ length_of n
-name_length none = refl
-name_length (some b) = refl
-
-scope_length : (p : Option Bytes) → length (package_scope p) ≤ package_length p + 1
-scope_length none = omega arith
-scope_length (some []) = omega arith
-scope_length (some (c ∷ cs)) = omega arith
-
-path_length : (scope : Bytes) (n : Option Bytes) → length (scope · text n) ≡ length scope + (1 + length_of n)
-path_length scope n = let l = length-append scope (46 ∷ text n) in let m = name_length n in omega arith
 
 names_fit : (full : Bytes) (fs : List FieldDescriptor) → length full ≤ max_full_name + 1 → any (λ (f : FieldDescriptor). long_name f.name) fs ≡ false → NamesFit full fs
 unfolding any
@@ -104,27 +77,7 @@ pub record Within (set : Bytes) : Type 0 where
   pub fields : length (fields_in (decode_set set)) ≤ max_fields
   pub fit : Fit (set_entries (decode_set set))
 
--- the limit in front is not passed, and those behind it
-not_passed : (t : Bool) (k n : ℕ) → choose t (suc k) n ≡ 0 → (t ≡ false) × (n ≡ 0)
-unfolding choose
-not_passed true k n e = absurd (omega arith)
-not_passed false k n e = (refl, e)
-
 pub within_limits : (set : Bytes) → limit_passed set ≡ 0 → Within set
-unfolding limit_passed limit_of_files
 within_limits set e =
-    let one = not_passed (passes_1 set) 0 _ e in
-    let two = not_passed _ 1 _ one.1 in
-    let three = not_passed _ 2 _ two.1 in
-    let four = not_passed _ 3 _ three.1 in
-    let five = not_passed _ 4 _ four.1 in
-    let six = not_passed _ 5 _ five.1 in
-    let seven = not_passed _ 6 _ six.1 in
-    let eight = not_passed _ 7 _ seven.1 in
-    let nine = not_passed _ 8 _ eight.1 in
-    record {
-      small = ltb-false max_set (length set) one.0;
-      messages = ltb-false max_messages (length (messages_in (decode_set set))) three.0;
-      fields = ltb-false max_fields (length (fields_in (decode_set set))) four.0;
-      fit = paths_fit (decode_set set) eight.0 nine.0;
-    }
+    let w = within set e in
+    record { small = w.small; messages = w.messages; fields = w.fields; fit = paths_fit (decode_set set) w.names w.full_names }

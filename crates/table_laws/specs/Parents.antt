@@ -1,6 +1,6 @@
 -- The message around each map entry of a set, by the numbers of the messages. Assumes nothing.
-use Rattle.std.specs.Prelude.{◌≡◌, refl, ◌&&◌, ◌⊎◌, eqb, ltb, length}
-use Rattle.std.proofs.Common.{sym, ◌∙◌, inl, inr, length-append, ltb-true}
+use Rattle.std.specs.Prelude.{◌≡◌, refl, ◌&&◌, ◌⊎◌, length}
+use Rattle.std.proofs.Common.{sym, ◌∙◌, inl, inr, length-append}
 use Rattle.std.proofs.Math.Path.{ap, subst}
 use Rattle.std.proofs.Math.Bool.{true}
 use mathlib.Core.List.{List, [], ◌∷◌, ◌++◌, map}
@@ -8,13 +8,14 @@ use Rattle.std.proofs.Math.Logic.{⊎_elim}
 use Prim.Native.Nat.{ℕ, suc, ◌+◌, ◌≤◌, ◌<◌}
 use native.Mathlib.Omega.{arith}
 use Rattle.base.specs.Choose.{choose}
-use Rattle.base.specs.Lists.{count, Every, every_append}
+use Rattle.base.specs.Lists.{Every, every_append}
 use Rattle.base.specs.Tests.{and_left, and_right}
+use Rattle.name_rules.proofs.NamesLaws.{none_around}
 use Rattle.descriptor.specs.Descriptor.{Bytes, Forest, done, node, FieldDescriptor, MessageDescriptor, FileDescriptor}
 use Rattle.index.specs.Tree.{size}
 use Rattle.name_rules.specs.Accessors.{text}
 use Rattle.name_rules.specs.FullNames.{◌·◌, package_scope, Entry, entries, set_entries}
-use Rattle.name_rules.specs.MapEntries.{names_it, maps_it, entry_named, entries_named, map_entries_named}
+use Rattle.name_rules.specs.MapEntries.{entry_named, entries_named, map_entries_named}
 use Rattle.context_laws.specs.At.{At, at_within, at_left, at_right}
 use Rattle.context_laws.specs.At.At.{first, next}
 use Rattle.table_laws.specs.AfterLaws.{Afters, FileAfters}
@@ -114,10 +115,6 @@ pub record Parent (es : List Entry) (fields : List FieldDescriptor) (after : ℕ
   pub name : Bytes
   pub inside : x ≡ entry.full · name
   pub named : entry_named fields entry.message.fields x ≡ true
-
-none_around : (fields : List FieldDescriptor) (x : Bytes) → entry_named fields [] x ≡ true → ⊥
-unfolding entry_named count
-none_around fields x h = let l = ltb-true 0 0 (and_left (ltb 0 (count (maps_it x) [])) (eqb (count (maps_it x) []) (count (names_it x) fields)) h) in omega arith
 
 module _ (es : List Entry) (fields : List FieldDescriptor) (after : ℕ → ℕ) where
   found : (F : Forest MessageDescriptor) (scope : Bytes) (i : ℕ) (parent : List FieldDescriptor) → Stand es i (entries scope F) → Afters after i F → entries_named fields parent scope F ≡ true

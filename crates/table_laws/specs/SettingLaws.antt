@@ -6,7 +6,7 @@ use mathlib.Core.List.{List, [], ◌∷◌, ◌++◌, map, map-map, append_assoc
 use Prim.Native.Nat.{ℕ, zero, suc, ◌≤◌}
 use Rattle.std.proofs.Math.ListN.{length-append}
 use Rattle.base.specs.Choose.{choose}
-use Rattle.base.specs.Lists.{all_of}
+use Rattle.base.specs.Lists.{all_of, all_of_append}
 use Rattle.descriptor.specs.Descriptor.{Bytes, FieldDescriptor}
 use Rattle.descriptor.specs.Decode.{entries, parts, decode_field, decode_oneof, decode_message, decode_messages, decode_file, decode_set}
 use Rattle.descriptor.specs.Decode as decode
@@ -18,7 +18,6 @@ use Rattle.context.specs.Context.{has}
 use Rattle.walks.specs.Walked.{walked}
 use Rattle.joined.specs.Joined.{max_path, ◌⊙◌, whole_path}
 use Rattle.boxed_settings.specs.Flags.{name_in, flag, field_flag, stay, field_flags, messages_flags, file_flags, set_flags}
-use Rattle.index.proofs.OwnerLaws.{all_of_append}
 use Rattle.context_laws.specs.Tables.{Row, rows_from, is_set, settings_of}
 use Rattle.context_laws.proofs.Rows.{column_entry}
 

@@ -1,15 +1,15 @@
 -- Boxes, Copy and Eq go by the target of a field only where its type is message or group. Assumes nothing.
-use Rattle.std.specs.Prelude.{◌≡◌, Bool, true, false, ◌&&◌, ◌||◌, List, eqb, get_or}
+use Rattle.std.specs.Prelude.{◌≡◌, Bool, true, false, ◌||◌, List, eqb, get_or}
 use Rattle.std.proofs.Math.Path.{refl, ap}
 use Rattle.std.proofs.Common.{sym, ◌∙◌}
 use Rattle.std.proofs.Math.Bool.{not}
 use Prim.Native.Nat.{ℕ, zero, suc}
-use Rattle.base.specs.Tests.{and_left, or_left}
+use Rattle.base.specs.Tests.{and_left, or_left, and_same, same_test}
 use Rattle.message_graph.specs.Limit.{messages}
 use Rattle.message_graph.specs.Fields.{Fields, fields, size, message_at, owner_of, target_of, kind_of, label_of, is_link, type_message, type_group, label_repeated}
 use Rattle.message_graph.specs.Leads.{Leads, leadsb}
 use Rattle.message_graph.specs.Leads.Leads.{here, step}
-use Rattle.message_graph.specs.Decided.{leads_sound, leads_complete, same_test}
+use Rattle.message_graph.specs.Decided.{leads_sound, leads_complete}
 use Rattle.message_graph.specs.Boxes.{may_loop, boxed_by_loop}
 use Rattle.derives.specs.declared.Derive.{Derive}
 use Rattle.derives.specs.RuleLaws.{rule_same}
@@ -50,10 +50,6 @@ module _ (owner kind label : List ℕ) where
 
     back_same : (i : ℕ) → typed (kind_of f i) ≡ true → leadsb f (target_of f i) (owner_of f i) ≡ leadsb g (target_of g i) (owner_of g i)
     back_same i h = ap (λ (x : ℕ). leadsb f x (owner_of f i)) (agree i h) ∙ leads_same (target_of g i) (owner_of g i)
-
-    and_same : (t x y : Bool) → (t ≡ true → x ≡ y) → (t && x) ≡ (t && y)
-    and_same true x y h = h refl
-    and_same false x y h = refl
 
     pub boxed_same : (i : ℕ) → boxed_by_loop f i ≡ boxed_by_loop g i
     unfolding boxed_by_loop may_loop

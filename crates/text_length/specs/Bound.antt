@@ -6,7 +6,7 @@ use mathlib.Core.List.{List, [], ◌∷◌, ◌++◌, map}
 use native.Mathlib.Omega.{arith}
 use Rattle.std.proofs.Math.ListN.{length, length-append}
 use Rattle.base.specs.Choose.{choose, choose_case}
-use Rattle.base.specs.Lists.{Every, all_of, map_length}
+use Rattle.base.specs.Lists.{Every, all_of, map_length, all_of_length}
 use Rattle.wire.specs.Encoding.{Field, Value}
 use Rattle.wire.specs.Contents.{value_of, field_of}
 use Rattle.wire.specs.Records.{on_step, scan, records}
@@ -20,6 +20,7 @@ use Rattle.limit_facts.specs.Within.{within as within_limits}
 use Rattle.options.specs.Settings.{Setting, settings, settings_from, row_count, path_length, value_length, bodies}
 use Rattle.options.specs.Layout.{layout, layout_from, row_good}
 use Rattle.base.proofs.RefusalLaws.{chosen, other}
+use Rattle.descriptor.proofs.PartLaws.{parts_few}
 use Rattle.name_rules.specs.Accessors.{text}
 use Rattle.name_rules.specs.FullNames.{package_scope}
 use Rattle.code_generator.specs.Generate.{is_proto3, generate, file_text}
@@ -80,11 +81,6 @@ module _ (l : ℕ) where
   unfolding parts
   parts_short n [] h = tt
   parts_short n (f ∷ fs) h = choose_case Parts (eqb f.number n) (λ _. (h.0, parts_short n fs h.1)) (λ _. parts_short n fs h.1)
-
-parts_few : (n : ℕ) (fs : List Field) → length (parts n fs) ≤ length fs
-unfolding parts
-parts_few n [] = omega arith
-parts_few n (f ∷ fs) = let h = parts_few n fs in choose_case (λ (l : List Bytes). length l ≤ suc (length fs)) (eqb f.number n) (λ _. omega arith) (λ _. omega arith)
 
 longer : (l m : ℕ) → l ≤ m → (fs : List Field) → Every (λ (f : Field). length (bytes_in f.value) ≤ l) fs → Every (λ (f : Field). length (bytes_in f.value) ≤ m) fs
 longer l m h [] k = tt
@@ -200,15 +196,6 @@ small_options o e =
     record { few = omega arith; short = all.short }
 
 -- ---- the weight of a file's messages by the limits
-spread : {A B : Type 0} (g : A → List B) (xs ys : List A) → length (all_of g (xs ++ ys)) ≡ length (all_of g xs) + length (all_of g ys)
-unfolding all_of
-spread g [] ys = omega arith
-spread g (x ∷ xs) ys =
-    let h = spread g xs ys in
-    let a = length-append (g x) (all_of g (xs ++ ys)) in
-    let c = length-append (g x) (all_of g xs) in
-    omega arith
-
 weight_is : (F : Forest MessageDescriptor) → weight F ≡ 70000000000 * length (preorder F) + 700000000000 * length (all_of (λ (m : MessageDescriptor). m.fields) (preorder F)) + 20000000000 * length (all_of (λ (m : MessageDescriptor). m.enums) (preorder F))
 unfolding preorder all_of
 weight_is done = omega arith
@@ -216,9 +203,9 @@ weight_is (node m nested following) =
     let h = weight_is nested in
     let k = weight_is following in
     let a = length-append (preorder nested) (preorder following) in
-    let c = spread (λ (m : MessageDescriptor). m.fields) (preorder nested) (preorder following) in
+    let c = all_of_length (λ (m : MessageDescriptor). m.fields) (preorder nested) (preorder following) in
     let d = length-append m.fields (all_of (λ (m : MessageDescriptor). m.fields) (preorder nested ++ preorder following)) in
-    let e = spread (λ (m : MessageDescriptor). m.enums) (preorder nested) (preorder following) in
+    let e = all_of_length (λ (m : MessageDescriptor). m.enums) (preorder nested) (preorder following) in
     let f = length-append m.enums (all_of (λ (m : MessageDescriptor). m.enums) (preorder nested ++ preorder following)) in
     omega arith
 
@@ -245,8 +232,8 @@ module _ {rs : List Setting} (small : Small rs) (set : List FileDescriptor) wher
       let own = file_long f h.0 in
       let is = weight_is f.messages in
       let a = length-append (preorder f.messages) (all_of (λ (f : FileDescriptor). preorder f.messages) fs) in
-      let c = spread (λ (m : MessageDescriptor). m.fields) (preorder f.messages) (all_of (λ (f : FileDescriptor). preorder f.messages) fs) in
-      let d = spread (λ (m : MessageDescriptor). m.enums) (preorder f.messages) (all_of (λ (f : FileDescriptor). preorder f.messages) fs) in
+      let c = all_of_length (λ (m : MessageDescriptor). m.fields) (preorder f.messages) (all_of (λ (f : FileDescriptor). preorder f.messages) fs) in
+      let d = all_of_length (λ (m : MessageDescriptor). m.enums) (preorder f.messages) (all_of (λ (f : FileDescriptor). preorder f.messages) fs) in
       let g = length-append f.enums (all_of (λ (f : FileDescriptor). f.enums) fs) in
       let i = length-append (f.enums ++ all_of (λ (f : FileDescriptor). f.enums) fs) (all_of (λ (m : MessageDescriptor). m.enums) (preorder f.messages ++ all_of (λ (f : FileDescriptor). preorder f.messages) fs)) in
       let j = length-append (all_of (λ (f : FileDescriptor). f.enums) fs) (all_of (λ (m : MessageDescriptor). m.enums) (all_of (λ (f : FileDescriptor). preorder f.messages) fs)) in

@@ -9,20 +9,12 @@ use borrow.Author.Tests.{not-true}
 use Rattle.base.specs.Bytes.{same, same_refl, same_sound}
 use Rattle.base.specs.Choose.{choose, choose_case}
 use Rattle.base.specs.Tests.{and_left, and_right, or_false_left, or_false_right, both_ways}
+use Rattle.name_rules.proofs.AppendLaws.{declared_append}
 use Rattle.descriptor.specs.Descriptor.{Bytes}
 use Rattle.name_rules.specs.FullNames.{Declaration, declared, declared_as, equals, fresh}
 
 abbrev pub fulls : List Declaration → List Bytes
 fulls = map (λ (d : Declaration). d.full)
-
-pub declared_append : (x : Bytes) (ds es : List Declaration) → declared x (ds ++ es) ≡ (declared x ds || declared x es)
-unfolding declared
-declared_append x [] es = refl
-declared_append x (d ∷ ds) es = ap (λ (b : Bool). same d.full x || b) (declared_append x ds es) ∙ sym (or_assoc (same d.full x) (declared x ds) (declared x es))
-  where
-    or_assoc : (a b c : Bool) → ((a || b) || c) ≡ (a || (b || c))
-    or_assoc true b c = refl
-    or_assoc false b c = refl
 
 -- fewer before: not declared among more, not declared among fewer
 abbrev pub Among : List Declaration → List Declaration → Type 0

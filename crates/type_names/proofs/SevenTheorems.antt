@@ -1,7 +1,7 @@
 -- What holds of a set without refusal 7: full names differ, and each type name is declared once, with its sort. Assumes nothing.
 use mathlib.Core.Path.{◌≡◌, refl, sym, ap, ◌∙◌}
 use mathlib.Core.Bool.{Bool, true, false, ◌&&◌, ◌||◌}
-use mathlib.Core.List.{List, [], ◌∷◌, ◌++◌, map, append-nil, append_assoc}
+use mathlib.Core.List.{List, [], ◌∷◌, ◌++◌, map, append-nil}
 use Prim.Native.Nat.{ℕ, suc, ◌+◌, ◌<◌}
 use native.Mathlib.Omega.{arith}
 use lib.ListN.{length, get_or}
@@ -9,8 +9,9 @@ use lib.Dec.{ltb}
 use borrow.Author.Tests.{ltb-true, ltb-false, eqb-true, ne_eqb}
 use Rattle.base.specs.Bytes.{same, same_sound}
 use Rattle.base.specs.Choose.{choose}
-use Rattle.base.specs.Lists.{all, map_length}
+use Rattle.base.specs.Lists.{all, map_length, all_append}
 use Rattle.base.specs.Tests.{and_left, and_right, and_both, both_ways}
+use Rattle.name_rules.proofs.AppendLaws.{fields_append}
 use Rattle.descriptor.specs.Descriptor.{Bytes, FieldDescriptor, EnumDescriptor, FileDescriptor}
 use Rattle.name_rules.specs.Accessors.{or_else, text, is_message, is_group, is_enum}
 use Rattle.name_rules.specs.FullNames.{package_scope, Entry, entries, set_entries, Declaration, enum_declarations, entry_declarations, file_declarations, set_declarations, declared_as, equals, fresh, type_declared, fields_of_entries, file_fields, set_fields, first_undeclared}
@@ -18,20 +19,10 @@ use Rattle.name_rules.specs.Answer.{first_seven}
 use Rattle.type_names.proofs.FreshLaws.{fulls, fresh_append, apart, messages_only, messages_fresh, messages_append, declared_message, Stands, stands}
 
 -- ---- lists of fields
-pub all_append : (p : FieldDescriptor → Bool) (xs ys : List FieldDescriptor) → all p xs ≡ true → all p ys ≡ true → all p (xs ++ ys) ≡ true
-unfolding all
-all_append p [] ys h k = k
-all_append p (x ∷ xs) ys h k = and_both (and_left (p x) (all p xs) h) (all_append p xs ys (and_right (p x) (all p xs) h) k)
-
 all_at : (p : FieldDescriptor → Bool) (xs : List FieldDescriptor) (f : FieldDescriptor) (ys : List FieldDescriptor) → all p (xs ++ (f ∷ ys)) ≡ true → p f ≡ true
 unfolding all
 all_at p [] f ys h = and_left (p f) (all p ys) h
 all_at p (x ∷ xs) f ys h = all_at p xs f ys (and_right (p x) (all p (xs ++ (f ∷ ys))) h)
-
-pub fields_append : (es fs : List Entry) → fields_of_entries (es ++ fs) ≡ fields_of_entries es ++ fields_of_entries fs
-unfolding fields_of_entries
-fields_append [] fs = refl
-fields_append (e ∷ es) fs = ap (λ (l : List FieldDescriptor). e.message.fields ++ l) (fields_append es fs) ∙ sym (append_assoc e.message.fields (fields_of_entries es) (fields_of_entries fs))
 
 -- ---- the entries are the messages among the declarations
 abbrev message_declaration : Entry → Declaration
@@ -87,7 +78,7 @@ sound ds before (f ∷ fs) h = by_test (fresh before (file_declarations f) && al
         let s = rest (omega arith) in
         record {
           distinct = fresh_append before (file_declarations f) (set_declarations fs) (and_left _ _ e) s.distinct;
-          typed = ap (all (type_declared ds)) (fields_append (entries (package_scope f.package_name) f.messages) (set_entries fs)) ∙ all_append (type_declared ds) (file_fields f) (set_fields fs) (and_right (fresh before (file_declarations f)) _ e) s.typed;
+          typed = ap (all (type_declared ds)) (fields_append (entries (package_scope f.package_name) f.messages) (set_entries fs)) ∙ all_append (type_declared ds) (file_fields f) (set_fields fs) ∙ and_both (and_right (fresh before (file_declarations f)) _ e) s.typed;
         }
     by_test false e q rest = absurd (omega arith)
 

@@ -8,7 +8,7 @@ use Rattle.std.proofs.Math.Option.{Option, some, none}
 use Rattle.std.proofs.Math.Logic.{⊎_elim}
 use mathlib.Core.List.{List, [], ◌∷◌, ◌++◌, map, Memᴰ}
 use Rattle.base.specs.Choose.{choose, choose_case}
-use Rattle.base.specs.Tests.{both_ways, or_false_left, or_false_right}
+use Rattle.base.specs.Tests.{both_ways, or_false_left, or_false_right, not_implied}
 use Rattle.base.specs.Lists.{all_of, is_empty}
 use Rattle.descriptor.specs.Descriptor.{Bytes, Forest, done, node, FieldDescriptor, MessageDescriptor, FileDescriptor}
 use Rattle.options.specs.Settings.{Setting}
@@ -27,7 +27,7 @@ use Rattle.paths_reach.specs.Written.{item_of, type_named, enum_nameds, file_nam
 use Rattle.paths_reach.specs.Nodes.{Node, names_of, nodes, file_nodes, items_of_file}
 use Rattle.paths_reach.specs.Homes.{mem_all_of, of_all_of}
 use Rattle.paths_reach.specs.Closed.{every_at}
-use Rattle.paths_reach.specs.There.{Childless, taken_nodes, no_entry_around, not_taken, node_there, struct_in_node}
+use Rattle.paths_reach.specs.There.{Childless, taken_nodes, no_entry_around, node_there, struct_in_node}
 use Rattle.paths_reach.specs.Targets.{fine_node}
 use Rattle.paths_reach.specs.Types.{well_formed}
 use Rattle.paths_reach.specs.Entries.{set_nodes}
@@ -123,7 +123,7 @@ module _ (rs : List Setting) where
       ⊎_elim
       (λ l.
       let entry : m.map_entry ≡ false = no_entry_around m nested c.0 full n l in
-      let out : taken rs (scope_of full) ≡ false = not_taken (λ s. taken_nodes rs (text m.name) h nested s n l) t in
+      let out : taken rs (scope_of full) ≡ false = not_implied (λ s. taken_nodes rs (text m.name) h nested s n l) t in
       let deep = node_written full nested c.1.0 n l e t o k in
       mathlib.Core.List.Memᴰ.append_left rest
       (not_left_out m.map_entry (taken rs (scope_of full)) entry out o (own self)

@@ -3,10 +3,9 @@ use mathlib.Core.Path.{◌≡◌, refl, sym, ap, ◌∙◌, subst}
 use mathlib.Core.List.{List, [], ◌∷◌, ◌++◌, append_assoc}
 use mathlib.Core.Option.{Option, none, some}
 use Prim.Native.Nat.{ℕ, zero, suc, ◌+◌, ◌*◌, ◌-◌, ◌/◌, ◌%◌, ◌<◌, ◌≤◌}
-use native.Mathlib.Numerals.{add-one}
 use native.Mathlib.Omega.{arith}
 use lib.ListN.{length, get_or, take, drop, take-append-drop, length-drop, drop_of_length-le}
-use lib.Seq.{drop-cons, drop-drop, length-take-le}
+use lib.Seq.{drop-drop, length-take-le}
 use lib.Dec.{ltb, leb, eqb}
 use borrow.Author.Tests.{ltb-true, ltb-false, leb-true, leb-false, eqb-true, eqb-false}
 use Rattle.base.specs.Choose.{choose, choose_case}
@@ -20,6 +19,7 @@ use Rattle.wire.proofs.StepLaws.{Lies, lies}
 use Rattle.wire.specs.Contents.{value_of, field_of, fields_of, also, contents, payload_of}
 use Rattle.wire.proofs.VarintLaws.{Known, known, known_varint}
 use Rattle.std.specs.Prelude.{Some, None}
+use Rattle.std.proofs.lemmas.List.{drop_more}
 
 -- the groups that stand from at to next
 record GroupsAt (left : ℕ) (s : List ℕ) (at v next : ℕ) : Type 0 where
@@ -33,12 +33,9 @@ Right left s at None = Unit
 Right left s at (Some y) = GroupsAt left s at y.0 y.1
 
 module _ (s : List ℕ) (all_bytes : Bytes s) where
-  next_byte : (at : ℕ) → at < length s → drop at s ≡ get_or s at 0 ∷ drop (at + 1) s
-  next_byte at h = rw (add-one, drop-cons s at 0 h)
-
   last_right : (n at : ℕ) → at < length s → get_or s at 0 < 128 → Right (suc n) s at (last (suc n) (get_or s at 0) at)
   last_right n at h small =
-      let is : Right (suc n) s at (value_at (get_or s at 0) (at + 1)) = record { bytes = get_or s at 0 ∷ []; encoded = last_group small refl; few = omega arith; there = next_byte at h } in
+      let is : Right (suc n) s at (value_at (get_or s at 0) (at + 1)) = record { bytes = get_or s at 0 ∷ []; encoded = last_group small refl; few = omega arith; there = drop_more s at 0 h } in
       choose_case (Right (suc n) s at) (eqb (suc n) 1) (λ _. choose_case (Right (suc n) s at) (ltb (get_or s at 0) 2) (λ _. is) (λ _. tt)) (λ _. is)
 
   below_right : (n at : ℕ) (r : Varint) → at < length s → 128 ≤ get_or s at 0 → Right n s (at + 1) r → Right (suc n) s at (below (get_or s at 0 % 128) r)
@@ -51,7 +48,7 @@ module _ (s : List ℕ) (all_bytes : Bytes s) where
         bytes = get_or s at 0 ∷ k.bytes;
         encoded = more_groups {n = y.0 * 128 + get_or s at 0 % 128} (get_or s at 0 % 128) y.0 k.bytes (omega arith) k.encoded (ap (λ (x : ℕ). x ∷ k.bytes) e) (omega arith);
         few = let f : length k.bytes ≤ n = k.few in omega arith;
-        there = next_byte at h ∙ ap (λ (x : List ℕ). get_or s at 0 ∷ x) k.there;
+        there = drop_more s at 0 h ∙ ap (λ (x : List ℕ). get_or s at 0 ∷ x) k.there;
       }
 
   groups_right : (left at : ℕ) → Right left s at (groups left s at)

@@ -3,15 +3,16 @@ use mathlib.Core.Path.{◌≡◌, refl, sym, ap, ◌∙◌}
 use mathlib.Core.Bool.{Bool, true, false, cond, ◌&&◌}
 use mathlib.Core.List.{List, [], ◌∷◌}
 use Prim.Native.Nat.{ℕ, zero, suc, ◌+◌, ◌-◌, ◌*◌, ◌/◌, ◌%◌, ◌<◌, ◌≤◌}
-use native.Mathlib.Numerals.{add-one, unary_clauses}
+use native.Mathlib.Numerals.{unary_clauses}
 use native.Mathlib.Omega.{arith}
 use lib.ListN.{length, get_or, drop, take, length-drop, drop_of_length-le}
-use lib.Seq.{drop-cons, drop-drop}
+use lib.Seq.{drop-drop}
 use lib.Dec.{ltb, leb, eqb}
 use borrow.Author.Tests.{ltb-true, ltb-false, leb-true, leb-false, eqb-true, eqb-false, ne_eqb}
 use Rattle.std.specs.Prelude.{Option, Some, None, Result, Ok, Err}
 use Rattle.std.specs.Option.{option_map}
 use Rattle.base.specs.Choose.{choose, choose_case}
+use Rattle.std.proofs.lemmas.List.{drop_more}
 use Rattle.wire.specs.Varint.{value_at, Varint, varint, groups, on_varint, below, last}
 use Rattle.wire.specs.Step.{Record, Step, End, Fault, Found, step_at, payload, sized, scalar, delimited, keyed}
 use Rattle.wire.specs.Records.{on_step, scan, records}
@@ -41,9 +42,6 @@ listed base s (Fault key ∷ rs) = Err (record { key = base + key }) ∷ []
 listed base s (Found f ∷ rs) = Ok (entry_of base s f) ∷ listed base s rs
 
 module _ (s : List ℕ) where
-  next_byte : (at : ℕ) → at < length s → drop at s ≡ get_or s at 0 ∷ drop (at + 1) s
-  next_byte at h = rw (add-one, drop-cons s at 0 h)
-
   abbrev SameVarint : Varint → Option (ℕ × List ℕ) → Type 0
   SameVarint None None = Unit
   SameVarint None (Some x) = ⊥
@@ -78,7 +76,7 @@ module _ (s : List ℕ) where
   groups_same (suc n) at =
       choose_case (λ r. SameVarint r (front_groups (suc n) (drop at s))) (leb (length s) at)
       (λ e. let past : drop at s ≡ [] = drop_of_length-le s (leb-true _ _ e) in rw past tt)
-      (λ e. rw (next_byte at (leb-false _ _ e))
+      (λ e. rw (drop_more s at 0 (leb-false _ _ e))
       (both SameVarint (ltb (get_or s at 0) 128) (λ _. last_same n at (get_or s at 0))
       (λ _. below_same (get_or s at 0) (groups n s (at + 1)) (front_groups n (drop (at + 1) s)) (groups_same n (at + 1)))))
 

@@ -1,11 +1,11 @@
 -- Bytes laid over a list, and cut off at its end.
-use Rattle.std.proofs.Common.{◌≡◌, ℕ, zero, suc, ◌+◌, ◌-◌, ◌^◌, ◌≤◌, ◌<◌, min, List, [], ◌∷◌, ◌++◌, length, set, take, drop, refl, sym, ap, ◌∙◌, arith, add-zero, add-suc, suc-add, length-set, length-take-le, length-drop, drop_of_length-le, append-nil, take_all, take-append-drop}
+use Rattle.std.proofs.Common.{◌≡◌, ℕ, zero, suc, ◌+◌, ◌-◌, ◌^◌, ◌≤◌, ◌<◌, min, List, [], ◌∷◌, ◌++◌, length, set, take, drop, refl, sym, ap, ◌∙◌, arith, add-zero, add-suc, suc-add, length-set, length-take-le, take_all, take-append-drop}
 use Rattle.std.proofs.lemmas.List.{take-set-le, drop-set-add}
 use Rattle.std.proofs.Math.Decide.{dec_le}
 use Rattle.std.proofs.lemmas.List.Edits.{sets, sets-eq}
 use Rattle.std.proofs.lemmas.Slice.{put_mid-paste}
 use Rattle.std.proofs.Math.Seq.{set_out, take-nil}
-use borrow.Rule.Slice.PartMut.{mid_of, put_mid}
+use borrow.Rule.Slice.PartMut.{put_mid}
 use Rattle.writer.specs.Draft.{most}
 
 pub sets-out : (t : List ℕ) (at : ℕ) (p : List ℕ) → length t ≤ at → sets t at p ≡ t
@@ -40,12 +40,6 @@ put_mid-front t s p at d l h b =
     (sym (sets-eq (take (length t - at) p) t at (omega arith)) ∙ sets-take t p at (length t - at) (omega arith) ∙ sym (sets-take t p at (most - at) (omega arith)))
 
 -- a part of t that is lent
-pub part_all : (t : List ℕ) (at : ℕ) → mid_of at (length t - at) t ≡ drop at t
-part_all t at = take_all (length t - at) (drop at t) (rw length-drop (omega arith))
-
-pub put_all : (t : List ℕ) (at : ℕ) (s : List ℕ) → put_mid at (length t - at) t s ≡ take at t ++ s
-put_all t at s = ap (λ (l : List ℕ). take at t ++ (s ++ l)) (drop_of_length-le (drop at t) {i = length t - at} (rw length-drop (omega arith))) ∙ ap (λ (l : List ℕ). take at t ++ l) (append-nil s)
-
 sets-drop : (t : List ℕ) (p j : ℕ) (q : List ℕ) → take p t ++ sets (drop p t) j q ≡ sets t (p + j) q
 sets-drop t p j [] = take-append-drop p t
 sets-drop t p j (x ∷ q) =

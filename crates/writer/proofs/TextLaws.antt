@@ -6,16 +6,22 @@ use Rattle.std.proofs.Math.Decide.{dec_le}
 use Rattle.std.proofs.Math.Seq.{take-nil, take-append-add}
 use borrow.Rule.Slice.PartMut.{mid_of, put_mid}
 use Rattle.writer.specs.Text.{pick}
-use Rattle.writer.specs.Wrote.{over, after, Wrote}
+use Rattle.writer.specs.Wrote.{over, after, Wrote, part_all, put_all}
 use Rattle.writer.specs.Draft.{Draft, draft, most, longer, extended, extended_if, skipped, Filled}
 use Rattle.writer.specs.declared.text.Text.{Text}
 use Rattle.writer.specs.Writing.{◌▻◌, put_where, draft_of, with_draft, IsPlace}
-use Rattle.writer.proofs.Laying.{sets-append, sets-take, sets-part, part_all, put_all}
+use Rattle.writer.proofs.Laying.{sets-append, sets-take, sets-part}
 
 -- a draft by its parts
 pub stored : (d : Draft) (p v : List ℕ) (n : ℕ) → v ≡ sets d.buffer d.length (take (most - d.length) p) → n ≡ longer d.length (length p) → draft v n ≡ extended d p
 unfolding extended
 stored d p v n e f = rw (e, f)
+
+-- nothing is written behind so many bytes
+pub full : (d : Draft) (p : List ℕ) → most ≤ d.length → extended d p ≡ d
+full d p h =
+    let z : 0 ≡ most - d.length = omega arith in
+    sym (stored d p d.buffer d.length (ap (λ (k : ℕ). sets d.buffer d.length (take k p)) z) (omega arith))
 
 pub extended-nil : (d : Draft) → d ≡ extended d []
 extended-nil d = stored d [] d.buffer d.length (sym (ap (sets d.buffer d.length) (take-nil (most - d.length)))) (omega arith)

@@ -111,10 +111,10 @@ over_from : (t : List ℕ) (a p : ℕ) (q : List ℕ) → p ≡ min a (length t)
 over_from t a p q e (yes h) = ap (λ (k : ℕ). over t k q) (omega arith)
 over_from t a p q e (no h) = over_out t (p + 0) q (omega arith) ∙ sym (over_out t a q (omega arith))
 
-part_all : (t : List ℕ) (p : ℕ) → mid_of p (length t - p) t ≡ drop p t
+pub part_all : (t : List ℕ) (p : ℕ) → mid_of p (length t - p) t ≡ drop p t
 part_all t p = take_all (length t - p) (drop p t) (rw length-drop (omega arith))
 
-put_all : (t : List ℕ) (p : ℕ) (s : List ℕ) → put_mid p (length t - p) t s ≡ take p t ++ s
+pub put_all : (t : List ℕ) (p : ℕ) (s : List ℕ) → put_mid p (length t - p) t s ≡ take p t ++ s
 put_all t p s =
     ap (λ (l : List ℕ). take p t ++ (s ++ l)) (drop_of_length-le (drop p t) {i = length t - p} (rw length-drop (omega arith)))
     ∙ ap (λ (l : List ℕ). take p t ++ l) (append-nil s)
