@@ -6,7 +6,7 @@ use Rattle.std.proofs.Math.Option.{Option, none, some}
 use Rattle.base.specs.Choose.{choose}
 use Rattle.wire.specs.Encoding.{Field, Value}
 use Rattle.descriptor.specs.Descriptor.{Bytes, FieldOptions, FieldDescriptor, ValueDescriptor, MessageHeader, FileHeader, message_header, file_header}
-use Rattle.descriptor.specs.Decode.{entries, last, last_from, bytes_in, given, parts, joined, decode_field_options, options_in, field_in, value_in, decode_field, decode_value, decode_message, decode_file}
+use Rattle.descriptor.specs.Decode.{entries, last, last_from, bytes_in, parts, joined, decode_field_options, options_in, field_in, value_in, decode_field, decode_value, decode_message, decode_file}
 use Rattle.descriptor.specs.Decode as decode
 use Rattle.descriptor.specs.Steps.{after, on, text, int32, bool, bool_inside, no_options, options_step, given_options, options, field_step, no_field, value_step, no_value, message_step, no_message, file_step, no_file}
 

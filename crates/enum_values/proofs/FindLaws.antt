@@ -1,5 +1,5 @@
 -- What `find` leaves of an enum's values: those behind the one with a mark. Assumes nothing.
-use Rattle.std.proofs.Common.{◌≡◌, refl, sym, ap, ◌∙◌, ℕ, ◌≤◌, ◌<◌, ◌^◌, Bool, false, List, [], ◌∷◌, map, get_or, arith}
+use Rattle.std.proofs.Common.{◌≡◌, refl, sym, ap, ◌∙◌, ℕ, Bool, false, List, [], ◌∷◌, map, get_or}
 use Rattle.std.specs.Prelude.{Option, Some, None, MatchOption}
 use Rattle.std.specs.Iterator.{FindsItem}
 use Rattle.std.specs.Iterator.Adapters.{enumerate_source, enumerate_count}

@@ -17,7 +17,7 @@ use Rattle.limits.specs.declared.limit.Limit.{Limit}
 use Rattle.limits.specs.declared.limit.Limit.TheVariants as limits
 use Rattle.limits.specs.declared.sort.Sort.TheVariants as sorts
 use Rattle.limits.specs.Sums.{sum, bit}
-use Rattle.limits.specs.Weights.{bytes_or_none, text_bytes, text_length, long_segment, counts, long_full_name, around_below, most, passes, tally}
+use Rattle.limits.specs.Weights.{bytes_or_none, text_length, long_segment, counts, long_full_name, around_below, most, passes, tally}
 use Rattle.limits.specs.Weights as weights
 use Rattle.limits.proofs.SumLaws.{sum_same, sum_zero, sum_ones, sum_plus, sum_append, sum_map, sum_all_of, any_sum, or_sum, bit_sum}
 use Rattle.limits.proofs.PartTallies.{enum_weight, member_weight, messages_weight, file_weight, set_weighed}

@@ -1,5 +1,5 @@
 -- What `find` and `find_map` leave of a oneof's fields and of a message's oneofs. Assumes nothing.
-use Rattle.std.proofs.Common.{◌≡◌, refl, sym, ap, ◌∙◌, ℕ, ◌+◌, ◌-◌, ◌^◌, ◌<◌, ◌≤◌, Bool, true, false, List, [], ◌∷◌, arith}
+use Rattle.std.proofs.Common.{◌≡◌, refl, sym, ap, ◌∙◌, ℕ, ◌+◌, ◌-◌, ◌<◌, Bool, true, false, List, [], ◌∷◌}
 use Rattle.std.specs.Prelude.{Option, Some, None, MatchOption, IsTrue}
 use Rattle.std.specs.Iterator.{FindsItem, FindsMapped}
 use Rattle.std.specs.Iterator.Adapters.{enumerate_source, enumerate_count}

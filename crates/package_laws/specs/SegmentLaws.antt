@@ -12,7 +12,7 @@ use Rattle.ident.specs.Name.{is_name}
 use Rattle.descriptor.specs.Descriptor.{Bytes, FileDescriptor}
 use Rattle.descriptor.specs.Decode.{decode_set}
 use Rattle.descriptor.specs.Limits as limits
-use Rattle.descriptor.specs.Limits.{max_name, long_package, long_in_message, long_in_enum, messages_in, enums_in, passes_8, limit_passed}
+use Rattle.descriptor.specs.Limits.{max_name, long_package, passes_8, limit_passed}
 use Rattle.extern_paths.specs.Split.{push, split_behind, split}
 use Rattle.code_generator.specs.Resolve.{local_path}
 use Rattle.name_rules.specs.FullNames.{package_scope}

@@ -1,7 +1,7 @@
 -- A set without refusals 6 and 7: all names convert, and the reader of bytes sees what the marked pieces show. Assumes nothing.
-use Rattle.std.specs.Prelude.{ℕ, zero, suc, ◌+◌, ◌≤◌, Bool, ◌&&◌, ◌||◌, not, ◌⊎◌, ltb, get_or, length, Ok}
+use Rattle.std.specs.Prelude.{ℕ, zero, suc, ◌+◌, ◌≤◌, Bool, ◌&&◌, ◌||◌, not, ◌⊎◌, get_or, length, Ok}
 use native.Mathlib.Omega.{arith}
-use Rattle.std.proofs.Math.Path.{◌≡◌, refl, ap, subst}
+use Rattle.std.proofs.Math.Path.{◌≡◌, refl, subst}
 use Rattle.std.proofs.Common.{sym, inl, inr, ltb-false}
 use Rattle.std.proofs.Math.Bool.{true, false}
 use Rattle.std.proofs.Math.Option.{Option, some, none}
@@ -18,7 +18,7 @@ use Rattle.options.specs.Settings.{Setting}
 use Rattle.name_rules.specs.Accessors.{text, type, is_message, is_group, is_enum}
 use Rattle.name_rules.specs.FullNames.{◌·◌, package_scope, Entry, entries, Declaration, enum_declarations, entry_declarations, file_declarations, set_declarations, declared_as, equals, fresh, type_declared, fields_of_entries, file_fields, first_undeclared}
 use Rattle.name_rules.specs.Rules.{segments}
-use Rattle.name_rules.specs.Answer.{first_six, first_seven, names}
+use Rattle.name_rules.specs.Answer.{first_seven, names}
 use Rattle.name_rules.proofs.NamesLaws.{no_refusals}
 use Rattle.name_rules.specs.WellFormed.{Name, GoodField, GoodEnum, GoodMessage, GoodEntry, EveryNode, WellFormed}
 use Rattle.name_rules.proofs.WellFormedLaws.{every_file}
