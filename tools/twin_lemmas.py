@@ -1,10 +1,11 @@
 #!/usr/bin/env python3
-"""Lists lemmas whose statements are the same but for names, where they stand in two files of specs/ or proofs/.
+"""Lists lemmas whose statements are the same but for the names of what they bind, where they stand in two files of specs/ or proofs/.
 
 usage: twin_lemmas.py [DIR]
 
-A statement is read from the name's line and the lines that continue it. Parameters of the module around it are not read, so that two may differ in
-what those are: each pair is to be looked at.
+A statement is read from the name's line and the lines that continue it, where it has an equation, a bound or a choice. Parameters of the module
+around it are not read, so that two may differ in what those are: each pair is to be looked at. What differs in the order of its arguments, in the two
+sides of an equation or in a type's other name is not seen.
 """
 import collections, os, re, subprocess, sys
 

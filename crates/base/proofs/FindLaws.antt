@@ -1,4 +1,4 @@
--- What `find` and `find_map` leave of an iterator, by a closure that its calls leave as it was. Assumes nothing.
+-- What `find` and `find_map` leave of an iterator, by a closure that its calls leave as it was; what `filter_map` passes over keeps. Assumes nothing.
 use Rattle.std.proofs.Common.{◌≡◌, refl, sym, ap, subst, ◌∙◌, ℕ, suc, ◌+◌, ◌≤◌, ◌<◌, Bool, true, false, List, [], ◌∷◌, arith}
 use Rattle.std.specs.Prelude.{Option, Some, None, MatchOption, IfSome, IsTrue, slice_get}
 use Rattle.std.specs.Iterator.{Yields, FindsItem, FindsMapped}
@@ -14,7 +14,7 @@ unfoldable pub before : {A : Type 0} → Option A → List A → List A
 before None xs = xs
 before (Some x) xs = x ∷ xs
 
--- what each step keeps whose call doesn't answer. No: a call that doesn't
+-- steps over items for which the call gives no answer (No): what each of them keeps, all keep
 pub kept_over : {S A F : Type 0} (steps : S → Option A → S → Type 0) (No : F → A → F → Type 0) (Holds : S → F → Type 0)
     → ((s t : S) (x : A) (p q : F) → steps s (Some x) t → No p x q → Holds s p → Holds t q)
     → (xs : List A) (s t : S) (p q : F) → Yields steps s xs t → FoldsTo No p xs q → Holds s p → Holds t q

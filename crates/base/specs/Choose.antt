@@ -19,7 +19,7 @@ unfolding choose
 not_passed true k n e = absurd (omega arith)
 not_passed false k n e = (refl, e)
 
--- where more than 0 are counted, the first is one of them
+-- a count that ends at the first that fails: where it is above k, the first passes, and k of those behind it are counted
 pub counted : (t : Bool) (n k : ℕ) → suc k ≤ choose t (1 + n) 0 → (t ≡ true) × (k ≤ n)
 unfolding choose
 counted true n k h = (refl, omega arith)

@@ -58,6 +58,10 @@ pub map_length {ℓ κ} : {A : Type ℓ} {B : Type κ} (g : A → B) (xs : List 
 map_length g [] = refl
 map_length g (x ∷ xs) = ap suc (map_length g xs)
 
+pub empty_map {ℓ κ} : {A : Type ℓ} {B : Type κ} (g : A → B) (xs : List A) → is_empty (map g xs) ≡ is_empty xs
+empty_map g [] = refl
+empty_map g (x ∷ xs) = refl
+
 pub first_map {ℓ κ} : {A : Type ℓ} {B : Type κ} (p : B → Bool) (g : A → B) (xs : List A) → first_failing p (map g xs) ≡ first_failing (λ (x : A). p (g x)) xs
 unfolding first_failing
 first_map p g [] = refl
@@ -95,6 +99,14 @@ module _ {ℓ} {A : Type ℓ} (P : A → Type 0) where
   every_append [] ys p q = q
   every_append (x ∷ xs) ys p q = (p.0, every_append xs ys p.1 q)
 
+  pub every_left : (xs ys : List A) → Every P (xs ++ ys) → Every P xs
+  every_left [] ys p = tt
+  every_left (x ∷ xs) ys p = (p.0, every_left xs ys p.1)
+
+  pub every_right : (xs ys : List A) → Every P (xs ++ ys) → Every P ys
+  every_right [] ys p = p
+  every_right (x ∷ xs) ys p = every_right xs ys p.1
+
   pub every_of {κ} : {B : Type κ} (f : B → List A) (xs : List B) → Every (λ (x : B). Every P (f x)) xs → Every P (all_of f xs)
   unfolding all_of
   every_of f [] p = tt
@@ -130,7 +142,7 @@ count_append p (x ∷ xs) ys = by (p x) (count_append p xs ys)
     by true e = omega arith
     by false e = e
 
--- fewer pass the stronger test
+-- no more pass the stronger test
 pub count_less : {A : Type 0} (p q : A → Bool) → ((x : A) → p x ≡ true → q x ≡ true) → (xs : List A) → count p xs ≤ count q xs
 unfolding count choose
 count_less p q within [] = omega arith

@@ -28,6 +28,9 @@ pub or_right : (a : Bool) {b : Bool} → b ≡ true → (a || b) ≡ true
 or_right true p = refl
 or_right false p = p
 
+pub or_false : {a b : Bool} → a ≡ false → b ≡ false → (a || b) ≡ false
+or_false p q = rw (p, q)
+
 pub or_cases : (a b : Bool) → (a || b) ≡ true → (a ≡ true) ⊎ (b ≡ true)
 or_cases true b p = inl refl
 or_cases false b p = inr p
@@ -49,7 +52,7 @@ pub and_same : (a b c : Bool) → (a ≡ true → b ≡ c) → (a && b) ≡ (a &
 and_same true b c p = p refl
 and_same false b c p = refl
 
--- what fails is not implied by what holds
+-- a test that implies one that fails, fails
 pub not_implied : {a b : Bool} → (a ≡ true → b ≡ true) → b ≡ false → a ≡ false
 not_implied {a} {b} p q = by a p
   where

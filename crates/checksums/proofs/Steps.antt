@@ -1,7 +1,7 @@
 -- One step of each loop: a byte of a string, a number of a table. Assumes nothing.
 use Prim.Native.Nat.{ℕ, suc, ◌+◌, ◌-◌, ◌*◌, ◌%◌, ◌^◌, ◌<◌, ◌≤◌}
 use mathlib.Core.Path.{◌≡◌, refl, sym, ap, ◌∙◌}
-use mathlib.Core.Bool.{Bool, true, false}
+use mathlib.Core.Bool.{Bool}
 use mathlib.Core.List.{List, [], ◌∷◌}
 use Rattle.std.specs.List.{list_any, enumerate_from}
 use native.Mathlib.Numerals.{add-one}
@@ -12,9 +12,10 @@ use lib.Dec.{eqb, ltb}
 use Rattle.std.proofs.Common.{length-set, length-take-le, take-suc-set, le-leb}
 use Rattle.std.proofs.Math.Decide.{dec_le}
 use Rattle.std.proofs.lemmas.Bool.{lt-leb}
-use borrow.Author.Tests.{eq-eqb, ne_eqb, eqb-true, eqb-false, lt-ltb, le-ltb}
+use borrow.Author.Tests.{lt-ltb, le-ltb}
 use Rattle.base.specs.Choose.{choose}
 use Rattle.std.specs.Prelude.{Some}
+use Rattle.base.proofs.BytesLaws.{eqb_turned}
 use Rattle.checksums.specs.Sums.{sum_from, holds, repeats, Put}
 use Rattle.checksums.specs.Lists.{first, pushed, may}
 
@@ -26,17 +27,10 @@ pub sum_end : (s : List ℕ) (h i : ℕ) → length s ≤ i → sum_from h (drop
 unfolding sum_from
 sum_end s h i l = rw (drop_of_length-le s {i = i} l)
 
-swapped : (x y : ℕ) → eqb y x ≡ eqb x y
-swapped x y = by (eqb y x) refl
-  where
-    by : (b : Bool) → eqb y x ≡ b → b ≡ eqb x y
-    by true e = sym (eq-eqb x y (sym (eqb-true y x e)))
-    by false e = sym (ne_eqb x y (λ q. eqb-false y x e (sym q)))
-
 pub holds_is : (x : ℕ) (ys : List ℕ) → list_any (λ (y : ℕ). eqb y x) ys ≡ holds x ys
 unfolding holds
 holds_is x [] = refl
-holds_is x (y ∷ ys) = rw (swapped x y, holds_is x ys)
+holds_is x (y ∷ ys) = rw (eqb_turned y x, holds_is x ys)
 
 -- from number n on, each number beside those behind it
 pub repeats_from : (t : List ℕ) (n : ℕ) (xs : List ℕ) → drop n t ≡ xs

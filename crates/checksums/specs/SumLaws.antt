@@ -5,7 +5,7 @@ use Rattle.std.proofs.Math.Decide.{dec_le}
 use Rattle.base.specs.Bytes.{same, same_sound}
 use Rattle.base.specs.Choose.{choose}
 use Rattle.base.specs.Lists.{any}
-use Rattle.base.specs.Tests.{or_false_left, or_false_right}
+use Rattle.base.specs.Tests.{or_false_left, or_false_right, or_false}
 use Rattle.checksums.specs.Sums.{sum_from, sum_of, holds, Put}
 
 -- of one string behind another
@@ -37,16 +37,13 @@ unlike x y ne = by (same x y) refl
     by false e = refl
     by true e = absurd (ne (same_sound x y e))
 
-pub or_none : {a c : Bool} → a ≡ false → c ≡ false → (a || c) ≡ false
-or_none p q = rw (p, q)
-
 -- a string is none of those that have other checksums
 pub absent : {A : Type 0} (f : A → List ℕ) (x : List ℕ) (qs : List A) → holds (sum_of x) (map (λ (q : A). sum_of (f q)) qs) ≡ false → any (λ (q : A). same (f q) x) qs ≡ false
 unfolding holds any
 absent f x [] h = refl
 absent f x (q ∷ qs) h =
     let first = or_false_left (eqb (sum_of x) (sum_of (f q))) _ h in
-    or_none (unlike (f q) x (λ e. other_sum x (f q) first (sym e))) (absent f x qs (or_false_right (eqb (sum_of x) (sum_of (f q))) _ h))
+    or_false (unlike (f q) x (λ e. other_sum x (f q) first (sym e))) (absent f x qs (or_false_right (eqb (sum_of x) (sum_of (f q))) _ h))
 
 pub holds_append : (x : ℕ) (a c : List ℕ) → holds x (a ++ c) ≡ (holds x a || holds x c)
 unfolding holds

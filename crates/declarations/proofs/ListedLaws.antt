@@ -1,7 +1,7 @@
 -- What is listed is what the set declares: sorts and full names in turn, and messages by their numbers. Assumes nothing.
 use mathlib.Core.Path.{◌≡◌, refl, ap, ◌∙◌}
 use mathlib.Core.Bool.{true, false}
-use mathlib.Core.List.{List, [], ◌∷◌, ◌++◌, map, append_assoc}
+use mathlib.Core.List.{List, [], ◌∷◌, ◌++◌, map, append_assoc, map-append}
 use Prim.Native.Nat.{ℕ, ◌+◌}
 use native.Mathlib.Omega.{arith}
 use lib.ListN.{length}
@@ -11,10 +11,6 @@ use Rattle.descriptor.specs.Descriptor.{Bytes, EnumDescriptor, FileDescriptor}
 use Rattle.name_rules.specs.Accessors.{text}
 use Rattle.name_rules.specs.FullNames.{◌·◌, package_scope, Entry, set_entries, Declaration, enum_declarations, entry_declarations, file_declarations, set_declarations}
 use Rattle.declarations.specs.Listed.{Listed, listed_enums, listed_entries, file_entries, listed_file, listed_files, declaration_of, number_of, entry_number}
-
-map_append : (ls ks : List Listed) → map declaration_of (ls ++ ks) ≡ map declaration_of ls ++ map declaration_of ks
-map_append [] ks = refl
-map_append (l ∷ ls) ks = ap (λ (ds : List Declaration). declaration_of l ∷ ds) (map_append ls ks)
 
 enums_declared : (file : ℕ) (scope : Bytes) (es : List EnumDescriptor) → map declaration_of (listed_enums file scope es) ≡ enum_declarations scope es
 unfolding listed_enums
@@ -26,19 +22,19 @@ unfolding listed_entries
 entries_declared file m [] = refl
 entries_declared file m (e ∷ es) =
     ap (λ (ds : List Declaration). record { full = e.full; is_enumeration = false } ∷ ds)
-    (map_append (listed_enums file e.full e.message.enums) (listed_entries file (m + 1) es) ∙ rw (enums_declared file e.full e.message.enums, entries_declared file (m + 1) es))
+    (map-append declaration_of (listed_enums file e.full e.message.enums) (listed_entries file (m + 1) es) ∙ rw (enums_declared file e.full e.message.enums, entries_declared file (m + 1) es))
 
 pub file_declared : (file m : ℕ) (f : FileDescriptor) → map declaration_of (listed_file file m f) ≡ file_declarations f
 unfolding listed_file file_declarations
 file_declared file m f =
-    map_append (listed_entries file m (file_entries f)) (listed_enums file (package_scope f.package_name) f.enums)
+    map-append declaration_of (listed_entries file m (file_entries f)) (listed_enums file (package_scope f.package_name) f.enums)
     ∙ rw (entries_declared file m (file_entries f), enums_declared file (package_scope f.package_name) f.enums)
 
 pub files_declared : (file m : ℕ) (fs : List FileDescriptor) → map declaration_of (listed_files file m fs) ≡ set_declarations fs
 unfolding listed_files set_declarations
 files_declared file m [] = refl
 files_declared file m (f ∷ fs) =
-    map_append (listed_file file m f) (listed_files (file + 1) (m + length (file_entries f)) fs)
+    map-append declaration_of (listed_file file m f) (listed_files (file + 1) (m + length (file_entries f)) fs)
     ∙ rw (file_declared file m f, files_declared (file + 1) (m + length (file_entries f)) fs)
 
 -- ---- numbers: those listed behind others

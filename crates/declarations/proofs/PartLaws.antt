@@ -9,7 +9,7 @@ use lib.Dec.{eqb}
 use Rattle.base.specs.Choose.{choose}
 use Rattle.wire.specs.Records.{records, part}
 use Rattle.wire.specs.Contents.{field_of, value_of}
-use Rattle.wire.proofs.RecordsLaws.{In, AllIn, records_in, length_part}
+use Rattle.wire.proofs.RecordsLaws.{In, AllIn, records_in}
 use Rattle.wire.specs.Step.{Record, Step, End, Fault, Found}
 use Rattle.descriptor.specs.Decode.{entries, entries_of, last, last_from, text as decoded, bytes_in, parts, decode_message, decode_enum, decode_file}
 use Rattle.descriptor.specs.Descriptor.{Bytes}
@@ -25,14 +25,6 @@ use Rattle.name_rules.specs.Accessors.{text}
 use Rattle.declarations.specs.Rows.{bytes_at, place, places_of, places, last_place, lies, package_of, declaration_row}
 use Rattle.declarations.specs.declared.Kind.{Kind}
 use Rattle.declarations.specs.Listed.{name_of}
-
--- an embedded message ends behind its bytes
-pub inside_length : (s : List ℕ) (f : Record) → In (length s) f → f.start + length (bytes_in (value_of s f)) ≡ end_in f
-inside_length s f l =
-    let e = end_before (length s) f l in
-    let a : f.start ≤ end_in f = e.0 in
-    let n : length (bytes_in (value_of s f)) ≡ end_in f - f.start = ap length (sym (inside_is s f)) ∙ length_part s f.start (end_in f) e.1 in
-    omega arith
 
 by_number : (bytes : List ℕ) (b : Bool) (p : Place) (ps : List Place) (x : List ℕ) (xs : List (List ℕ)) → bytes_at bytes p ≡ x → map (bytes_at bytes) ps ≡ xs
     → map (bytes_at bytes) (choose b (p ∷ ps) ps) ≡ choose b (x ∷ xs) xs

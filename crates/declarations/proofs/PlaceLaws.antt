@@ -11,6 +11,7 @@ use Rattle.base.specs.Choose.{choose}
 use Rattle.wire.specs.Records.{records, part}
 use Rattle.wire.specs.Contents.{value_of, field_of}
 use Rattle.std.specs.Prelude.{Result, Ok, Err}
+use Rattle.descriptor.proofs.PartLaws.{inside_length}
 use Rattle.wire.specs.Message.{Entry, records_at}
 use Rattle.wire.proofs.MessageLaws.{records_bound}
 use Rattle.wire.specs.declared.records.record.Fault.{Fault as FaultAt}
@@ -21,7 +22,6 @@ use Rattle.descriptor.specs.Decode.{bytes_in}
 use Rattle.declarations.specs.Rows.{bytes_at, place, places_of, places}
 use Rattle.declarations.specs.Places.{place_in, places_in}
 use Rattle.declarations.specs.declared.places.Place.{Place}
-use Rattle.declarations.proofs.PartLaws.{inside_length}
 
 by_number : (b : Bool) (p q : Place) (ps qs : List Place) → p ≡ q → ps ≡ qs → choose b (p ∷ ps) ps ≡ choose b (q ∷ qs) qs
 by_number b p q ps qs e f = rw (e, f) refl

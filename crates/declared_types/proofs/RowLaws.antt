@@ -1,7 +1,7 @@
 -- A table's rows and what they list: look-ups find what is declared. Assumes nothing.
 use mathlib.Core.Path.{◌≡◌, refl, sym, ap, ◌∙◌}
 use mathlib.Core.Bool.{Bool, true, false, ◌||◌}
-use mathlib.Core.List.{List, [], ◌∷◌, ◌++◌, map, append-nil, append_assoc}
+use mathlib.Core.List.{List, [], ◌++◌, map, append-nil, append_assoc, map-append}
 use Prim.Native.Nat.{ℕ, zero, suc, ◌+◌, ◌≤◌, ◌<◌}
 use native.Mathlib.Numerals.{add-one}
 use native.Mathlib.Omega.{arith}
@@ -24,10 +24,6 @@ use Rattle.declared_types.specs.Undeclared.{found, field_known}
 
 abbrev pub D : List Listed → List Declaration
 D = map declaration_of
-
-pub D_append : (ls ks : List Listed) → D (ls ++ ks) ≡ D ls ++ D ks
-D_append [] ks = refl
-D_append (l ∷ ls) ks = ap (λ (ds : List Declaration). declaration_of l ∷ ds) (D_append ls ks)
 
 -- n rows from row i on
 unfoldable pub listed_from : Bytes → List Row → ℕ → ℕ → List Listed
@@ -90,7 +86,7 @@ module _ (bytes : List ℕ) (t : List Row) where
   unfolding listed_from find_from declared_as choose
   found_from name e zero i h = sym (le-ltb i (i + 0) (omega arith))
   found_from name e (suc n) i h =
-      ap (declared_as e name) (D_append (listed_row bytes (full bytes t (suc i)) (row_at t i)) (listed_from bytes t n (i + 1)))
+      ap (declared_as e name) (map-append declaration_of (listed_row bytes (full bytes t (suc i)) (row_at t i)) (listed_from bytes t n (i + 1)))
       ∙ as_append e name (D (listed_row bytes (full bytes t (suc i)) (row_at t i))) (D (listed_from bytes t n (i + 1)))
       ∙ ap (λ (b : Bool). b || declared_as e name (D (listed_from bytes t n (i + 1)))) (row_fits name e i (omega arith))
       ∙ by_fits (fits bytes t name (sort_of e) i) n i (found_from name e n (i + 1) (omega arith))
@@ -140,7 +136,7 @@ module _ (bytes : List ℕ) (t : List Row) where
       (swapped (same_row bytes t i n) (declared (full bytes t (i + 1)) (D (listed bytes t n)))
       ∙ ap (λ (b : Bool). declared (full bytes t (i + 1)) (D (listed bytes t n)) || b) (sym (row_before (full bytes t (i + 1)) (full bytes t (suc n)) (row_at t n) ∙ (let z : n + 1 ≡ suc n = omega arith in rw z)))
       ∙ sym (declared_append (full bytes t (i + 1)) (D (listed bytes t n)) (D (listed_row bytes (full bytes t (suc n)) (row_at t n))))
-      ∙ ap (declared (full bytes t (i + 1))) (sym (D_append (listed bytes t n) (listed_row bytes (full bytes t (suc n)) (row_at t n)))))
+      ∙ ap (declared (full bytes t (i + 1))) (sym (map-append declaration_of (listed bytes t n) (listed_row bytes (full bytes t (suc n)) (row_at t n)))))
 
   pub declared_before_is : (i : ℕ) → i < 65536 → declared_before bytes t i ≡ declared (full bytes t (suc i)) (D (listed bytes t i))
   unfolding declared_before choose

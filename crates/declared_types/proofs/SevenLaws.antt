@@ -1,7 +1,7 @@
 -- The rows of the table of a set give refusal 7 of the set. Assumes nothing.
 use mathlib.Core.Path.{◌≡◌, refl, sym, ap, ◌∙◌}
 use mathlib.Core.Bool.{Bool, true, ◌&&◌, not}
-use mathlib.Core.List.{List, [], ◌∷◌, ◌++◌, append-nil}
+use mathlib.Core.List.{List, [], ◌∷◌, ◌++◌, append-nil, map-append}
 use Prim.Native.Nat.{ℕ, zero, suc, ◌+◌, ◌-◌, ◌≤◌, ◌<◌}
 use native.Mathlib.Omega.{arith}
 use lib.ListN.{length}
@@ -14,13 +14,13 @@ use Rattle.descriptor.specs.Decode.{entries, parts, decode_field, decode_message
 use Rattle.name_rules.specs.FullNames.{Declaration, declared, type_declared, set_declarations, first_undeclared}
 use Rattle.name_rules.specs.Answer.{first_seven}
 use Rattle.declarations.specs.Rows.{row_at, kind_number, declared as declared_table}
-use Rattle.declarations.specs.Listed.{full, Listed, listed_row, listed, listed_files}
+use Rattle.declarations.specs.Listed.{full, Listed, listed_row, listed, listed_files, declaration_of}
 use Rattle.declarations.specs.declared.Declaration.{Declaration as Row}
 use Rattle.declarations.proofs.ListedLaws.{files_declared}
 use Rattle.declarations.proofs.SetLaws.{set_listed}
 use Rattle.declared_types.specs.Undeclared.{type_known, row_good, undeclared_from, first_undeclared_row}
 use Rattle.declared_types.proofs.CountLaws.{declared_few}
-use Rattle.declared_types.proofs.RowLaws.{D, D_append, listed_from, listed_all, by_kind, known_is, declared_before_is}
+use Rattle.declared_types.proofs.RowLaws.{D, listed_from, listed_all, by_kind, known_is, declared_before_is}
 use Rattle.declared_types.proofs.FileLaws.{bad_file, files_bad}
 
 all_same : {A : Type 0} (p q : A → Bool) → ((x : A) → p x ≡ q x) → (xs : List A) → all p xs ≡ all q xs
@@ -62,13 +62,13 @@ module _ (bytes : List ℕ) (t : List Row) (count : ℕ) (few : count ≤ 65536)
 
     enum_step : kind_number r.kind ≡ 1 → Step
     unfolding Step row_good listed_row choose bad_file all
-    enum_step z = rw (z, declared_before_is bytes t i small, unless (declared F before) true) (ap (λ (b : List Declaration). choose (not (declared F before) && true) (bad_file ds files b ks) (row_at t i).file) (D_append (listed bytes t i) _))
+    enum_step z = rw (z, declared_before_is bytes t i small, unless (declared F before) true) (ap (λ (b : List Declaration). choose (not (declared F before) && true) (bad_file ds files b ks) (row_at t i).file) (map-append declaration_of (listed bytes t i) _))
 
     message_step : 2 ≤ kind_number r.kind → Step
     unfolding Step row_good listed_row choose bad_file
     message_step z =
         rw (ne_eqb (kind_number (row_at t i).kind) 0 (λ q. omega arith), ne_eqb (kind_number (row_at t i).kind) 1 (λ q. omega arith), declared_before_is bytes t i small, fields_known (part bytes (row_at t i).start ((row_at t i).end - (row_at t i).start)), unless (declared F before) (all (type_declared ds) (decode_message (part bytes (row_at t i).start ((row_at t i).end - (row_at t i).start))).fields))
-        (ap (λ (b : List Declaration). choose (not (declared F before) && all (type_declared ds) (decode_message (part bytes (row_at t i).start ((row_at t i).end - (row_at t i).start))).fields) (bad_file ds files b ks) (row_at t i).file) (D_append (listed bytes t i) _))
+        (ap (λ (b : List Declaration). choose (not (declared F before) && all (type_declared ds) (decode_message (part bytes (row_at t i).start ((row_at t i).end - (row_at t i).start))).fields) (bad_file ds files b ks) (row_at t i).file) (map-append declaration_of (listed bytes t i) _))
 
     row_step : Step
     row_step = by_kind (kind_number r.kind) package_step enum_step message_step

@@ -10,7 +10,7 @@ use lib.Seq.{drop-drop, take-take, take-nil, take_all}
 use lib.Dec.{eqb}
 use borrow.Author.Tests.{eqb-true}
 use Rattle.base.specs.Choose.{choose, choose_case}
-use Rattle.wire.proofs.RecordsLaws.{In}
+use Rattle.wire.proofs.RecordsLaws.{In, length_part}
 use Rattle.descriptor.specs.Places.{end_in, inside}
 use Rattle.wire.specs.Records.{part}
 use Rattle.wire.specs.Encoding.{Field, Value}
@@ -57,6 +57,14 @@ inside_is s f =
 pub end_before : (n : ℕ) (f : Record) → In n f → (f.start ≤ end_in f) × (end_in f ≤ n)
 unfolding end_in
 end_before n f l = choose_case (λ (e : ℕ). (f.start ≤ e) × (e ≤ n)) (eqb f.wiretype 2) (λ _. (l.from, l.to)) (λ _. let a = l.from in let c = l.to in (omega arith, omega arith))
+
+-- an embedded message ends behind its bytes
+pub inside_length : (s : List ℕ) (f : Record) → In (length s) f → f.start + length (bytes_in (value_of s f)) ≡ end_in f
+inside_length s f l =
+    let e = end_before (length s) f l in
+    let a : f.start ≤ end_in f = e.0 in
+    let n : length (bytes_in (value_of s f)) ≡ end_in f - f.start = ap length (sym (inside_is s f)) ∙ length_part s f.start (end_in f) e.1 in
+    omega arith
 
 pub parts_few : (n : ℕ) (fs : List Field) → length (parts n fs) ≤ length fs
 unfolding parts

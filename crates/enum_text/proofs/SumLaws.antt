@@ -3,10 +3,10 @@ use Rattle.std.specs.Prelude.{◌≡◌, ℕ, Bool, true, false, Option, Some, N
 use Rattle.std.proofs.Common.{refl, sym, ap, ◌∙◌}
 use Rattle.enum_text.proofs.PartLaws.{there, same_name, missing}
 use Rattle.base.specs.Choose.{choose}
-use Rattle.base.specs.Tests.{or_false_left, or_false_right}
+use Rattle.base.specs.Tests.{or_false_left, or_false_right, or_false}
 use Rattle.checksums.specs.Sums.{sum_of, holds, repeats}
 use Rattle.checksums.specs.Lists.{pushed, all_pushed, may, all_pushed_append, denied}
-use Rattle.checksums.specs.SumLaws.{other_sum, unlike, or_none}
+use Rattle.checksums.specs.SumLaws.{other_sum, unlike}
 use Rattle.descriptor.specs.Descriptor.{Bytes, ValueDescriptor}
 use Rattle.options.specs.Settings.{Setting}
 use Rattle.path.specs.Forms.{among}
@@ -19,12 +19,12 @@ unfolding holds among
 not_among x [] h = refl
 not_among x (y ∷ ys) h =
     let first = or_false_left (eqb (sum_of x) (sum_of y)) _ h in
-    or_none (unlike x y (other_sum x y first)) (not_among x ys (or_false_right (eqb (sum_of x) (sum_of y)) _ h))
+    or_false (unlike x y (other_sum x y first)) (not_among x ys (or_false_right (eqb (sum_of x) (sum_of y)) _ h))
 
 apart : (xs : List Bytes) → repeats (map sum_of xs) ≡ false → overlap xs ≡ false
 unfolding repeats overlap
 apart [] h = refl
-apart (x ∷ xs) h = or_none (not_among x xs (or_false_left (holds (sum_of x) (map sum_of xs)) _ h)) (apart xs (or_false_right (holds (sum_of x) (map sum_of xs)) _ h))
+apart (x ∷ xs) h = or_false (not_among x xs (or_false_left (holds (sum_of x) (map sum_of xs)) _ h)) (apart xs (or_false_right (holds (sum_of x) (map sum_of xs)) _ h))
 
 pub sums_apart : (xs : List Bytes) {o none : Option (List ℕ)} {r : Bool} → none ≡ Some [] → o ≡ all_pushed 256 none (map sum_of xs) → r ≡ may repeats o → r ≡ false → false ≡ overlap xs
 sums_apart xs start sums asked is_false =

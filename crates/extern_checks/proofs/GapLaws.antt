@@ -1,20 +1,17 @@
 -- A path's first byte, and its segments that are empty.
-use Rattle.std.proofs.Common.{◌≡◌, refl, ℕ, Bool, true, false, ◌&&◌, ◌||◌, List, [], ◌∷◌, get_or, nat_eq, take, drop, length, ap, suc, ne_eqb, arith}
+use Rattle.std.proofs.Common.{◌≡◌, refl, ℕ, Bool, ◌||◌, List, [], ◌∷◌, get_or, nat_eq, take, drop, length, ap, suc, ne_eqb, arith}
 use Rattle.std.specs.Str.{bytes_eq}
 use Rattle.std.specs.List.{list_any}
 use Rattle.base.specs.Bytes.{b}
 use Rattle.base.specs.Lists.{any, is_empty}
+use Rattle.base.proofs.BytesLaws.{eqb_turned}
+use Rattle.std.proofs.Math.Bool.{and-true}
 use Rattle.split.specs.Split.{split}
-use Rattle.split.proofs.SplitLaws.{eqb_turned}
 use Rattle.extern_checks.specs.Doubles.{has_gap}
 
 pub starts : (path : List ℕ) → bytes_eq (46 ∷ []) (take 1 path) ≡ nat_eq (get_or path 0 0) 46
 starts [] = refl
-starts (c ∷ s) = rw (and_true (nat_eq 46 c)) (eqb_turned 46 c)
-  where
-    and_true : (t : Bool) → (t && true) ≡ t
-    and_true true = refl
-    and_true false = refl
+starts (c ∷ s) = rw (and-true (nat_eq 46 c)) (eqb_turned 46 c)
 
 pub any_is : {A : Type 0} (p : A → Bool) (xs : List A) → any p xs ≡ list_any p xs
 unfolding any

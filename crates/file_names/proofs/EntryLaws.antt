@@ -7,7 +7,7 @@ use native.Mathlib.Omega.{arith}
 use lib.Dec.{eqb}
 use borrow.Author.Tests.{ne_eqb}
 use Rattle.base.specs.Bytes.{b}
-use Rattle.base.specs.Lists.{is_empty}
+use Rattle.base.specs.Lists.{is_empty, empty_map}
 use Rattle.descriptor.specs.Descriptor.{FieldDescriptor}
 use Rattle.descriptor.specs.Decode.{entries, parts, decode_field, decode_enum, decode_oneof, decode_message, decode_messages}
 use Rattle.name_rules.specs.Rules.{is_text, is_number, key_type, key_good, value_field_good, key_and_value, none_nested, entry_good}
@@ -29,10 +29,6 @@ value_is f = three_and (is_text (b "value") f.name) (is_number 2 f.number) (is_n
 not_none : (n : ℕ) → eqb (suc n) 0 ≡ false
 not_none n = ne_eqb (suc n) 0 (λ e. omega arith)
 
-none_mapped {ℓ κ} : {A : Type ℓ} {B : Type κ} (f : A → B) (xs : List A) → is_empty (map f xs) ≡ is_empty xs
-none_mapped f [] = refl
-none_mapped f (x ∷ xs) = refl
-
 -- at the deepest level nothing is nested
 none_decoded : (left : ℕ) (ps : List (List ℕ)) → none_nested (decode_messages left ps) ≡ (eqb left 0 || is_empty ps)
 unfolding decode_messages
@@ -47,5 +43,5 @@ pub entry_is : (s : List ℕ) (left : ℕ)
 unfolding entry_good decode_message
 entry_is s left =
     ap (λ (u : Bool). key_and_value (map decode_field (parts 2 (entries s))) && u)
-    (ap₂ (λ (x y : Bool). x && y) (none_mapped decode_enum (parts 4 (entries s)))
-    (ap₂ (λ (x y : Bool). x && y) (none_mapped decode_oneof (parts 8 (entries s))) (none_decoded left (parts 3 (entries s)))))
+    (ap₂ (λ (x y : Bool). x && y) (empty_map decode_enum (parts 4 (entries s)))
+    (ap₂ (λ (x y : Bool). x && y) (empty_map decode_oneof (parts 8 (entries s))) (none_decoded left (parts 3 (entries s)))))

@@ -1,4 +1,4 @@
--- The tests of names, by the library's words.
+-- The tests of names, by the library's words; no byte of a name is a dot.
 use Rattle.std.proofs.Common.{◌≡◌, refl, sym, ap, ◌∙◌, Bool, true, false, ◌&&◌, ◌||◌, List, [], ◌∷◌, ℕ, eqb, eqb-true}
 use Rattle.std.proofs.Math.Bool.{or_assoc}
 use Rattle.std.specs.Char.{is_ascii_alphabetic, is_ascii_alphanumeric}

@@ -3,7 +3,7 @@ use mathlib.Core.Path.{◌≡◌, refl, ap, ◌∙◌}
 use mathlib.Core.Bool.{Bool, true, false, ◌||◌, ◌&&◌}
 use mathlib.Core.Logic.{◌⊎◌, inl, inr}
 use mathlib.Core.List.{List, [], ◌∷◌, ◌++◌}
-use Prim.Native.Nat.{ℕ, zero, suc, ◌-◌, ◌^◌, ◌≤◌, ◌<◌}
+use Prim.Native.Nat.{ℕ, ◌-◌, ◌^◌, ◌≤◌, ◌<◌}
 use native.Mathlib.Omega.{arith}
 use native.Mathlib.Nat.{zero-add}
 use lib.Dec.{leb, eqb}
@@ -13,6 +13,7 @@ use borrow.Author.Tests.{leb-true, eqb-true}
 use Rattle.base.specs.Choose.{choose, choose_case}
 use Rattle.base.specs.Tests.{bool_cases, both_ways, and_left, and_right, or_cases}
 use Rattle.base.specs.Bytes.{b, same}
+use Rattle.std.proofs.lemmas.List.{drop-replicate}
 use Rattle.writer.specs.Wrote.{Wrote, over, after}
 use Rattle.writer.specs.Draft.{Filled}
 use Rattle.writer.proofs.TextLaws.{measured, wholly}
@@ -119,17 +120,12 @@ unfolding longest choose same between class lowered parts words to_snake_case am
 snake_longest = (refl, refl)
 
 -- ---- what a name leaves in an array of zeros
-drop_replicate : (z k n : ℕ) → drop k (replicate n z) ≡ replicate (n - k) z
-drop_replicate z zero n = let e : n - zero ≡ n = omega arith in rw e
-drop_replicate z (suc k) zero = let e : zero - suc k ≡ zero = omega arith in rw e
-drop_replicate z (suc k) (suc n) = let e : suc n - suc k ≡ n - k = omega arith in rw e (drop_replicate z k n)
-
 module _ {n : ℕ} {p t : List ℕ} {r : ℕ} (w : Wrote (replicate n 0) 0 p t r) (h : length p ≤ n) where
   pub written_padded : t ≡ padded n p
   unfolding over padded
   written_padded =
       let l = length-replicate {A = ℕ} n 0 in
-      w.text ∙ sets-eq p (replicate n 0) 0 (omega arith) ∙ ap (λ (k : ℕ). p ++ drop k (replicate n 0)) (zero-add (length p)) ∙ ap (λ (z : List ℕ). p ++ z) (drop_replicate 0 (length p) n)
+      w.text ∙ sets-eq p (replicate n 0) 0 (omega arith) ∙ ap (λ (k : ℕ). p ++ drop k (replicate n 0)) (zero-add (length p)) ∙ ap (λ (z : List ℕ). p ++ z) (drop-replicate (length p) n 0)
 
   pub written_length : n < 2 ^ 63 → r ≡ length p
   unfolding after
@@ -140,7 +136,7 @@ filled_padded : {n : ℕ} {p t : List ℕ} {r : ℕ} → Filled (replicate n 0) 
 unfolding padded
 filled_padded {n} {p} w h k =
     let l = length-replicate {A = ℕ} n 0 in
-    wholly w (omega arith) (omega arith) ∙ ap (λ (z : List ℕ). p ++ z) (drop_replicate 0 (length p) n)
+    wholly w (omega arith) (omega arith) ∙ ap (λ (z : List ℕ). p ++ z) (drop-replicate (length p) n 0)
 
 pub spellings_are : (s snake camel : List ℕ) (a e : ℕ) → convertible s ≡ true → Filled (replicate 106 0) (to_snake s) snake a → Filled (replicate 64 0) (to_upper_camel s) camel e → ◌≡◌ {A = Spellings} (record { snake = snake; snakelen = a; camel = camel; camellen = e }) (spelt (to_snake s) (to_upper_camel s))
 unfolding convertible spelt

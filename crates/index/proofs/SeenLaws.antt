@@ -1,9 +1,9 @@
 -- The forests over the records that the iterator gives are those over the records by positions. Assumes nothing.
 use mathlib.Core.Path.{◌≡◌, refl, sym, ap, ◌∙◌, subst}
 use mathlib.Core.List.{List, [], ◌∷◌}
-use Prim.Native.Nat.{ℕ, ◌+◌, ◌-◌, ◌≤◌}
+use Prim.Native.Nat.{ℕ, ◌+◌, ◌≤◌}
 use native.Mathlib.Omega.{arith}
-use lib.ListN.{length, drop, length-take, length-drop}
+use lib.ListN.{length}
 use lib.Dec.{eqb}
 use Rattle.std.specs.Prelude.{Result, Ok, Err}
 use Rattle.base.specs.Choose.{choose}
@@ -18,7 +18,7 @@ use Rattle.descriptor.specs.Descriptor.{Bytes, Forest, done, node}
 use Rattle.descriptor.specs.Decode.{bytes_in}
 use Rattle.descriptor.specs.Places.{end_in, inside}
 use Rattle.index.specs.Tree.{Place, place, Inner, forest_record, forest_from, forest_in, file_record, files_from}
-use Rattle.descriptor.proofs.PartLaws.{inside_is, end_before}
+use Rattle.descriptor.proofs.PartLaws.{inside_is, end_before, inside_length}
 
 -- the bytes that a record holds, and their place
 abbrev pub held : Entry → Bytes
@@ -47,24 +47,12 @@ files_of number left (Ok e ∷ rs) = choose (eqb e.field.number 1) (forest_in le
 files_of number left (Err f ∷ rs) = files_of number left rs
 
 module _ (s : List ℕ) (f : Record) (l : In (length s) f) where
-  inside_size : f.start + length (inside s f) ≡ end_in f
-  inside_size =
-      let e = end_before (length s) f l in
-      let from : f.start ≤ end_in f = e.0 in
-      let to : end_in f ≤ length s = e.1 in
-      let size = length-take (end_in f - f.start) (drop f.start s) in
-      let rest = length-drop f.start s in
-      omega arith
-
-  held_size : f.start + length (bytes_in (value_of s f)) ≡ end_in f
-  held_size = ap (λ (b : Bytes). f.start + length b) (sym (inside_is s f)) ∙ inside_size
-
   held_within : f.start + length (bytes_in (value_of s f)) ≤ length s
-  held_within = let e = end_before (length s) f l in let to : end_in f ≤ length s = e.1 in let h = held_size in omega arith
+  held_within = let e = end_before (length s) f l in let to : end_in f ≤ length s = e.1 in let h = inside_length s f l in omega arith
 
   same_place : (base : ℕ) → place base f ≡ record { start = base + f.start; end = base + f.start + length (bytes_in (value_of s f)) }
   same_place base =
-      let h = held_size in
+      let h = inside_length s f l in
       ap (λ (n : ℕ). let p : Place = record { start = base + f.start; end = n } in p) (let e : base + end_in f ≡ base + f.start + length (bytes_in (value_of s f)) = omega arith in e)
 
 module _ (base : ℕ) (s : List ℕ) where

@@ -6,15 +6,15 @@ use mathlib.Core.Option.{Option as Possibly, none, some}
 use Prim.Native.Nat.{ℕ}
 use lib.ListN.{length}
 use lib.Dec.{ltb, eqb}
-use Rattle.std.specs.Prelude.{cond, Option, Some, None}
-use Rattle.std.specs.List.{list_any, slice_split, onto_first, last_or}
+use Rattle.std.specs.Prelude.{Option, Some, None}
+use Rattle.std.specs.List.{list_any, slice_split, last_or}
 use Rattle.std.specs.Option.{UnwrapsOrElse}
 use Rattle.base.specs.Choose.{choose}
 use Rattle.base.specs.Lists.{any}
+use Rattle.descriptor.proofs.SegmentLaws.{segments_are}
 use Rattle.wire.specs.Encoding.{Field, Value}
 use Rattle.descriptor.specs.Descriptor.{Bytes}
 use Rattle.descriptor.specs.Decode.{entries, last_from, text, bytes_in, parts}
-use Rattle.descriptor.specs.Limits.{segments, on_first}
 use Rattle.limits.specs.Weights.{bytes_or_none, text_bytes, long_segment}
 
 unfoldable pub bytes_of_fields : ℕ → List Field → Bytes → Bytes
@@ -68,18 +68,6 @@ module _ {A : Type 0} (seen : A → Bytes) (Empty : A → Type 0) (empty : (x : 
   last_is o xs r o_is is = unwrapped o r is ∙ ap seen_or_none o_is ∙ last_seen None xs
 
 -- ---- segments
-onto_is : (c : ℕ) (ss : List Bytes) → onto_first c ss ≡ on_first c ss
-onto_is c [] = refl
-onto_is c (s ∷ ss) = refl
-
-split_is : (s : Bytes) → slice_split (λ c. eqb c 46) s ≡ segments s
-unfolding segments choose
-split_is [] = refl
-split_is (c ∷ cs) =
-    ap (λ (ss : List Bytes). cond (eqb c 46) ([] ∷ ss) (onto_first c ss)) (split_is cs)
-    ∙ elim (eqb c 46) as (λ t. cond t ([] ∷ segments cs) (onto_first c (segments cs)) ≡ choose t ([] ∷ segments cs) (on_first c (segments cs)))
-    [ true ↦ refl | false ↦ onto_is c (segments cs) ]
-
 pub split_segments : (s : Bytes) → list_any (λ (x : Bytes). ltb 64 (length x)) (slice_split (λ c. eqb c 46) s) ≡ long_segment s
 unfolding long_segment any
-split_segments s = ap (list_any (λ (x : Bytes). ltb 64 (length x))) (split_is s)
+split_segments s = ap (list_any (λ (x : Bytes). ltb 64 (length x))) (segments_are s)

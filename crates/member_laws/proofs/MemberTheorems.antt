@@ -7,7 +7,7 @@ use Rattle.std.proofs.Common.{ap, ◌∙◌, ⊎_elim, arith, length-append, tak
 use Rattle.std.proofs.Math.Bool.{◌||◌}
 use mathlib.Core.List.{List, [], ◌∷◌, map}
 use Rattle.base.specs.Choose.{unless}
-use Rattle.base.specs.Lists.{any, all_of, Every}
+use Rattle.base.specs.Lists.{any, all_of, Every, every_left, every_right}
 use Rattle.descriptor.specs.Descriptor.{Bytes, Forest, done, preorder, MessageDescriptor, FileDescriptor}
 use Rattle.descriptor.specs.Decode.{entries, parts, decode_oneof, decode_message, decode_messages, decode_file, decode_set}
 use Rattle.descriptor.specs.Limits.{messages_in, fields_in, limit_passed}
@@ -30,7 +30,7 @@ use Rattle.code_generator.specs.Refusals.{any_message}
 use Rattle.limit_facts.specs.Within.{within}
 use Rattle.file_parts.specs.FileParts.{behind}
 use Rattle.text_laws.specs.Described.{MessageIs, Described}
-use Rattle.text_laws.proofs.SaysLaws.{described, every_left, every_right}
+use Rattle.text_laws.proofs.SaysLaws.{described}
 use Rattle.text_laws.proofs.FileLaws.{no_parts}
 use Rattle.call_laws.specs.CallLaws.{behind_is}
 use Rattle.name_check.specs.NameCheck.{members_meet, file_members_meet}
@@ -53,7 +53,6 @@ unfolding messages_in all_of
 few_files [] h = tt
 few_files (f ∷ fs) h = (every_left Few (preorder f.messages) (messages_in fs) h, few_files fs (every_right Few (preorder f.messages) (messages_in fs) h))
 
--- what is left out has none
 module _ (rs : List Setting) (set : List ℕ) (messages : List MessageRow) (t : List FieldRow) (room : ℕ) (enough : 786432 ≤ room) where
   abbrev test : Bytes → MessageDescriptor → Forest MessageDescriptor → Bool
   test full m nested = members_meet m nested

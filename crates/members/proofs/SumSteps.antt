@@ -3,10 +3,10 @@ use Rattle.std.specs.Prelude.{◌≡◌, ℕ, Bool, true, false, ◌||◌, Optio
 use Rattle.std.proofs.Common.{sym, ap, ◌∙◌}
 use Rattle.base.specs.Choose.{choose}
 use Rattle.base.specs.Lists.{any}
-use Rattle.base.specs.Tests.{or_false_left, or_false_right}
+use Rattle.base.specs.Tests.{or_false_left, or_false_right, or_false}
 use Rattle.checksums.specs.Sums.{sum_of, holds}
 use Rattle.checksums.specs.Lists.{pushed, all_pushed, may, all_pushed_append, denied}
-use Rattle.checksums.specs.SumLaws.{absent, holds_append, or_none}
+use Rattle.checksums.specs.SumLaws.{absent, holds_append}
 use Rattle.descriptor.specs.Descriptor.{Bytes}
 use Rattle.descriptor.specs.Decode.{entries, parts}
 use Rattle.members.specs.Members.{name_in, cut_camel, meets_part, conflict, part_sums, camel_sums}
@@ -55,7 +55,7 @@ module _ (p name : Bytes) where
   meets_none true h =
       let both : (holds (sum_of (cut_camel name)) (part_sums 3 p) || holds (sum_of (cut_camel name)) (part_sums 4 p)) ≡ false = sym (holds_append _ (part_sums 3 p) (part_sums 4 p)) ∙ h in
       sym
-      (or_none (none_of 3 (or_false_left (holds (sum_of (cut_camel name)) (part_sums 3 p)) _ both)) (none_of 4 (or_false_right (holds (sum_of (cut_camel name)) (part_sums 3 p)) _ both)))
+      (or_false (none_of 3 (or_false_left (holds (sum_of (cut_camel name)) (part_sums 3 p)) _ both)) (none_of 4 (or_false_right (holds (sum_of (cut_camel name)) (part_sums 3 p)) _ both)))
 
   pub conflict_none : (deeper : Bool) {o : Option (List ℕ)} {x : ℕ} {r : Bool} → o ≡ all_pushed 512 (Some []) (camel_sums deeper p) → x ≡ sum_of (cut_camel name) → r ≡ may (holds x) o → r ≡ false
       → false ≡ conflict deeper p name

@@ -78,7 +78,6 @@ module _ (f : Fields) where
 pub decides : (f : Fields) → Decides f
 decides f = record { sound = leads_sound f; complete = leads_complete f }
 
--- two tests of one thing are equal
 -- a number that no message can have leads to itself alone, and only itself leads to it
 
 module _ {f : Fields} where

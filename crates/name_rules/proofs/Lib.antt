@@ -1,4 +1,3 @@
-pub mod SegmentLaws
 pub mod WellFormedLaws
 pub mod NamesLaws
 pub mod SyntaxLaws

@@ -38,7 +38,7 @@ pub fn has_name(name: Option<&[u8]>) -> bool
 }
 
 /// Are the parts between the dots names?
-#[tactic(auto, unfolding(base::specs::Lists::all), using(crate::proofs::SegmentLaws::segments_are))]
+#[tactic(auto, unfolding(base::specs::Lists::all), using(descriptor::proofs::SegmentLaws::segments_are))]
 fn segments_good(name: &[u8]) -> bool
     ensures { result ≡ all good_name (segments name.now) }
 {

@@ -2,6 +2,7 @@
 use Rattle.std.proofs.Common.{◌≡◌, refl, sym, ap, ◌∙◌, ℕ, zero, suc, ◌+◌, ◌≤◌, ◌<◌, Bool, true, false, ◌||◌, ◌&&◌, List, [], ◌∷◌, take, arith, nat_eq, nat_le, Result, Ok, add-zero, cond, eqb-true}
 use Rattle.options.specs.declared.kind.UnknownKind.{UnknownKind}
 use Rattle.std.specs.List.{list_any, list_all}
+use Rattle.std.proofs.Math.Bool.{or-false}
 use Rattle.options.specs.declared.kind.Kind.{Kind}
 use Rattle.options.specs.declared.kind.Kind.TheVariants.{ExternPath, Bytes, BtreeMap, Boxed, TypeAttribute, FieldAttribute, MessageAttribute, EnumAttribute, SkipDebug, ProstPath, RetainEnumPrefix, ProstTypes}
 use Rattle.options.specs.Kinds.{sort_of, has_path, has_value, is_kind}
@@ -80,10 +81,6 @@ pub any_before : (s : List ℕ) (kind i : ℕ) → i < row_count s → kind_befo
 unfolding settings kind_before
 any_before s kind i h =
     let e : 0 + i ≡ i = omega arith in
-    sym (or_none (list_any (is_of kind) (take i (settings_from s (row_count s) 0 (bodies s)))) ∙ (rw e at (before_more s kind i (row_count s) 0 (bodies s) (omega arith))))
-  where
-    or_none : (t : Bool) → t ≡ (t || false)
-    or_none true = refl
-    or_none false = refl
+    sym (sym (or-false (list_any (is_of kind) (take i (settings_from s (row_count s) 0 (bodies s))))) ∙ (rw e at (before_more s kind i (row_count s) 0 (bodies s) (omega arith))))
 
 pub ruleset kinds = (kind_unknown, number_back, kind_known)

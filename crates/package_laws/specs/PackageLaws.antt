@@ -7,8 +7,8 @@ use mathlib.Core.List.Memᴰ
 use mathlib.Core.List.{List, [], ◌∷◌, ◌++◌, map, reverse, reverse_aux, reverse-reverse, Memᴰ}
 use Rattle.base.specs.Choose.{choose}
 use Rattle.base.specs.Bytes.{same, same_refl, same_sound}
-use Rattle.base.specs.Tests.{both_ways, bool_cases, and_left, and_right, or_cases, or_left, or_right}
-use Rattle.base.specs.Lists.{any, all_of, Every}
+use Rattle.base.specs.Tests.{both_ways, bool_cases, and_left, and_right, or_cases, or_left, or_right, and_false}
+use Rattle.base.specs.Lists.{any, all_of, Every, every_left}
 use Rattle.base.proofs.BytesLaws.{same_turned}
 use Rattle.ident.specs.Ident.{to_snake}
 use Rattle.descriptor.specs.Descriptor.{Bytes, FileDescriptor}
@@ -17,7 +17,7 @@ use Rattle.name_rules.specs.FullNames.{package_scope}
 use Rattle.name_check.specs.NameCheck.{Place, PackageModule, modules_in, file_modules, same_module, each_once, package_modules, module_place, same_place, places_differ}
 use Rattle.paths_reach.specs.Dots.{DotFree, scope_of, path_of_scope, path_dot_free}
 use Rattle.paths_reach.specs.Homes.{Within, once_mem, mem_once, mem_all_of, of_all_of}
-use Rattle.paths_reach.specs.Targets.{every_left, every_reverse}
+use Rattle.paths_reach.specs.Targets.{every_reverse}
 use Rattle.package_names.specs.Packages.{file_segments, meets, some_meet}
 use Rattle.package_laws.specs.PlaceLaws.{any_map, any_all_of, places_meet}
 
@@ -205,15 +205,11 @@ clash_differs (x ∷ ms) {m} {n} j k c = go (Memᴰ.cases_cons j) (Memᴰ.cases_
     one : (y : PackageModule) → Memᴰ y ms → Clash x y → (not (any (same_place (module_place x)) (map module_place ms)) && places_differ (map module_place ms)) ≡ false
     one y b d = rw (any_there (same_place (module_place x)) (map module_place ms) (Memᴰ.map module_place b) (clash_place x y d)) refl
 
-    neither : (t : Bool) {d : Bool} → d ≡ false → (not t && d) ≡ false
-    neither true e = refl
-    neither false e = e
-
     go : (m ≡ x) ⊎ Memᴰ m ms → (n ≡ x) ⊎ Memᴰ n ms → (Memᴰ m ms → Memᴰ n ms → places_differ (map module_place ms) ≡ false) → (not (any (same_place (module_place x)) (map module_place ms)) && places_differ (map module_place ms)) ≡ false
     go (inl e) (inl f) rest = both_ways (same_refl x.segment) (ap₂ (λ (y z : PackageModule). same y.segment z.segment) (sym e) (sym f) ∙ c.segments)
     go (inl e) (inr b) rest = one n b (subst (λ (z : PackageModule). Clash z n) e c)
     go (inr a) (inl f) rest = one m a (clash_turned (subst (λ (z : PackageModule). Clash m z) f c))
-    go (inr a) (inr b) rest = neither (any (same_place (module_place x)) (map module_place ms)) (rest a b)
+    go (inr a) (inr b) rest = and_false (not (any (same_place (module_place x)) (map module_place ms))) _ (rest a b)
 
 differs_clash : (ms : List PackageModule) → places_differ (map module_place (each_once ms)) ≡ false → Clashing ms ms
 unfolding each_once choose places_differ

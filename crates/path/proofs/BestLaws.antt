@@ -20,7 +20,6 @@ use Rattle.path.specs.declared.Best.{Best}
 use Rattle.std.specs.Str.{bytes_eq}
 use Rattle.path.proofs.FormLaws.{Falls, behind_falls, before_falls}
 
--- by the two cases of a test
 -- ---- worths fall, from below w on, and stay above 0
 abbrev pub Below : ℕ → List Form → Type 0
 Below w [] = 0 < w

@@ -8,12 +8,11 @@ use native.Mathlib.Decide.{dec_lt}
 use lib.Dec.{eqb}
 use lib.ListN.{length, take, drop, get_or, length-drop}
 use lib.Seq.{take_all}
-use borrow.Author.Tests.{eqb-true, eqb-false}
 use Rattle.std.specs.Str.{bytes_eq}
 use Rattle.base.specs.Choose.{choose}
 use Rattle.base.specs.Bytes.{same, same_length}
 use Rattle.base.proofs.BytesLaws.{same_bytes}
-use Rattle.std.proofs.Math.Bool.{or-false, and-or_distrib_left}
+use Rattle.std.proofs.Math.Bool.{or-false, and-or_distrib_left, and-true}
 use Rattle.path.specs.Forms.{behind_dots, before_dots, filled, suffixes, prefixes, among}
 
 -- ---- lengths fall, from below n on
@@ -118,25 +117,12 @@ swap false q r = sym (and-false q)
 prefix_at : (s x : List ℕ) → length x < length s → among x (before_dots s) ≡ (eqb (get_or s (length x) 0) 46 && same x (take (length x) s))
 unfolding before_dots same
 prefix_at [] x h = absurd (omega arith)
-prefix_at (c ∷ s) [] h = among_tail c (eqb c 46) (before_dots s) ∙ and_true (eqb c 46)
-  where
-    and_true : (t : Bool) → t ≡ (t && true)
-    and_true true = refl
-    and_true false = refl
+prefix_at (c ∷ s) [] h = among_tail c (eqb c 46) (before_dots s) ∙ sym (and-true (eqb c 46))
 prefix_at (c ∷ s) (d ∷ x) h =
     among_cons c d (eqb c 46) x (before_dots s) ∙ ap (λ (t : Bool). eqb d c && t) (prefix_at s x (omega arith))
     ∙ swap (eqb d c) (eqb (get_or s (length x) 0) 46) (same x (take (length x) s))
 
 -- ---- what the code tests
-pub eqb_turned : (a c : ℕ) → eqb a c ≡ eqb c a
-eqb_turned a c = on (eqb a c) (eqb c a) (eqb-true a c) (eqb-false a c) (eqb-true c a) (eqb-false c a)
-  where
-    on : (t u : Bool) → (t ≡ true → a ≡ c) → (t ≡ false → a ≡ c → ⊥) → (u ≡ true → c ≡ a) → (u ≡ false → c ≡ a → ⊥) → t ≡ u
-    on true true f g p q = refl
-    on true false f g p q = absurd (q refl (sym (f refl)))
-    on false true f g p q = absurd (g refl (sym (p refl)))
-    on false false f g p q = refl
-
 module _ (s x : List ℕ) where
   pub suffix_empty : length x ≡ 0 → among x (suffixes s) ≡ false
   unfolding suffixes

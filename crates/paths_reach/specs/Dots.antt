@@ -1,5 +1,5 @@
 -- Full names, and the names between their dots. Assumes nothing.
-use Rattle.std.specs.Prelude.{ℕ, ◌≡◌, refl, Bool, true, false, ◌||◌, eqb, drop}
+use Rattle.std.specs.Prelude.{ℕ, ◌≡◌, refl, Bool, true, false, eqb, drop}
 use Rattle.std.proofs.Common.{ap, sym, ◌∙◌, eqb-true}
 use Rattle.std.proofs.Math.Bool.{and-true}
 use Rattle.std.proofs.Math.Option.{Option, some, none}
@@ -7,7 +7,7 @@ use mathlib.Core.List.{List, [], ◌∷◌, ◌++◌, reverse, reverse_aux, reve
 use Rattle.base.specs.Bytes.{b}
 use Rattle.base.specs.Choose.{choose}
 use Rattle.base.specs.Lists.{Every}
-use Rattle.base.specs.Tests.{both_ways, and_left, and_right}
+use Rattle.base.specs.Tests.{both_ways, and_left, and_right, or_right}
 use Rattle.ident.proofs.NameLaws.{part_no_dot}
 use Rattle.heck.specs.Case.{is_digit}
 use Rattle.ident.specs.Name.{name_start, name_part, every, is_name}
@@ -39,11 +39,7 @@ pub name_no_dot : (s : Bytes) → is_name s ≡ true → DotFree s
 unfolding is_name name_part
 name_no_dot [] h = tt
 name_no_dot (c ∷ s) h =
-    (part_no_dot c (start_part (is_digit c) (name_start c) (and_left (name_start c) (every name_part s) h)), every_no_dot s (and_right (name_start c) (every name_part s) h))
-  where
-    start_part : (d t : Bool) → t ≡ true → (d || t) ≡ true
-    start_part true t e = refl
-    start_part false t e = e
+    (part_no_dot c (or_right (is_digit c) (and_left (name_start c) (every name_part s) h)), every_no_dot s (and_right (name_start c) (every name_part s) h))
 
 -- ---- splitting
 pub split_cons : (c : ℕ) (s : Bytes) → split (b ".") (c ∷ s) ≡ choose (eqb c 46) ([] ∷ split (b ".") s) (push c (split (b ".") s))

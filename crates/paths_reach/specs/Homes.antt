@@ -3,7 +3,7 @@ use Rattle.std.specs.Prelude.{◌≡◌, Bool, true, false, not, ◌⊎◌}
 use Rattle.std.proofs.Math.Path.{refl}
 use Rattle.std.proofs.Common.{ap, sym, ◌∙◌, subst, inl, inr, ⊎_elim}
 use mathlib.Core.List.Memᴰ
-use mathlib.Core.List.{List, [], ◌∷◌, ◌++◌, map, reverse, Memᴰ}
+use mathlib.Core.List.{List, [], ◌∷◌, ◌++◌, map, reverse, Memᴰ, map-append, map-map}
 use Rattle.std.proofs.lemmas.Bool.{not-true}
 use Rattle.base.specs.Choose.{choose, choose_case}
 use Rattle.base.specs.Bytes.{same, same_refl, same_sound}
@@ -20,7 +20,7 @@ use Rattle.text_sights.proofs.TextReads.{set_sights_are}
 use Rattle.paths_reach.specs.Reach.{world}
 use Rattle.paths_reach.specs.Apart.{Apart, apart_nil, apart_cons, apart_head, apart_tail}
 use Rattle.paths_reach.specs.Dots.{scope_of, Dotted, empty, dotted_more, scope_of_names}
-use Rattle.paths_reach.specs.Written.{Named, item_of, place_in, module_named, file_nameds, map_append, map_map, places_of_file}
+use Rattle.paths_reach.specs.Written.{Named, item_of, place_in, module_named, file_nameds, places_of_file}
 use Rattle.paths_reach.specs.Seen.{items_append}
 use Rattle.paths_reach.specs.Nodes.{items_of_file}
 
@@ -103,12 +103,12 @@ module _ (rs : List Setting) (set : List FileDescriptor) where
   places_of_files : (fs : List FileDescriptor) → map place_in (all_of (file_nameds rs) fs) ≡ all_of (file_places rs) fs
   unfolding all_of
   places_of_files [] = refl
-  places_of_files (f ∷ fs) = map_append place_in (file_nameds rs f) (all_of (file_nameds rs) fs) ∙ rw (places_of_file rs f, places_of_files fs) refl
+  places_of_files (f ∷ fs) = map-append place_in (file_nameds rs f) (all_of (file_nameds rs) fs) ∙ rw (places_of_file rs f, places_of_files fs) refl
 
   places_are : map place_in whole ≡ places rs set
   unfolding whole places package_modules
   places_are =
-      map_append place_in (map package_named (package_modules set)) (all_of (file_nameds rs) set)
+      map-append place_in (map package_named (package_modules set)) (all_of (file_nameds rs) set)
       ∙ rw (places_of_modules (each_once (all_of file_modules set)) (dotted_once (all_of file_modules set) (dotted_files set)), places_of_files set) refl
 
   items_of_files : (fs : List FileDescriptor) → items (all_of (written_sights rs set) fs) ≡ map item_of (all_of (file_nameds rs) fs)
@@ -116,12 +116,12 @@ module _ (rs : List Setting) (set : List FileDescriptor) where
   items_of_files [] = refl
   items_of_files (f ∷ fs) =
       items_append (written_sights rs set f) (all_of (written_sights rs set) fs)
-      ∙ rw (items_of_file rs set f, items_of_files fs, map_append item_of (file_nameds rs f) (all_of (file_nameds rs) fs)) refl
+      ∙ rw (items_of_file rs set f, items_of_files fs, map-append item_of (file_nameds rs f) (all_of (file_nameds rs) fs)) refl
 
   pub world_is : world rs set ≡ map item_of whole
   unfolding whole world
   world_is =
-      rw (set_sights_are rs set, items_of_files set, map_append item_of (map package_named (package_modules set)) (all_of (file_nameds rs) set), map_map item_of package_named (package_modules set)) refl
+      rw (set_sights_are rs set, items_of_files set, map-append item_of (map package_named (package_modules set)) (all_of (file_nameds rs) set), map-map item_of package_named (package_modules set)) refl
 
 -- ---- the name check
 abbrev SamePlace : Place → Place → Type 0

@@ -5,7 +5,7 @@ use Rattle.std.proofs.Common.{ap₂, sym, ◌∙◌, subst}
 use Rattle.std.proofs.Math.Bool.{false}
 use Rattle.std.proofs.Math.Option.{Option, some, none}
 use mathlib.Core.List.Memᴰ
-use mathlib.Core.List.{List, [], ◌∷◌, ◌++◌, map, Memᴰ}
+use mathlib.Core.List.{List, [], ◌∷◌, ◌++◌, map, Memᴰ, map-append}
 use Rattle.base.specs.Choose.{choose, choose_case}
 use Rattle.base.specs.Tests.{or_false_left, or_false_right}
 use Rattle.base.specs.Lists.{Every, every_append, every_of, every_to, all_of}
@@ -24,7 +24,7 @@ use Rattle.code_generator.specs.Generate.{has_module, is_proto3}
 use Rattle.sights.specs.Sights.{Item, Use, Sight, an_item, Frame, in_module, in_declaration, module_at, place_of, file_place, items}
 use Rattle.text_sights.specs.Written.{field_or_map_sights, oneof_field_sights, variant_sights, struct_item, oneof_item, enum_item, struct_sights, oneof_sights, enum_sights, message_sights, written_sights}
 use Rattle.paths_reach.specs.Dots.{scope_of, scope_of_names, dotted_package}
-use Rattle.paths_reach.specs.Written.{item_of, type_named, oneof_named, enum_nameds, module_nameds, node_nameds, message_nameds, package_names, file_nameds, map_append, map_choose, choose_not}
+use Rattle.paths_reach.specs.Written.{item_of, type_named, oneof_named, enum_nameds, module_nameds, node_nameds, message_nameds, package_names, file_nameds, map_choose, choose_not}
 use Rattle.paths_reach.specs.Seen.{Fine, only_fine, no_items, items_append, every_mem, FieldPath, FieldPaths, OneofPath, only_members, only_variants}
 
 -- a message: home has the names of the module around it, the innermost first
@@ -61,7 +61,7 @@ module _ (rs : List Setting) (base : List Bytes) (set : List FileDescriptor) whe
       let here = an_item (enum_item rs base fs (scope_of (text e.name ∷ h)) e) ∷ [] in
       let named = type_named h (text e.name) ∷ [] in
       items_append (choose (not cover) here []) (all_of (enum_sights rs base fs (scope_of h)) es)
-      ∙ rw (items_choose (not cover) here [], choose_not cover (items here) [], items_of_enums h fs stands es, map_append item_of (choose cover [] named) (enum_nameds rs h es), map_choose item_of cover [] named, stands) refl
+      ∙ rw (items_choose (not cover) here [], choose_not cover (items here) [], items_of_enums h fs stands es, map-append item_of (choose cover [] named) (enum_nameds rs h es), map_choose item_of cover [] named, stands) refl
 
   items_of_oneofs : (h : List Bytes) (fs : List Frame) → place_of base fs ≡ map to_snake h → (xs : List OneofField)
       → items (all_of (oneof_sights rs base set fs (scope_of h)) xs) ≡ map item_of (map (oneof_named h) xs)
@@ -107,12 +107,12 @@ module _ (rs : List Setting) (base : List Bytes) (set : List FileDescriptor) whe
         let os = map (oneof_named full) (oneof_fields m nested) in
         let deep : items (inner ++ (enums ++ oneofs)) ≡ map item_of (names ++ (es ++ os)) =
         items_append inner (enums ++ oneofs)
-        ∙ rw (items_append enums oneofs, items_of_messages full inside within nested, items_of_enums full inside within m.enums, items_of_oneofs full inside within (oneof_fields m nested), map_append item_of names (es ++ os), map_append item_of es os) refl in
+        ∙ rw (items_append enums oneofs, items_of_messages full inside within nested, items_of_enums full inside within m.enums, items_of_oneofs full inside within (oneof_fields m nested), map-append item_of names (es ++ os), map-append item_of es os) refl in
         let here : items (struct ++ choose (has_module m nested) module_sights []) ≡ map item_of (node_nameds rs h m nested names) =
         items_append struct (choose (has_module m nested) module_sights [])
         ∙ rw (items_of_struct h fs stands m nested, items_choose (has_module m nested) module_sights [], deep, map_choose item_of (has_module m nested) (module_nameds rs h m nested names) [], stands) refl in
         items_append (choose (not left_out) (struct ++ choose (has_module m nested) module_sights []) []) (message_sights rs base set proto3 fs (scope_of h) following)
-        ∙ rw (items_choose (not left_out) (struct ++ choose (has_module m nested) module_sights []) [], choose_not left_out (items (struct ++ choose (has_module m nested) module_sights [])) [], here, items_of_messages h fs stands following, map_append item_of (choose left_out [] (node_nameds rs h m nested names)) (message_nameds rs h following), map_choose item_of left_out [] (node_nameds rs h m nested names)) refl
+        ∙ rw (items_choose (not left_out) (struct ++ choose (has_module m nested) module_sights []) [], choose_not left_out (items (struct ++ choose (has_module m nested) module_sights [])) [], here, items_of_messages h fs stands following, map-append item_of (choose left_out [] (node_nameds rs h m nested names)) (message_nameds rs h following), map_choose item_of left_out [] (node_nameds rs h m nested names)) refl
 
 -- what is seen in the text of a file
 pub items_of_file : (rs : List Setting) (set : List FileDescriptor) (f : FileDescriptor) → items (written_sights rs set f) ≡ map item_of (file_nameds rs f)
@@ -126,7 +126,7 @@ items_of_file rs set f =
     ∙ ap₂ (λ (x y : List Item). x ++ y)
     (ap (λ (s : Bytes). items (message_sights rs (file_place f) set proto3 [] s f.messages)) (sym named) ∙ items_of_messages rs (file_place f) set proto3 h [] refl f.messages)
     (ap (λ (s : Bytes). items (all_of (enum_sights rs (file_place f) [] s) f.enums)) (sym named) ∙ items_of_enums rs (file_place f) set h [] refl f.enums)
-    ∙ sym (map_append item_of (message_nameds rs h f.messages) (enum_nameds rs h f.enums))
+    ∙ sym (map-append item_of (message_nameds rs h f.messages) (enum_nameds rs h f.enums))
 
 -- ---- its paths
 module _ (rs : List Setting) (base : List Bytes) (P : Use → Type 0) where

@@ -3,26 +3,18 @@ use Rattle.std.specs.Prelude.{◌≡◌, refl, true}
 use Rattle.std.proofs.Common.{ap, sym, ◌∙◌, subst, ⊎_elim}
 use Rattle.std.proofs.Math.Option.{Option}
 use mathlib.Core.List.Memᴰ
-use mathlib.Core.List.{List, [], ◌∷◌, ◌++◌, map, reverse_aux, Memᴰ}
-use Rattle.base.specs.Lists.{Every}
+use mathlib.Core.List.{List, [], ◌∷◌, map, reverse_aux, Memᴰ, map-append}
+use Rattle.base.specs.Lists.{Every, every_left, every_right}
 use Rattle.descriptor.specs.Descriptor.{Bytes, Forest, done, node, preorder, MessageDescriptor, FileDescriptor}
 use Rattle.name_rules.specs.Accessors.{text}
 use Rattle.name_rules.specs.FullNames.{package_scope, Entry, entries, set_entries}
 use Rattle.name_rules.specs.WellFormed.{Named as HasName, GoodMessage, GoodEntry, WellFormed}
 use Rattle.code_generator.specs.Resolve.{local_path}
 use Rattle.paths_reach.specs.Dots.{DotFree, name_no_dot, scope_of, scope_of_names, dotted_package, path_dot_free}
-use Rattle.paths_reach.specs.Written.{package_names, map_append}
+use Rattle.paths_reach.specs.Written.{package_names}
 use Rattle.paths_reach.specs.Nodes.{Node, names_of, nodes, file_nodes}
 
 -- ---- lists
-pub every_left : {A : Type 0} (P : A → Type 0) (xs ys : List A) → Every P (xs ++ ys) → Every P xs
-every_left P [] ys p = tt
-every_left P (x ∷ xs) ys p = (p.0, every_left P xs ys p.1)
-
-pub every_right : {A : Type 0} (P : A → Type 0) (xs ys : List A) → Every P (xs ++ ys) → Every P ys
-every_right P [] ys p = p
-every_right P (x ∷ xs) ys p = every_right P xs ys p.1
-
 pub every_reverse : {A : Type 0} (P : A → Type 0) (xs ys : List A) → Every P xs → Every P ys → Every P (reverse_aux xs ys)
 every_reverse P [] ys p q = q
 every_reverse P (x ∷ xs) ys p q = every_reverse P xs (x ∷ ys) p.1 (p.0, q)
@@ -68,7 +60,7 @@ entries_are h done = refl
 entries_are h (node m nested following) =
     let full = text m.name ∷ h in
     ap {B = List Entry} (λ (l : List Entry). record { full = scope_of full; message = m } ∷ l)
-    (rw (entries_are full nested, entries_are h following) (sym (map_append entry_of (nodes full nested) (nodes h following))))
+    (rw (entries_are full nested, entries_are h following) (sym (map-append entry_of (nodes full nested) (nodes h following))))
 
 pub file_entries_are : (f : FileDescriptor) → entries (package_scope f.package_name) f.messages ≡ map entry_of (file_nodes f)
 file_entries_are f = ap (λ (s : Bytes). entries s f.messages) (sym (scope_of_names (dotted_package f.package_name))) ∙ entries_are (package_names f) f.messages

@@ -7,7 +7,7 @@ use Rattle.std.proofs.Math.Logic.{⊎_elim}
 use mathlib.Core.List.Memᴰ
 use mathlib.Core.List.{List, [], ◌∷◌, ◌++◌, map, Memᴰ}
 use Rattle.base.specs.Choose.{choose}
-use Rattle.base.specs.Tests.{both_ways, or_left, or_right, not_implied}
+use Rattle.base.specs.Tests.{both_ways, or_left, or_right, not_implied, or_false}
 use Rattle.base.specs.Lists.{is_empty}
 use Rattle.descriptor.specs.Descriptor.{Bytes, Forest, done, node, EnumDescriptor, MessageDescriptor}
 use Rattle.options.specs.Settings.{Setting}
@@ -72,9 +72,6 @@ module _ (rs : List Setting) where
   chosen_in true e w = w
   chosen_in false e w = both_ways e refl
 
-  neither : (a c : Bool) → a ≡ false → c ≡ false → (a || c) ≡ false
-  neither a c p q = rw (p, q) refl
-
   pub node_there : (h : List Bytes) (ms : Forest MessageDescriptor) → Childless ms → (n : Node) → Memᴰ n (nodes h ms) → n.message.map_entry ≡ false → taken rs (scope_of (names_of n)) ≡ false
       → Within (all_of_node rs n) (message_nameds rs h ms)
   unfolding nodes message_nameds
@@ -87,7 +84,7 @@ module _ (rs : List Setting) where
       ⊎_elim
       (λ q y k.
       Memᴰ.append_left (message_nameds rs h following)
-      (chosen_out left_out (neither m.map_entry (taken rs (scope_of full)) (subst (λ (z : Node). z.message.map_entry ≡ false) q e) (subst (λ (z : Node). taken rs (scope_of (names_of z)) ≡ false) q t)) (λ z l. l) y
+      (chosen_out left_out (or_false (subst (λ (z : Node). z.message.map_entry ≡ false) q e) (subst (λ (z : Node). taken rs (scope_of (names_of z)) ≡ false) q t)) (λ z l. l) y
       (subst (λ (z : Node). Memᴰ y (all_of_node rs z)) q k)))
       (λ j.
       ⊎_elim
@@ -96,7 +93,7 @@ module _ (rs : List Setting) where
       let rest = enum_nameds rs full m.enums ++ map (oneof_named full) (oneof_fields m nested) in
       let has : has_module m nested ≡ true = or_right (not (is_empty m.enums)) (or_left (not (is_empty (oneof_fields m nested))) (nested_types full nested c.1.0 n l e)) in
       Memᴰ.append_left (message_nameds rs h following)
-      (chosen_out left_out (neither m.map_entry (taken rs (scope_of full)) (no_entry_around m nested c.0 full n l) (not_implied (λ q. taken_nodes rs (text m.name) h nested q n l) t)) (λ z p. p) y
+      (chosen_out left_out (or_false (no_entry_around m nested c.0 full n l) (not_implied (λ q. taken_nodes rs (text m.name) h nested q n l) t)) (λ z p. p) y
       (Memᴰ.tail (chosen_in (has_module m nested) has (λ z p. p) y (Memᴰ.tail (Memᴰ.append_left rest deep))))))
       (λ l y k. Memᴰ.append_right here (node_there h following c.1.1 n l e t y k))
       (Memᴰ.append_cases (nodes full nested) j))

@@ -2,9 +2,9 @@
 -- Assumes nothing.
 use Rattle.std.specs.Prelude.{◌≡◌, Bool, true, false, ◌||◌, not}
 use Rattle.std.proofs.Math.Path.{refl}
-use Rattle.std.proofs.Common.{ap, ◌∙◌}
+use Rattle.std.proofs.Common.{◌∙◌}
 use Rattle.std.proofs.Math.Option.{Option, some, none}
-use mathlib.Core.List.{List, [], ◌∷◌, ◌++◌, map, reverse}
+use mathlib.Core.List.{List, [], ◌∷◌, ◌++◌, map, reverse, map-append, map-map}
 use Rattle.base.specs.Choose.{choose}
 use Rattle.ident.specs.Ident.{to_snake, to_upper_camel}
 use Rattle.descriptor.specs.Descriptor.{Bytes, Forest, done, node, EnumDescriptor, MessageDescriptor, FileDescriptor}
@@ -83,10 +83,6 @@ module _ (rs : List Setting) where
   file_nameds f = message_nameds (package_names f) f.messages ++ enum_nameds (package_names f) f.enums
 
 -- ---- lists
-pub map_append : {A B : Type 0} (f : A → B) (xs ys : List A) → map f (xs ++ ys) ≡ map f xs ++ map f ys
-map_append f [] ys = refl
-map_append {A} {B} f (x ∷ xs) ys = ap {B = List B} (λ (l : List B). f x ∷ l) (map_append f xs ys)
-
 pub map_choose : {A B : Type 0} (f : A → B) (c : Bool) (xs ys : List A) → map f (choose c xs ys) ≡ choose c (map f xs) (map f ys)
 unfolding choose
 map_choose f true xs ys = refl
@@ -97,17 +93,13 @@ unfolding choose
 choose_not true x y = refl
 choose_not false x y = refl
 
-pub map_map : {A B C : Type 0} (g : B → C) (f : A → B) (xs : List A) → map g (map f xs) ≡ map (λ (x : A). g (f x)) xs
-map_map g f [] = refl
-map_map {C = C} g f (x ∷ xs) = ap {B = List C} (λ (l : List C). g (f x) ∷ l) (map_map g f xs)
-
 -- ---- the name check's places
 module _ (rs : List Setting) where
   places_of_enums : (h : List Bytes) (es : List EnumDescriptor) → map place_in (enum_nameds rs h es) ≡ enum_places rs (scope_of h) es
   unfolding enum_places
   places_of_enums h [] = refl
   places_of_enums h (e ∷ es) =
-      map_append place_in (choose (taken rs (scope_of (text e.name ∷ h))) [] (type_named h (text e.name) ∷ [])) (enum_nameds rs h es)
+      map-append place_in (choose (taken rs (scope_of (text e.name ∷ h))) [] (type_named h (text e.name) ∷ [])) (enum_nameds rs h es)
       ∙ rw (map_choose place_in (taken rs (scope_of (text e.name ∷ h))) [] (type_named h (text e.name) ∷ []), places_of_enums h es) refl
 
   places_of_messages : (h : List Bytes) (ms : Forest MessageDescriptor) → map place_in (message_nameds rs h ms) ≡ message_places rs (scope_of h) ms
@@ -119,13 +111,13 @@ module _ (rs : List Setting) where
       let es = enum_nameds rs full m.enums in
       let os = map (oneof_named full) (oneof_fields m nested) in
       let inside : map place_in (inner ++ (es ++ os)) ≡ message_places rs (scope_of full) nested ++ (enum_places rs (scope_of full) m.enums ++ oneof_places (scope_of full) (oneof_fields m nested)) =
-      map_append place_in inner (es ++ os)
-      ∙ rw (map_append place_in es os, places_of_messages full nested, places_of_enums full m.enums, map_map place_in (oneof_named full) (oneof_fields m nested)) refl in
-      map_append place_in (choose (m.map_entry || taken rs (scope_of full)) [] (node_nameds rs h m nested inner)) (message_nameds rs h following)
+      map-append place_in inner (es ++ os)
+      ∙ rw (map-append place_in es os, places_of_messages full nested, places_of_enums full m.enums, map-map place_in (oneof_named full) (oneof_fields m nested)) refl in
+      map-append place_in (choose (m.map_entry || taken rs (scope_of full)) [] (node_nameds rs h m nested inner)) (message_nameds rs h following)
       ∙ rw (map_choose place_in (m.map_entry || taken rs (scope_of full)) [] (node_nameds rs h m nested inner), map_choose place_in (has_module m nested) (module_nameds rs h m nested inner) [], inside, places_of_messages h following) refl
 
   pub places_of_file : (f : FileDescriptor) → map place_in (file_nameds rs f) ≡ file_places rs f
   unfolding file_nameds file_places
   places_of_file f =
-      map_append place_in (message_nameds rs (package_names f) f.messages) (enum_nameds rs (package_names f) f.enums)
+      map-append place_in (message_nameds rs (package_names f) f.messages) (enum_nameds rs (package_names f) f.enums)
       ∙ rw (places_of_messages (package_names f) f.messages, places_of_enums (package_names f) f.enums, scope_of_names (dotted_package f.package_name)) refl

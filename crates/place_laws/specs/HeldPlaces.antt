@@ -5,7 +5,7 @@ use Rattle.std.proofs.Math.Option.{Option, some, none}
 use mathlib.Core.List.{List, [], ◌∷◌, ◌++◌}
 use Rattle.base.specs.Bytes.{b}
 use Rattle.base.specs.Choose.{choose, choose_case}
-use Rattle.base.specs.Lists.{is_empty, Every, every_append, every_to}
+use Rattle.base.specs.Lists.{is_empty, Every, every_append, every_to, every_left, every_right}
 use Rattle.base.specs.Tests.{and_left, and_right}
 use Rattle.writer.specs.Text.{pick}
 use Rattle.heck.specs.Case.{between}
@@ -24,7 +24,6 @@ use Rattle.name_rules.specs.WellFormed.{Name, Named, GoodEnum, GoodMessage, Well
 use Rattle.path_fits.specs.PathsFit.{max_short_name, max_scope, EnumFits, OneofFits, PathsFit, FileFits}
 use Rattle.code_generator.specs.Oneofs.{fields_at, OneofField, meets, oneofs_from, oneof_fields}
 use Rattle.code_generator.specs.Generate.{has_module}
-use Rattle.text_laws.proofs.SaysLaws.{every_left, every_right}
 use Rattle.name_check.specs.NameCheck.{Place, oneof_places, enum_places, message_places, file_places}
 use Rattle.name_rows.proofs.RowLaws.{Plain, every_plain, written_plain, Holds}
 

@@ -12,11 +12,10 @@ use lib.ListN.{length, take, drop, get_or, length-drop, drop_of_length-le}
 use lib.Seq.{drop-cons, drop-drop, take-length}
 use Rattle.base.specs.Choose.{choose, choose_case}
 use Rattle.base.specs.Tests.{both_ways, and_right, by_test}
-use Rattle.base.proofs.BytesLaws.{same_bytes}
+use Rattle.base.proofs.BytesLaws.{same_bytes, eqb_turned}
 use Rattle.std.specs.Str.{bytes_eq}
 use Rattle.std.specs.List.{list_any}
 use Rattle.path.specs.Forms.{among}
-pub use Rattle.path.proofs.FormLaws.{eqb_turned}
 use Rattle.split.specs.Split.{begins, push, split_behind, split, first_part, parts_left}
 use Rattle.std.proofs.Common.{Option, Some, None, Bor, inl, inr, ◌⊎◌, cond, unwrap_or}
 use Rattle.std.proofs.lemmas.List.Recursion.{is_position_or_len}

@@ -12,7 +12,7 @@ use Rattle.std.proofs.Math.Decide.{ℕ_discrete}
 use Rattle.base.specs.Choose.{choose, choose_case}
 use Rattle.base.specs.Lists.{any, is_empty, Every, map_length}
 use Rattle.base.specs.Tests.{bool_cases, both_ways, or_false_left, or_false_right}
-use Rattle.split.proofs.SplitLaws.{eqb_turned}
+use Rattle.base.proofs.BytesLaws.{eqb_turned}
 use Rattle.descriptor.specs.Descriptor.{Bytes, Forest, FieldDescriptor, MessageDescriptor}
 use Rattle.descriptor.specs.Decode.{entries, parts, decode_field, decode_message}
 use Rattle.descriptor.specs.Seen.{option_seen}

@@ -7,7 +7,7 @@ use Rattle.std.proofs.Math.Bool.{◌||◌, not}
 use mathlib.Core.List.{List, [], ◌∷◌, map}
 use Rattle.std.proofs.Math.Dec.{eqb-suc-zero}
 use Rattle.base.specs.Bytes.{same}
-use Rattle.base.specs.Lists.{any, is_empty, Every, map_length}
+use Rattle.base.specs.Lists.{any, is_empty, Every, map_length, empty_map}
 use Rattle.ident.specs.Ident.{to_upper_camel}
 use Rattle.descriptor.specs.Descriptor.{Bytes, Forest, done, node, MessageDescriptor}
 use Rattle.descriptor.specs.Decode.{entries, parts, decode_field, decode_oneof, decode_enum, decode_message, decode_messages}
@@ -77,10 +77,6 @@ module _ (name : Bytes) (whole : cut_camel name ≡ to_upper_camel name) where
 
 -- ---- a message's module
 
-empty_map : {A B : Type 0} (g : A → B) (xs : List A) → is_empty xs ≡ is_empty (map g xs)
-empty_map g [] = refl
-empty_map g (x ∷ xs) = refl
-
 module _ (rs : List Setting) (set : List ℕ) (messages : List MessageRow) (t : List FieldRow) (full : Bytes) (left i : ℕ) (p : Bytes) (s : Siblings (MessageFits full) (decode_messages left (parts 3 (entries p))))
     (has : MessageIs rs set messages t full (decode_message p) (decode_messages left (parts 3 (entries p))) i) where
   nested_types : (not (eqb left 0) && any (λ (q : Bytes). not (is_entry q)) (parts 3 (entries p))) ≡ has_nested_types (decode_messages left (parts 3 (entries p)))
@@ -98,4 +94,4 @@ module _ (rs : List Setting) (set : List ℕ) (messages : List MessageRow) (t : 
 
   pub module_is : module_for messages t (not (eqb left 0)) i p ≡ has_module (decode_message p) (decode_messages left (parts 3 (entries p)))
   unfolding module_for decode_message
-  module_is = ap₂ ◌||◌ (ap not (empty_map decode_enum (parts 4 (entries p)))) (ap₂ ◌||◌ nested_types in_oneofs_are)
+  module_is = ap₂ ◌||◌ (ap not (sym (empty_map decode_enum (parts 4 (entries p))))) (ap₂ ◌||◌ nested_types in_oneofs_are)

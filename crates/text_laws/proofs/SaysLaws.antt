@@ -1,11 +1,11 @@
 -- Tables that say what they should describe every message of a set. Assumes nothing.
 use Prim.Native.Nat.{ℕ, suc, ◌+◌}
-use Rattle.std.specs.Prelude.{◌≡◌, refl, Bool, true, false, List, [], ◌∷◌, ◌++◌, length}
+use Rattle.std.specs.Prelude.{◌≡◌, refl, Bool, true, false, List, [], ◌∷◌, length}
 use Rattle.std.proofs.Common.{sym, ap, subst}
 use Rattle.std.proofs.Math.Option.{Option, some, none}
 use native.Mathlib.Omega.{arith}
 use Rattle.base.specs.Choose.{choose}
-use Rattle.base.specs.Lists.{Every, every_to}
+use Rattle.base.specs.Lists.{Every, every_to, every_left, every_right}
 use Rattle.base.specs.Tests.{both_ways}
 use Rattle.descriptor.specs.Descriptor.{Bytes, Forest, done, node, preorder, FieldDescriptor, MessageDescriptor}
 use Rattle.descriptor.specs.Decode.{decode_set}
@@ -32,15 +32,6 @@ from_places P k (f ∷ fs) h = (
   subst (λ (n : ℕ). P n f) (let e : k + 0 ≡ k = omega arith in e) (h f 0 (first refl)),
   from_places P (suc k) fs (λ g j p. subst (λ (n : ℕ). P n g) (let e : k + suc j ≡ suc k + j = omega arith in e) (h g (suc j) (next p))),
 )
-
-module _ {A : Type 0} (P : A → Type 0) where
-  pub every_left : (xs ys : List A) → Every P (xs ++ ys) → Every P xs
-  every_left [] ys h = tt
-  every_left (x ∷ xs) ys h = (h.0, every_left xs ys h.1)
-
-  pub every_right : (xs ys : List A) → Every P (xs ++ ys) → Every P ys
-  every_right [] ys h = h
-  every_right (x ∷ xs) ys h = every_right xs ys h.1
 
 -- ---- a oneof's index is below the count of oneofs (refusal 6)
 

@@ -1,7 +1,7 @@
 -- What holds of a set without refusal 7: full names differ, and each type name is declared once, with its sort. Assumes nothing.
 use mathlib.Core.Path.{◌≡◌, refl, sym, ap, ◌∙◌}
 use mathlib.Core.Bool.{Bool, true, false, ◌&&◌, ◌||◌}
-use mathlib.Core.List.{List, [], ◌∷◌, ◌++◌, map, append-nil}
+use mathlib.Core.List.{List, [], ◌∷◌, ◌++◌, map, append-nil, map-append}
 use Prim.Native.Nat.{ℕ, suc, ◌+◌, ◌<◌}
 use native.Mathlib.Omega.{arith}
 use lib.ListN.{length, get_or}
@@ -28,10 +28,6 @@ all_at p (x ∷ xs) f ys h = all_at p xs f ys (and_right (p x) (all p (xs ++ (f 
 abbrev message_declaration : Entry → Declaration
 message_declaration e = record { full = e.full; is_enumeration = false }
 
-map_append : (es fs : List Entry) → map message_declaration (es ++ fs) ≡ map message_declaration es ++ map message_declaration fs
-map_append [] fs = refl
-map_append (e ∷ es) fs = ap (λ (l : List Declaration). message_declaration e ∷ l) (map_append es fs)
-
 enums_only : (scope : Bytes) (es : List EnumDescriptor) → messages_only (enum_declarations scope es) ≡ []
 unfolding messages_only choose
 enums_only scope [] = refl
@@ -52,7 +48,7 @@ set_only (f ∷ fs) =
     let ds : List Declaration = enum_declarations (package_scope f.package_name) f.enums in
     messages_append (entry_declarations es ++ ds) (set_declarations fs)
     ∙ rw (messages_append (entry_declarations es) ds, enums_only (package_scope f.package_name) f.enums, entries_only es, set_only fs, append-nil (map message_declaration es))
-    (sym (map_append es (set_entries fs)))
+    (sym (map-append message_declaration es (set_entries fs)))
 
 abbrev pub full_names : List Entry → List Bytes
 full_names = map (λ (e : Entry). e.full)

@@ -6,7 +6,7 @@ use Rattle.std.proofs.Common.{sym, ◌∙◌}
 use Rattle.std.proofs.Math.Bool.{true, false, not}
 use Rattle.std.proofs.Math.Option.{Option, some, none}
 use mathlib.Core.List.Memᴰ
-use mathlib.Core.List.{List, [], ◌∷◌, ◌++◌, map, append-nil, Memᴰ}
+use mathlib.Core.List.{List, [], ◌∷◌, ◌++◌, map, append-nil, Memᴰ, map-append}
 use Rattle.std.proofs.lemmas.Bool.{not-true}
 use Rattle.base.specs.Choose.{choose, choose_case}
 use Rattle.base.specs.Tests.{both_ways, and_left, and_right, or_false_left, or_false_right}
@@ -32,7 +32,7 @@ use Rattle.text_sights.specs.Written.{names_struct, names_enum, label_of, in_sha
 use Rattle.text_sights.proofs.TextReads.{set_sights_are}
 use Rattle.paths_reach.specs.Reach.{those}
 use Rattle.paths_reach.specs.Dots.{scope_of, scope_of_names, dotted_package}
-use Rattle.paths_reach.specs.Written.{package_names, map_append}
+use Rattle.paths_reach.specs.Written.{package_names}
 use Rattle.paths_reach.specs.Nodes.{Node, names_of, nodes}
 use Rattle.paths_reach.proofs.PathsReach.{plain_mem, at_mem, oneof_at}
 use Rattle.walks_end.specs.Walks.{group_free}
@@ -84,8 +84,8 @@ module _ (p : Owned → Bool) where
   ◌then◌ {ss} {ts} {os} {us} x y = record {
     is =
         ap (map boxed_field) (boxes_append ss ts)
-        ∙ map_append boxed_field (boxes ss) (boxes ts)
-        ∙ rw (x.is, y.is) (sym (map_append some (those p os) (those p us)))
+        ∙ map-append boxed_field (boxes ss) (boxes ts)
+        ∙ rw (x.is, y.is) (sym (map-append some (those p os) (those p us)))
         ∙ ap (map some) (sym (those_append p os us));
   }
 

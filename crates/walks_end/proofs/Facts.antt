@@ -61,7 +61,7 @@ entry_linked (d ∷ es) e i f j is =
     (λ k. Memᴰ.append_right (field_links d.full d.message.fields) (entry_linked es e k f j is))
     (Memᴰ.cases_cons i)
 
-file_entries_in : (set : List FileDescriptor) (f : FileDescriptor) → Memᴰ f set → (e : Entry) → Memᴰ e (entries (package_scope f.package_name) f.messages) → Memᴰ e (set_entries set)
+pub file_entries_in : (set : List FileDescriptor) (f : FileDescriptor) → Memᴰ f set → (e : Entry) → Memᴰ e (entries (package_scope f.package_name) f.messages) → Memᴰ e (set_entries set)
 unfolding set_entries
 file_entries_in [] f i e j = absurd (Memᴰ.not-nil i)
 file_entries_in (g ∷ fs) f i e j =

@@ -10,6 +10,7 @@ use mathlib.Core.List.{List, [], ◌∷◌, ◌++◌, Memᴰ}
 use Rattle.base.specs.Choose.{choose, choose_case}
 use Rattle.base.specs.Tests.{both_ways}
 use Rattle.base.specs.Lists.{Every, every_append, every_of, all_of, is_empty}
+use Rattle.walks_end.proofs.Facts.{file_entries_in}
 use Rattle.syntax.specs.Syntax.{syntax_of}
 use Rattle.descriptor.specs.Descriptor.{Bytes, Forest, done, node, FieldDescriptor, EnumDescriptor, MessageDescriptor, FileDescriptor}
 use Rattle.options.specs.Settings.{Setting}
@@ -63,13 +64,6 @@ named_at m nested k (n ∷ ns) x i = go (is_empty (fields_at k m.fields)) i (λ 
     go false i rest =
         ⊎_elim (λ e. let z : k ≡ k + 0 = omega arith in (0, ap (λ (o : OneofField). o.fields) e ∙ ap (λ (z : ℕ). fields_at z m.fields) z, ap (λ (o : OneofField). o.name) e)) (λ l. later (rest l))
         (Memᴰ.cases_cons i)
-
-file_entries : (fs : List FileDescriptor) (f : FileDescriptor) → Memᴰ f fs → (e : Entry) → Memᴰ e (entries (package_scope f.package_name) f.messages) → Memᴰ e (set_entries fs)
-unfolding set_entries
-file_entries [] f i e m = absurd (Memᴰ.not-nil i)
-file_entries (g ∷ fs) f i e m =
-    ⊎_elim (λ q. Memᴰ.append_left (set_entries fs) (subst (λ (z : FileDescriptor). Memᴰ e (entries (package_scope z.package_name) z.messages)) q m))
-    (λ j. Memᴰ.append_right (entries (package_scope g.package_name) g.messages) (file_entries fs f j e m)) (Memᴰ.cases_cons i)
 
 abbrev Well : List FileDescriptor → Sight → Type 0
 Well set (an_item i) = Unit
@@ -210,5 +204,5 @@ boxes_labelled rs set =
     (λ f i.
     let scope = package_scope f.package_name in
     let proto3 = is_proto3 (syntax_of f.syntax) in
-    every_append (Well set) (message_sights rs (file_place f) set proto3 [] scope f.messages) (all_of (enum_sights rs (file_place f) [] scope) f.enums) (well_messages rs (file_place f) set proto3 [] scope f.messages (file_entries set f i))
+    every_append (Well set) (message_sights rs (file_place f) set proto3 [] scope f.messages) (all_of (enum_sights rs (file_place f) [] scope) f.enums) (well_messages rs (file_place f) set proto3 [] scope f.messages (file_entries_in set f i))
     (well_enums rs (file_place f) set [] scope f.enums)))))

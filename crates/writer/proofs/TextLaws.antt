@@ -17,7 +17,7 @@ pub stored : (d : Draft) (p v : List ℕ) (n : ℕ) → v ≡ sets d.buffer d.le
 unfolding extended
 stored d p v n e f = rw (e, f)
 
--- nothing is written behind so many bytes
+-- a draft as long as texts are counted to stays as it is
 pub full : (d : Draft) (p : List ℕ) → most ≤ d.length → extended d p ≡ d
 full d p h =
     let z : 0 ≡ most - d.length = omega arith in

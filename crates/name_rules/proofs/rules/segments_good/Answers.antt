@@ -5,7 +5,7 @@ use Rattle.std.specs.Prelude.{eqb}
 use Rattle.std.specs.List.{list_all}
 use Rattle.base.specs.Lists.{all}
 use Rattle.name_rules.specs.Rules.{good_name}
-use Rattle.name_rules.proofs.SegmentLaws.{segments_are}
+use Rattle.descriptor.proofs.SegmentLaws.{segments_are}
 use Rattle.name_rules.proofs.rules.segments_good.Goals as goal
 
 pub returns : goal.returns
