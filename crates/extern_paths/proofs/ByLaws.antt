@@ -1,8 +1,8 @@
 -- What is written by one extern path, and by one of prost types. Assumes nothing.
-use mathlib.Core.Path.{◌≡◌, refl, sym, ap, ◌∙◌}
+use mathlib.Core.Path.{◌≡◌, refl, sym, ◌∙◌}
 use mathlib.Core.Bool.{Bool, true, false}
-use mathlib.Core.List.{List, [], ◌∷◌, ◌++◌, map}
-use Prim.Native.Nat.{ℕ, zero, suc, min, ◌+◌, ◌-◌, ◌<◌, ◌≤◌}
+use mathlib.Core.List.{List, [], ◌∷◌, ◌++◌}
+use Prim.Native.Nat.{ℕ, zero, suc, min, ◌+◌, ◌-◌, ◌<◌}
 use native.Mathlib.Omega.{arith}
 use lib.ListN.{length, take, drop, get_or, length-drop}
 use lib.Seq.{take_all}
@@ -35,18 +35,7 @@ pub tail_none : is_tail [] ≡ true
 unfolding is_tail
 tail_none = refl
 
--- ---- a prost type by its number
-pub type_here : {A B : Type 0} (f : A → B) (xs : List A) (j : ℕ) (z : B) (x : A) → j < length xs → x ≡ get_or xs j x → f x ≡ get_or (map f xs) j z
-type_here f [] j z x h e = absurd (omega arith)
-type_here f (y ∷ xs) zero z x h e = ap f e
-type_here f (y ∷ xs) (suc j) z x h e = type_here f xs j z x (omega arith) e
-
-pub type_past : {A B : Type 0} (f : A → B) (xs : List A) (j : ℕ) (z : B) → length xs ≤ j → z ≡ get_or (map f xs) j z
-type_past f [] j z h = refl
-type_past f (y ∷ xs) zero z h = absurd (omega arith)
-type_past f (y ∷ xs) (suc j) z h = type_past f xs j z (omega arith)
-
--- what follows the prost path, type by type
+-- ---- what follows the prost path, type by type
 abbrev pub tails : List (List ℕ)
 tails = [] ∷ [] ∷ b "::alloc::vec::Vec<u8>" ∷ [] ∷ [] ∷ [] ∷ [] ∷ [] ∷ b "::alloc::string::String" ∷ [] ∷ [] ∷ []
 

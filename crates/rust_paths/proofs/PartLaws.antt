@@ -90,10 +90,6 @@ path_first s x xs e = rw e (join_led (written (first_segment x)) (map written (m
 pub no_part : (s : List ℕ) → split (b "::") s ≡ [] → ⊥
 no_part s e = let p = split_is (b "::") s (omega arith) in cc
 
-pub empty_tail : (p q : List ℕ) → length q ≡ 0 → p ≡ p ++ q
-empty_tail p [] h = sym (append-nil p)
-empty_tail p (c ∷ q) h = absurd (omega arith)
-
 -- ---- is a text empty, or a `::` first in it?
 pub tail_empty : (q : List ℕ) → length q ≡ 0 → is_tail q ≡ true
 unfolding is_tail

@@ -6,7 +6,7 @@ use Prim.Native.Nat.{ℕ, ◌-◌, ◌^◌, ◌≤◌, ◌<◌, min}
 use native.Mathlib.Nat.{sub-zero}
 use native.Mathlib.Omega.{arith}
 use lib.Dec.{ltb}
-use lib.ListN.{length, take, drop, replicate, length-replicate}
+use lib.ListN.{length, take, drop, replicate}
 use lib.Seq.{length-take-le}
 use Rattle.base.specs.Choose.{choose_case, then_lt, else_lt}
 use Rattle.writer.specs.Draft.{Filled}
@@ -19,7 +19,7 @@ use Rattle.text_tables.specs.declared.FieldRow.{FieldRow}
 use Rattle.index.specs.Tree.{file_forests, IndexedFiles, fill, Holds, all_members}
 use Rattle.index.specs.declared.Row.{Row}
 use Rattle.message_graph.specs.declared.Field.{Field}
-use Rattle.message_graph.specs.Rows.{no_field, fields_of, settings_of}
+use Rattle.message_graph.specs.Rows.{fields_of, settings_of}
 use Rattle.field_columns.proofs.SetColumns.{map_tab}
 use Rattle.message_graph.specs.Tab.{tab}
 use Rattle.boxed_settings.specs.Flags.{set_flags}
@@ -62,16 +62,6 @@ module _ (set : List ℕ) where
   pub fresh_bytes : (most : ℕ) → most_fields set ≡ most → replicate most 0 ≡ zeros (most_fields set)
   unfolding zeros
   fresh_bytes most is = rw is
-
-  pub arrays_ready : (rows : List Row) (count : ℕ) → rows ≡ message_places set → count ≡ message_count set → (most : ℕ) → most_fields set ≡ most
-      → Ready set rows count (no_rows most) (replicate most no_field) (replicate most false)
-  arrays_ready rows count rows_are counted most is = record {
-    placed = rows_are;
-    counted = counted;
-    cleared = ap no_rows (sym is);
-    sized = length-replicate {A = Field} most no_field ∙ sym is;
-    boxes = length-replicate {A = Bool} most false ∙ sym is;
-  }
 
 -- ---- the boxed settings, and the types
 

@@ -63,9 +63,6 @@ module _ (bytes : List ℕ) (t : List Row) (i : ℕ) where
   left_end left = left.is
 
   module _ (j : ℕ) (left : Left (j + 1)) where
-    pub left_within : (i < 65536) × (j < 65536)
-    left_within = let a = left.few in let b = left.inside in (omega arith, omega arith)
-
     module _ (r : Bool) (r_is : r ≡ same_row bytes t i j) where
       opened : choose r true (before_by bytes t i j) ≡ declared_before bytes t i
       unfolding before_by

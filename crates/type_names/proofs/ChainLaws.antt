@@ -191,13 +191,6 @@ module _ (sums₀ : List ℕ) where
     staged = λ s small is. record { at = λ i h. ap (λ (l : List ℕ). get_or l i 0) is ∙ tab_at (length sums₀) s 0 i h ∙ rw (le-ltb i 0 (omega arith)) (let e : s i ≡ s i + 4294967296 * (0 + 65536 * 0) = omega arith in e) };
   }
 
-  pub linking_more : (n k : ℕ) (sums out : List ℕ) → Linking n sums k → k < n → Linked n k sums out → Linking n out (k + 1)
-  linking_more n k sums out p h linked = record {
-    within = omega arith;
-    size = linked.size ∙ p.size;
-    staged = λ s small is. linked.next s small (p.staged s small is);
-  }
-
   pub linking_all : (n k : ℕ) (sums : List ℕ) → n ≡ chained (length sums₀) → Linking n sums k → n ≤ k → Chained sums₀ sums
   unfolding cells
   linking_all n k sums n_is p h = record {

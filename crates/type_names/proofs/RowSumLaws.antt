@@ -117,9 +117,5 @@ module _ (bytes : List ℕ) (t : List Row) where
     full_apart i j few_i few_j inside apart =
         unlike (full bytes t (j + 1)) (full bytes t (i + 1)) (λ e. apart.other (sum_at j apart.inside few_j ∙ ap sum_of e ∙ sym (sum_at i inside few_i)))
 
--- the rows before one that has no checksum
-pub seeks_all : (bytes : List ℕ) (t : List Row) (row : ℕ) → Seeks bytes t None row (record { set = bytes; rows = t; sum = None; left = row })
-seeks_all bytes t row = record { set = refl; rows = refl; given_sum = refl; fewer = omega arith; others = λ sum is. record { other = λ j l h e. omega arith } }
-
 pub seeks_some : (bytes : List ℕ) (t : List Row) (sum row left : ℕ) → left ≤ row → Others bytes t sum left row → Seeks bytes t (Some sum) row (record { set = bytes; rows = t; sum = Some sum; left = left })
 seeks_some bytes t sum row left l others = record { set = refl; rows = refl; given_sum = refl; fewer = l; others = λ x is. rw is others }

@@ -5,7 +5,6 @@ use mathlib.Core.List.{List, [], ◌∷◌, ◌++◌, map, append_assoc}
 use Prim.Native.Nat.{ℕ, zero, suc, ◌+◌, ◌-◌, ◌≤◌, ◌<◌, min}
 use native.Mathlib.Omega.{arith}
 use lib.ListN.{length, take, drop, length-drop}
-use lib.Seq.{take_all}
 use Rattle.std.proofs.Common.{Bor, Option, Some, None, add-one}
 use Rattle.std.specs.Str.{bytes_eq}
 use Rattle.std.specs.Option.{MatchOption}
@@ -125,13 +124,6 @@ pub more_down : (t t₁ t₂ : Text) (x y : Bytes) (ys : List Bytes) → t₁ �
 more_down t t₁ t₂ x y ys e f = appended t t₂ _ _ _ (appended t t₁ t₂ _ _ e f) refl ∙ ap (λ (p : List ℕ). t ▻ p) (sym (through_cons x y ys))
 
 -- ---- the way
-pub dotless : (s : Bytes) → (length s ≡ 0 → ⊥) → take (length s - 1) (drop 1 s) ≡ drop 1 s
-dotless s n = take_all (length s - 1) (drop 1 s) (rw length-drop (omega arith))
-
-pub no_dot : (s : Bytes) → length s ≡ 0 → s ≡ drop 1 s
-no_dot [] n = refl
-no_dot (c ∷ s) n = absurd (omega arith)
-
 local_some : (s : Bytes) → (length s ≡ 0 → ⊥) → local_path s ≡ split (b ".") (drop 1 s)
 unfolding local_path
 local_some [] n = absurd (n refl)

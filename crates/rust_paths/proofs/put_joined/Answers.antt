@@ -2,13 +2,9 @@ use Rattle.std.proofs.Common.{rules, arith, ap, ◌∙◌, List, ℕ, ◌-◌, l
 use Rattle.base.specs.Bytes.{b}
 use Rattle.writer.specs.Writing.{◌▻◌}
 use Rattle.writer.proofs.TextLaws.{appended}
-use Rattle.rust_paths.specs.Parts.{path_text}
-use Rattle.rust_paths.proofs.PartLaws.{empty_tail, path_joined, rest_led}
+use Rattle.rust_paths.proofs.PartLaws.{path_joined, rest_led}
 use Rattle.rust_paths.proofs.CutLaws.{cut_is, cut_split, two_bytes}
 use Rattle.rust_paths.proofs.put_joined.Goals as goal
-
-pub returns-then-is_empty : goal.returns-then-is_empty
-returns-then-is_empty c = c.put_path.ensures ∙ ap (λ (p : List ℕ). c.args.text.now ▻ path_text p) (empty_tail _ _ (grind arith))
 
 pub slice_bounds-put_path-end : goal.slice_bounds-put_path-end
 slice_bounds-put_path-end c = let k = cut_is _ _ c.cut_at-end.ensures in search rules

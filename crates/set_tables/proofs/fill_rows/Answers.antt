@@ -1,9 +1,5 @@
-use mathlib.Core.Path.{refl}
 use Rattle.set_tables.proofs.FillLaws.{messages_filled, fields_filled}
 use Rattle.set_tables.proofs.fill_rows.Goals as goal
-
-pub fill_entries-requires : goal.fill_entries-requires
-fill_entries-requires c = record { entries_value = refl; entries_below = c.requires.entries_below }
 
 pub returns-clause-messages_after : goal.returns-clause-messages_after
 returns-clause-messages_after c = messages_filled _ _ _ _ _ _ c.fill_fields.ensures _ _ _ c.fill_rows.ensures.messages_after

@@ -1,6 +1,5 @@
-use mathlib.Core.Path.{refl}
 use native.Mathlib.Omega.{arith}
-use Rattle.message_graph.specs.Tab.{filled_none, filled_more, filled_all}
+use Rattle.message_graph.specs.Tab.{filled_none, filled_more}
 use Rattle.type_names.proofs.RowSumLaws.{filled_summed}
 use Rattle.type_names.proofs.sum_rows.Goals as goal
 
@@ -12,9 +11,3 @@ row_sum-requires c = filled_summed _ _ _ _ _ c.loop-i.invariant
 
 pub loop-i-preserved : goal.loop-i-preserved
 loop-i-preserved c = filled_more c.loop-i.invariant (omega (arith, c.loop-i.invariant.size)) c.row_sum.result c.row_sum.ensures
-
-pub shape_of-sums : goal.shape_of-sums
-shape_of-sums c = c.loop-i.invariant.size
-
-pub returns : goal.returns
-returns c = filled_all c.loop-i.invariant _ refl (omega (arith, c.loop-i.invariant.size))

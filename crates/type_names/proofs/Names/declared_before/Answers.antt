@@ -1,6 +1,6 @@
 use native.Mathlib.Omega.{arith}
 use Rattle.type_names.proofs.WalkLaws.{walk_start, walk_at, walk_on, walk_end}
-use Rattle.type_names.proofs.BeforeLaws.{past, left_start, left_skips, left_within, left_apart, left_found, left_more, left_end}
+use Rattle.type_names.proofs.BeforeLaws.{past, left_start, left_skips, left_apart, left_found, left_more, left_end}
 use Rattle.type_names.proofs.Names.declared_before.Goals as goal
 use Rattle.type_names.proofs.Names.declared_before.Goals.{else-not-rows_apart-via-then-not-rows_apart+else-row_same, else-not-rows_apart-via-else-not-rows_apart}
 
@@ -9,9 +9,6 @@ returns-then-row-gt65535 c = past _ _ _ c.if-row-gt65535.true
 
 pub loop-other-init : goal.loop-other-init
 loop-other-init c = rw c.into_iter-other-iterator.ensures.into_iter_gives (walk_start _ _ _ _ _ (left_skips _ _ _) c.likely_before-other-items.ensures.seeks c.likely_before-other-items.ensures.sum (left_start _ _ _ (omega (arith, c.if-row-gt65535.false))))
-
-pub row_same-requires : goal.row_same-requires
-row_same-requires c = left_within _ _ _ _ (walk_at _ _ _ _ _ _ c.loop-other.invariant c.in-Some.ensures.steps)
 
 pub returns-then-row_same : goal.returns-then-row_same
 returns-then-row_same c = left_found _ _ _ _ (walk_at _ _ _ _ _ _ c.loop-other.invariant c.in-Some.ensures.steps) _ c.row_same.ensures c.if-row_same.true

@@ -1,6 +1,6 @@
 use native.Mathlib.Omega.{arith}
 use Rattle.type_names.proofs.RowSumLaws.{name_apart}
-use Rattle.type_names.proofs.NamedLaws.{named_past, named_is, going_start, going_other, going_more, going_end}
+use Rattle.type_names.proofs.NamedLaws.{named_past, named_is, going_other, going_end}
 use Rattle.type_names.proofs.Names.is_named.Goals.{then-row-gt65535-via-then-row-gt65535, then-row-gt65535-via-else-row-gt65535+then-sums_apart}
 use Rattle.type_names.proofs.Names.is_named.Goals as goal
 
@@ -11,15 +11,9 @@ returns-then-row-gt65535 c =
       | then-row-gt65535-via-else-row-gt65535+then-sums_apart w ↦ λ is. name_apart _ _ _ c.args.self.now.summed _ _ _ is (w.sums_apart.ensures w.if-sums_apart.true)
     ]
 
-pub loop-i-init : goal.loop-i-init
-loop-i-init c = rw c.into_iter-i-iterator.ensures.into_iter_gives (going_start _ _ _ _ _ c.new-i-items.ensures.rows c.new-i-items.ensures.code)
-
 pub returns-in_default : goal.returns-in_default
 returns-in_default c =
     λ _. named_is _ _ _ _ (omega (arith, c.if-row-gt65535.false)) _ (going_other _ _ _ _ _ _ c.loop-i.invariant _ _ c.in-Some.ensures.steps c.in_default.ensures)
-
-pub loop-i-preserved : goal.loop-i-preserved
-loop-i-preserved c = going_more _ _ _ _ _ _ c.loop-i.invariant _ _ c.in-Some.ensures.steps _ c.in-Some-strip.ensures
 
 pub returns : goal.returns
 returns c = λ _. named_is _ _ _ _ (omega (arith, c.if-row-gt65535.false)) _ (going_end _ _ _ _ _ _ c.loop-i.invariant c.in-None.ensures.steps _ c.is_empty.ensures)

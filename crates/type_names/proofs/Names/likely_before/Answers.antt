@@ -1,10 +1,7 @@
 use Prim.Native.Nat.{ℕ, ◌%◌}
 use mathlib.Core.Path.{sym, ap, ◌∙◌}
-use Rattle.type_names.proofs.RowSumLaws.{seeks_all, seeks_some, sum_row}
+use Rattle.type_names.proofs.RowSumLaws.{seeks_some, sum_row}
 use Rattle.type_names.proofs.Names.likely_before.Goals as goal
-
-pub returns-in_default : goal.returns-in_default
-returns-in_default c = record { seeks = seeks_all _ _ _; sum = tt }
 
 pub returns : goal.returns
 returns c =
