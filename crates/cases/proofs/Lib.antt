@@ -1,2 +1,4 @@
 pub mod PackLaws
 pub mod CompareLaws
+pub mod LineLaws
+pub mod HexLaws

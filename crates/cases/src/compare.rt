@@ -1,11 +1,13 @@
 //! The comparison of answers with those recorded.
-ghost use Rattle.std.specs.Prelude.{◌≡◌, ◌-◌, ◌^◌, IfOk, Option, None, Some, length, min};
+ghost use Rattle.std.specs.Prelude.{◌≡◌, ◌-◌, ◌^◌, IfOk, Option, None, Some, true, false, length, map, min};
 ghost use Rattle.std.specs.Iterator.{Drains, IsFinite};
 ghost use Rattle.cases.specs.Compared.{Compared};
+ghost use Rattle.cases.specs.Lines.{lines};
 ghost use Rattle.cases.specs.Pack.{cases_in};
 
+use crate::lines::Lines;
 use crate::pack::{Case, Pack};
-use crate::tally::Tally;
+use crate::tally::{MOST, Tally};
 use std::fmt::Display;
 use std::io;
 use std::io::Write;
@@ -38,7 +40,30 @@ pub fn compare_all<
     Ok(tally)
 }
 
-/// Compares the cases of a pack, and prints the index of each that `holds` doesn't hold of, or that can't be read.
+/// Compares the lines of a list, and prints each that `holds` doesn't hold of, as its bytes are.
+// Not by `compare_all`: what is `Display` is text, and a line may be any bytes.
+pub fn compare_lines<W: Write, F: Fn(&[u8]) -> bool + Drop>(
+    out: &mut W,
+    list: &[u8],
+    holds: F,
+) -> io::Result<Tally>
+    requires callable { F.IsAlwaysCallable holds }
+    ensures { IfOk result (λ t. (all : _) × (map (λ line. line.now) all ≡ lines list.now) × Compared (λ line. F.post holds line true) (λ line. F.post holds line false) all t) }
+{
+    let mut tally = Tally::new();
+    for line in Lines::new(list) {
+        let same = holds(line);
+        tally.count(same);
+        if !same {
+            out.write_all(line)?;
+            out.write_all(b"\n")?;
+        }
+    }
+    Ok(tally)
+}
+
+/// Compares the cases of a pack, and prints the index of each that `holds` doesn't hold of, or that can't be read. An index over
+/// `MOST` is printed as `MOST`.
 pub fn compare_pack<W: Write, F: Fn(Case<'_>) -> bool + Drop>(
     out: &mut W,
     pack: &[u8],
@@ -49,6 +74,7 @@ pub fn compare_pack<W: Write, F: Fn(Case<'_>) -> bool + Drop>(
 {
     let cases = Pack::new(pack).enumerate();
     compare_all(out, cases, |(index, case)| {
-        (!matches!(case, Ok(case) if holds(case))).then_some(index)
+        // a cast: a `u64` has no `From` of a `usize`
+        (!matches!(case, Ok(case) if holds(case))).then_some((index as u64).min(MOST))
     })
 }

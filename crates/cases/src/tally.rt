@@ -1,9 +1,12 @@
 //! A tally of cases.
-ghost use Rattle.std.specs.Prelude.{◌≡◌, ◌+◌, ◌++◌, ◌≤◌, if◌then◌else◌, Some, codes, decimal};
-ghost use Rattle.cases.specs.Tally.{one_more};
+ghost use Rattle.std.specs.Prelude.{◌≡◌, ◌+◌, ◌++◌, ◌≤◌, if◌then◌else◌, Some, codes, decimal, min};
+ghost use Rattle.cases.specs.Tally.{one_more, sum_of};
 
 use std::fmt;
 use std::fmt::Display;
+
+/// The count of cases at which the programs that compare lists or packs stay, and the last index that they print.
+pub const MOST: u64 = 1_000_000;
 
 /// How many cases were compared, and how many of them differ; each stays at `u64::MAX` once it is there.
 #[derive(Clone, Copy, Debug, PartialEq, Eq)]
@@ -32,6 +35,28 @@ impl Tally {
         self.compared = self.compared.saturating_add(1);
         if !same {
             self.differ = self.differ.saturating_add(1);
+        }
+    }
+
+    /// The cases of both.
+    pub fn plus(self, other: Tally) -> Self
+        ensures compared { result.compared ≡ sum_of self.compared other.compared }
+        ensures differ { result.differ ≡ sum_of self.differ other.differ }
+    {
+        Tally {
+            compared: self.compared.saturating_add(other.compared),
+            differ: self.differ.saturating_add(other.differ),
+        }
+    }
+
+    /// The same, with counts that stay at `most`.
+    pub fn at_most(self, most: u64) -> Self
+        ensures compared { result.compared ≡ min self.compared most }
+        ensures differ { result.differ ≡ min self.differ most }
+    {
+        Tally {
+            compared: self.compared.min(most),
+            differ: self.differ.min(most),
         }
     }
 }

@@ -4,6 +4,8 @@
 //! oracle/graph_cases made these sets; what is to be printed of them is the Rust's answer, and of the large sets that of cases.py.
 #![tactic(auto)]
 
+ghost use Rattle.std.specs.Prelude.{◌≤◌, length, IfOk};
+
 use message_graph::{Field, Index, LABEL_REPEATED, MESSAGES, NO_FIELD, TYPE_GROUP, TYPE_MESSAGE};
 use std::io;
 use std::io::{Read, Write};
@@ -16,7 +18,10 @@ const LARGE: usize = MESSAGES * FIELDS;
 
 const SMALL: usize = 64;
 
-// How many sets the input has.
+// How many bytes a set of the input has.
+const SET: usize = 5 * SMALL;
+
+// How many sets the input has; what is behind them is not read.
 const SETS: usize = 250;
 
 // The other types of the sets, and their label, by descriptor.proto's numbers. The crate descriptor has the label alone, as a `u32`.
@@ -122,13 +127,17 @@ fn large<W: Write>(out: &mut W, set: LargeSet) -> io::Result<()> {
 
 // A digit for each of the first 64.
 fn put_digits<W: Write>(out: &mut W, flags: &[bool], end: &[u8]) -> io::Result<()> {
-    for flag in &flags[..SMALL.min(flags.len())] {
-        out.write_all(if *flag { b"1" } else { b"0" })?;
+    let mut line = [b'0'; SMALL];
+    for (digit, flag) in line.iter_mut().zip(flags) {
+        if *flag {
+            *digit = b'1';
+        }
     }
+    out.write_all(&line)?;
     out.write_all(end)
 }
 
-// The answers of one set of the input; of a set that is cut, what is missing is 0.
+// The answers of one set of the input.
 fn replay<W: Write>(out: &mut W, set: &[u8]) -> io::Result<()> {
     let column = |k: usize, i: usize| set.get(k * SMALL + i).copied().unwrap_or(0);
     let mut fields = [NO_FIELD; SMALL];
@@ -148,15 +157,49 @@ fn replay<W: Write>(out: &mut W, set: &[u8]) -> io::Result<()> {
     put_digits(out, &can.eq, b"\n")
 }
 
+// Reads until the buffer is full or the input ends, and returns how many bytes it read.
+fn read_full<R: Read>(input: &mut R, buffer: &mut [u8]) -> io::Result<usize>
+    ensures { IfOk result (λ n. n ≤ length buffer.new) }
+{
+    let mut n = 0;
+    while n < buffer.len() {
+        let k = input.read(&mut buffer[n..])?;
+        if k == 0 {
+            break;
+        }
+        n += k;
+    }
+    Ok(n)
+}
+
+// The next set of the input, if there is one; of a set that is cut, what is missing is 0. It is read column by column.
+fn read_set<R: Read>(input: &mut R) -> io::Result<Option<[u8; SET]>> {
+    let mut set = [0u8; SET];
+    let (first, others) = set.split_at_mut(SMALL);
+    if read_full(input, first)? == 0 {
+        return Ok(None);
+    }
+    for column in others.chunks_mut(SMALL) {
+        read_full(input, column)?;
+    }
+    Ok(Some(set))
+}
+
+// Each set is answered before the next is read.
+fn replay_all<R: Read, W: Write>(input: &mut R, out: &mut W) -> io::Result<()> {
+    for _ in 0..SETS {
+        let Some(set) = read_set(input)? else {
+            break;
+        };
+        replay(out, &set)?;
+    }
+    Ok(())
+}
+
 fn main(rt: HostRuntime) -> io::Result<()> {
     let mut out = io::writer(&rt);
     for set in LARGE_SETS {
         large(&mut out, set)?;
     }
-    let mut input = Vec::new(rt.alloc());
-    rt.reader().read_to_end(&mut input)?;
-    for set in input.chunks(5 * SMALL).take(SETS) {
-        replay(&mut out, set)?;
-    }
-    Ok(())
+    replay_all(&mut rt.reader(), &mut out)
 }

@@ -1,17 +1,52 @@
 //! Runs the recorded conversions and compares: ident.txt has a name, its snake and its camel name on each line, strip.txt a
-//! prefix, a name and what strip_enum_prefix gives. A line that differs is printed.
+//! prefix, a name and what strip_enum_prefix gives.
 #![tactic(auto)]
 
+ghost use Rattle.std.specs.Prelude.{◌-◌, ◌≤◌, length};
+ghost use Rattle.std.specs.Iterator.{at_most};
+
+use cases::Tally;
 use ident::text::{fill_snake, fill_upper_camel, put_stripped};
 use std::rt::Files;
 use std::{fs, io};
 use writer::Text;
 
-/// The three words of a line.
-fn words(line: &str) -> Option<(&[u8], &[u8], &[u8])> {
-    let (first, rest) = line.split_once(' ')?;
-    let (second, third) = rest.split_once(' ')?;
-    Some((first.as_bytes(), second.as_bytes(), third.as_bytes()))
+/// The cases that are left, of three words each.
+#[derive(Drop)]
+struct Cases<'a> {
+    bytes: &'a [u8],
+}
+
+/// The first word, which a space, a newline or the end ends, and what is behind it.
+fn split_word(bytes: &[u8]) -> (&[u8], &[u8])
+    ensures { length result.1.now ≤ length bytes.now - 1 }
+{
+    let end = bytes.iter().position(|byte| matches!(byte, b' ' | b'\n'));
+    let (word, rest) = bytes.split_at(end.unwrap_or(bytes.len()));
+    (word, rest.get(1..).unwrap_or_default())
+}
+
+// A line end is like a space: a fourth word of a line begins the next case, and words that are missing come from the next line.
+impl<'a> Iterator for Cases<'a> {
+    type Item = (&'a [u8], &'a [u8], &'a [u8]);
+
+    ghost remaining = { λ s. at_most (length s.bytes.now) };
+
+    fn next(&mut self) -> Option<Self::Item> {
+        if self.bytes.is_empty() {
+            return None;
+        }
+        let (first, rest) = split_word(self.bytes);
+        let (second, rest) = split_word(rest);
+        let (third, rest) = split_word(rest);
+        self.bytes = rest;
+        Some((first, second, third))
+    }
+}
+
+/// Is this the text, as far as the buffer has it?
+fn is_text(buffer: &[u8], length: usize, want: &[u8]) -> bool {
+    &buffer[..length.min(buffer.len())] == want
 }
 
 /// Is this what `fill` writes?
@@ -19,8 +54,8 @@ fn is_written<F: Fn(&mut [u8]) -> usize>(want: &[u8], fill: F) -> bool
     requires { F.IsAlwaysCallable fill }
 {
     let mut buffer = [0u8; 256];
-    let end = fill(&mut buffer);
-    buffer.get(..end) == Some(want)
+    let length = fill(&mut buffer);
+    is_text(&buffer, length, want)
 }
 
 // A text is begun, written and measured: over a closure that is no shorter.
@@ -35,35 +70,33 @@ fn is_converted(name: &[u8], snake: &[u8], camel: &[u8]) -> bool {
     // the call itself, whose answer has a number and lengths, as the C interface
     let converted = ident::convert(name);
     converted.number != 0
-        || converted.snake.get(..converted.snakelen) == Some(snake)
-            && converted.camel.get(..converted.camellen) == Some(camel)
+        || is_text(&converted.snake, converted.snakelen, snake)
+            && is_text(&converted.camel, converted.camellen, camel)
 }
 
-fn names_are(line: &str) -> bool {
-    words(line).is_some_and(|(name, snake, camel)| {
-        is_written(snake, |buffer| fill_snake(buffer, name))
-            && is_written(camel, |buffer| fill_upper_camel(buffer, name))
-            && is_converted(name, snake, camel)
-    })
+fn names_are(name: &[u8], snake: &[u8], camel: &[u8]) -> bool {
+    is_written(snake, |buffer| fill_snake(buffer, name))
+        && is_written(camel, |buffer| fill_upper_camel(buffer, name))
+        && is_converted(name, snake, camel)
 }
 
-fn is_stripped(line: &str) -> bool {
-    words(line).is_some_and(|(prefix, name, stripped)| {
-        is_written(stripped, |buffer| fill_stripped(buffer, prefix, name))
-    })
+fn is_stripped(prefix: &[u8], name: &[u8], stripped: &[u8]) -> bool {
+    is_written(stripped, |buffer| fill_stripped(buffer, prefix, name))
 }
 
-fn run<F: Fn(&str) -> bool + Drop>(
+// Not by `cases::compare_all`, which prints the cases that differ.
+fn run<F: Fn(&[u8], &[u8], &[u8]) -> bool + Drop>(
     rt: &(impl Files + Alloc + Print),
     path: &str,
     holds: F,
 ) -> io::Result<()>
     requires { F.IsAlwaysCallable holds }
 {
-    let list = fs::read_to_string(rt, path)?;
-    let tally = cases::compare_all(&mut io::writer(rt), list.lines(), |line| {
-        (!holds(line)).then_some(line)
-    })?;
+    let list = fs::read(rt, path)?;
+    let mut tally = Tally::new();
+    for (first, second, third) in (Cases { bytes: &list }) {
+        tally.count(holds(first, second, third));
+    }
     println!(rt; "{tally}")
 }
 

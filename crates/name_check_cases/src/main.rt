@@ -25,5 +25,5 @@ fn holds(case: Case<'_>) -> bool {
 fn main(rt: HostRuntime) -> io::Result<()> {
     let pack = fs::read(&rt, "cases.bin")?;
     let tally = cases::compare_pack(&mut io::writer(&rt), &pack, holds)?;
-    println!(rt; "{tally}")
+    println!(rt; "{}", tally.at_most(cases::MOST))
 }

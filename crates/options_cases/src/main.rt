@@ -1,13 +1,12 @@
 //! Compares what options give with recorded and written answers. A line of a list has four parts, separated by tabs: what is
-//! asked, options in hex, a name, and the answer. Asked are: `o` number and place of refusal 1 or 2; `p` the row of kind 5 that
-//! a path finds first, and the values of all that it finds; `e` what extern paths make of a full name. A line that differs is printed.
+//! asked, options in hex, a name, and the answer; one that is missing is empty. Asked are, by the line's first byte: `o` number and
+//! place of refusal 1 or 2; `p` the row of kind 5 that a path finds first, and the values of all that it finds; any other: what extern
+//! paths make of a full name. Of options 4,608 bytes at most are read. A line that differs is printed.
 #![tactic(auto)]
 
 use base::refusal::{Refusal, Returned};
 use options::{Kind, Options};
 use path::Values;
-use std::alloc::{AllocError, Global};
-use std::io::Write;
 use std::rt::Files;
 use std::{fs, io};
 use writer::Text;
@@ -17,72 +16,75 @@ fn check(options: &[u8]) -> Result<(), Refusal> {
     extern_checks::check(&Options::new(options))
 }
 
-/// The values of all rows that a path finds, with commas between them.
-fn put_values(text: &mut Vec<u8>, options: &Options<'_>, path: &[u8]) -> Result<(), AllocError> {
-    let mut values = Values::new(options, Kind::TypeAttribute, path);
-    if let Some(first) = values.next() {
-        text.extend_from_slice(first)?;
+/// Writes a number; one over `u32::MAX` as `u32::MAX`.
+fn put_count(text: &mut Text<'_>, count: usize) {
+    text.put_number(u32::try_from(count).unwrap_or(u32::MAX));
+}
+
+/// Number and place of refusal 1 or 2.
+fn put_refusal(text: &mut Text<'_>, options: &[u8]) {
+    let returned = Returned::from(check(options).map(|()| 0));
+    text.put_number(returned.number);
+    text.put(b" ");
+    put_count(text, returned.place);
+}
+
+/// The values of all rows that a path finds, with a comma before each that stands behind something.
+fn put_values(text: &mut Text<'_>, options: &Options<'_>, path: &[u8]) {
+    let start = text.length;
+    for value in Values::new(options, Kind::TypeAttribute, path) {
+        text.put_if(text.length > start, b",");
+        text.put(value);
     }
-    for value in values {
-        text.push(b',')?;
-        text.extend_from_slice(value)?;
-    }
-    Ok(())
 }
 
 /// The first row that a path finds, and the values of all.
-fn put_found(text: &mut Vec<u8>, options: &Options<'_>, path: &[u8]) -> io::Result<()> {
+fn put_found(text: &mut Text<'_>, options: &Options<'_>, path: &[u8]) {
     let Some(first) = path::get_first(options, Kind::TypeAttribute, path) else {
-        return text.write_all(b"- -");
+        return text.put(b"- -");
     };
-    write!(text, "{first} ")?;
-    put_values(text, options, path)?;
-    Ok(())
+    put_count(text, first);
+    text.put(b" ");
+    put_values(text, options, path);
 }
 
 /// What extern paths make of a full name.
-fn put_extern(text: &mut Vec<u8>, options: &Options<'_>, name: &[u8]) -> io::Result<()> {
+fn put_extern(text: &mut Text<'_>, options: &Options<'_>, name: &[u8]) {
     if extern_checks::check(options).is_err() {
-        return text.write_all(b"refused");
+        return text.put(b"refused");
     }
     if !extern_paths::resolve::takes(options, name) {
-        return text.write_all(b"-");
+        return text.put(b"-");
     }
-    let mut buffer = [0u8; 4096];
-    let mut written = Text::new(&mut buffer);
-    extern_paths::resolve::resolve_ident(&mut written, options, name);
-    let end = written.length;
-    text.write_all(buffer.get(..end).unwrap_or(b"too long"))
+    extern_paths::resolve::resolve_ident(text, options, name);
 }
 
-fn put_answer(text: &mut Vec<u8>, asked: &str, options: &[u8], name: &[u8]) -> io::Result<()> {
+fn put_answer(text: &mut Text<'_>, asked: Option<&u8>, options: &[u8], name: &[u8]) {
     match asked {
-        "o" => {
-            let returned = Returned::from(check(options).map(|()| 0));
-            write!(text, "{} {}", returned.number, returned.place)
-        }
-        "p" => put_found(text, &Options::new(options), name),
+        Some(b'o') => put_refusal(text, options),
+        Some(b'p') => put_found(text, &Options::new(options), name),
         _ => put_extern(text, &Options::new(options), name),
     }
 }
 
-fn holds(alloc: Global, line: &str) -> Option<bool> {
-    let (asked, rest) = line.split_once('\t')?;
-    let (options, rest) = rest.split_once('\t')?;
-    let (name, answer) = rest.split_once('\t')?;
-    let options = hex::decode(alloc, options).ok()?;
-    let mut text = Vec::new(alloc);
-    put_answer(&mut text, asked, &options, name.as_bytes()).ok()?;
-    Some(text.as_slice() == answer.as_bytes())
+fn holds(line: &[u8]) -> bool {
+    let mut parts = line.splitn(4, |byte| *byte == b'\t').skip(1);
+    let options = parts.next().unwrap_or(&[]);
+    let name = parts.next().unwrap_or(&[]);
+    let answer = parts.next().unwrap_or(&[]);
+    let mut room = [0u8; 4608];
+    let options = cases::decode_hex(options, &mut room);
+    let mut buffer = [0u8; 4096];
+    let mut text = Text::new(&mut buffer);
+    put_answer(&mut text, line.first(), options, name);
+    let end = text.length;
+    buffer.get(..end) == Some(answer)
 }
 
 fn run(rt: &(impl Files + AllocGlobal + Print), path: &str) -> io::Result<()> {
-    let alloc = rt.alloc();
-    let list = fs::read_to_string(rt, path)?;
-    let tally = cases::compare_all(&mut io::writer(rt), list.lines(), |line| {
-        (holds(alloc, line) != Some(true)).then_some(line)
-    })?;
-    println!(rt; "{tally}")
+    let list = fs::read(rt, path)?;
+    let tally = cases::compare_lines(&mut io::writer(rt), &list, holds)?;
+    println!(rt; "{}", tally.at_most(cases::MOST))
 }
 
 fn main(rt: HostRuntime) -> io::Result<()> {

@@ -35,13 +35,14 @@ struct Cases<'a> {
     bytes: &'a [u8],
 }
 
-/// A 32-bit length at the front, and what is behind it.
+/// The 32-bit length at the front, cut to 24 bits, as no part of a case is longer, and what is behind it.
 fn split_length(bytes: &[u8]) -> Option<(usize, &[u8])>
     ensures { IfSome result (λ r. length r.1.now < length bytes.now) }
 {
-    let (length, rest) = bytes.split_first_chunk::<4>()?;
+    let ([low, middle, high, _], rest) = bytes.split_first_chunk::<4>()?;
+    let length = u32::from_le_bytes([*low, *middle, *high, 0]);
     // a cast: a `usize` has 64 bits, so nothing is lost, and it has no `From` of a `u32`
-    Some((u32::from_le_bytes(*length) as usize, rest))
+    Some((length as usize, rest))
 }
 
 /// The first n bytes, or as many as there are, and the rest.

@@ -4,19 +4,24 @@
 //! 1, a, b: the b bytes that follow are added to the set a times;
 //! 2, a, b, c: the first a bytes of the set have refusal b at place c (0 and 0: none);
 //! 3, a, b, c, d: with the byte b at a, the set has refusal c at place d.
-//! The number of a command whose answer differs is printed.
+//! The number of a command whose answer differs is printed. What is missing of a last command that is cut short is 0.
 #![tactic(auto)]
 
-ghost use Rattle.std.specs.Prelude.{length};
+ghost use Rattle.std.specs.Prelude.{◌<◌, length, IfSome};
 ghost use Rattle.std.specs.Iterator.{at_most};
 
 use base::refusal::Returned;
 use cases::Tally;
-use std::alloc::{AllocError, Global};
 use std::io::Write;
 use std::{fs, io};
 
-/// What is done to the set, or asked of it. An answer without a refusal has number and place 0.
+/// How many bytes of a set are kept.
+const ROOM: usize = 40960;
+
+/// How many bytes a command has, without those that it adds.
+const HEAD: usize = 10;
+
+/// What is done to the set, or asked of it. An answer without a refusal has number 0, at any place.
 #[derive(Clone, Copy)]
 enum Command<'a> {
     New,
@@ -47,8 +52,8 @@ impl<'a> Iterator for Commands<'a> {
     ghost remaining = { λ s. at_most (length s.bytes.now) };
 
     fn next(&mut self) -> Option<Command<'a>> {
-        let (head, rest) = self.bytes.split_first_chunk::<10>()?;
-        let [kind, a, b, c, d] = words_of(head);
+        let (head, rest) = split_head(self.bytes)?;
+        let [kind, a, b, c, d] = words_of(&head);
         let added = if kind == 1 { usize::from(b) } else { 0 };
         let (bytes, rest) = rest.split_at(added.min(rest.len()));
         self.bytes = rest;
@@ -74,13 +79,48 @@ impl<'a> Iterator for Commands<'a> {
     }
 }
 
-fn words_of(head: &[u8; 10]) -> [u16; 5] {
+/// The head of the first command, 0 where it is cut short, and what is behind it.
+fn split_head(bytes: &[u8]) -> Option<([u8; HEAD], &[u8])>
+    ensures { IfSome result (λ r. length r.1.now < length bytes.now) }
+{
+    if bytes.is_empty() {
+        return None;
+    }
+    let (front, rest) = bytes.split_at(HEAD.min(bytes.len()));
+    let mut head = [0u8; HEAD];
+    head[..front.len()].copy_from_slice(front);
+    Some((head, rest))
+}
+
+fn words_of(head: &[u8; HEAD]) -> [u16; 5] {
     let word = |k: usize| u16::from_le_bytes([head[k], head[k + 1]]);
     [word(0), word(2), word(4), word(6), word(8)]
 }
 
-fn answer_of(set: &[u8]) -> Returned {
-    limits::read_set(set).map(|()| 0).into()
+/// The set that the commands make. `len` counts the bytes too that are not kept.
+#[derive(Drop)]
+struct Set {
+    kept: [u8; ROOM],
+    len: usize,
+}
+
+impl Set {
+    /// Adds the bytes, and keeps those for which there is room.
+    fn add(&mut self, bytes: &[u8]) {
+        if let Some(room) = self.kept.get_mut(self.len..) {
+            let n = bytes.len().min(room.len());
+            room[..n].copy_from_slice(&bytes[..n]);
+        }
+        self.len = self.len.saturating_add(bytes.len());
+    }
+}
+
+/// Is this the set's answer?
+fn is_answered(set: &[u8], answer: Returned) -> bool {
+    match limits::read_set(set) {
+        Ok(()) => answer.number == 0,
+        Err(refusal) => Returned::from(Err(refusal)) == answer,
+    }
 }
 
 /// Is this the answer of the set with that byte? The set stays as it is.
@@ -91,39 +131,43 @@ fn answers_changed(set: &mut [u8], at: usize, byte: u8, answer: Returned) -> boo
     }
     let old = set[at];
     set[at] = byte;
-    let same = answer_of(set) == answer;
+    let same = is_answered(set, answer);
     set[at] = old;
     same
 }
 
 /// Carries a command out. Where it asks something, the result says whether the answer is the recorded one.
-fn apply(set: &mut Vec<u8>, command: Command<'_>) -> Result<Option<bool>, AllocError> {
+fn apply(set: &mut Set, command: Command<'_>) -> Option<bool> {
     match command {
         Command::New => {
-            set.clear();
-            Ok(None)
+            set.len = 0;
+            None
         }
         Command::Add { bytes, times } => {
             for _ in 0..times {
-                set.extend_from_slice(bytes)?;
+                set.add(bytes);
             }
-            Ok(None)
+            None
         }
-        Command::Ask { len, answer } => Ok(Some(
-            set.get(..len).is_some_and(|set| answer_of(set) == answer),
-        )),
+        Command::Ask { len, answer } => {
+            Some(len <= set.len && is_answered(&set.kept[..len.min(ROOM)], answer))
+        }
         Command::AskChanged { at, byte, answer } => {
-            Ok(Some(answers_changed(set, at, byte, answer)))
+            let kept = set.len.min(ROOM);
+            Some(answers_changed(&mut set.kept[..kept], at, byte, answer))
         }
     }
 }
 
 // Not by `cases::compare_all`, which takes an `Fn`: a command changes the set.
-fn compare<W: Write>(out: &mut W, alloc: Global, bytes: &[u8]) -> io::Result<Tally> {
-    let mut set = Vec::new(alloc);
+fn compare<W: Write>(out: &mut W, bytes: &[u8]) -> io::Result<Tally> {
+    let mut set = Set {
+        kept: [0; ROOM],
+        len: 0,
+    };
     let mut tally = Tally::new();
     for (number, command) in (Commands { bytes }).enumerate() {
-        if let Some(same) = apply(&mut set, command)? {
+        if let Some(same) = apply(&mut set, command) {
             tally.count(same);
             if !same {
                 writeln!(out, "{number} differs")?;
@@ -135,6 +179,6 @@ fn compare<W: Write>(out: &mut W, alloc: Global, bytes: &[u8]) -> io::Result<Tal
 
 fn main(rt: HostRuntime) -> io::Result<()> {
     let bytes = fs::read(&rt, "sets.bin")?;
-    let tally = compare(&mut io::writer(&rt), rt.alloc(), &bytes)?;
+    let tally = compare(&mut io::writer(&rt), &bytes)?;
     println!(rt; "{tally}")
 }
