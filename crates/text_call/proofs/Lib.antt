@@ -1,4 +1,5 @@
 pub mod RoomLaws
 pub mod FileLaws
 pub mod AcceptLaws
+pub mod OrderLaws
 pub mod DeclareLaws

@@ -12,7 +12,9 @@ use Rattle.base.specs.Choose.{choose}
 use Rattle.std.proofs.Math.Seq.{take-append_seam}
 use native.Mathlib.Nat.{sub-zero}
 use Rattle.writer.specs.Draft.{Filled}
-use Rattle.writer.proofs.TextLaws.{measured, wholly}
+use Rattle.writer.specs.Wrote.{Wrote, after}
+use Rattle.writer.specs.Answer.{needs_room, rendered}
+use Rattle.writer.proofs.TextLaws.{measured, overlaid}
 use Rattle.std.specs.Prelude.{Result, Ok, Err}
 use Rattle.base.specs.declared.refusal.Refusal.{Refusal}
 use Rattle.base.specs.declared.refusal.Refusal.TheVariants.{TextLength}
@@ -61,8 +63,19 @@ module _ (t p : List ℕ) where
     pub made : n ≡ length p
     made = let m = measured w in omega arith
 
+    wrote : length s < 2 ^ 63 → Wrote s 0 p s' n
+    unfolding after
+    wrote b = record { room = b; text = overlaid w b; next = let e = made in omega arith }
+
+    -- whole, since there is room for it
+    stands : length s < 2 ^ 63 → n ≤ length s → (n ≡ length p) × (s' ≡ p ++ drop (length p) s)
+    stands b h =
+        let u = wrote b in
+        let e : n ≡ length p = let m = needs_room u in omega arith in
+        (e, rw (le-leb (length p) (length s) (omega arith)) at (rendered refl u h u).text)
+
     pub from_part : (size : ℕ) → length s ≡ size → size < 2 ^ 63 → n ≤ size → {t' : List ℕ} {r : Result ℕ Refusal} → Whole (take (n - 0) (drop 0 s')) t t' r → Whole p t t' r
     from_part size l b h {t'} {r} v =
-        let e = made in
-        let front : take (n - 0) (drop 0 s') ≡ p = rw (sub-zero, e, wholly w (omega arith) (omega arith)) (take-append_seam p (drop (length p) s)) in
+        let whole = stands (omega arith) (omega arith) in
+        let front : take (n - 0) (drop 0 s') ≡ p = rw (sub-zero, whole.0, whole.1) (take-append_seam p (drop (length p) s)) in
         subst (λ (q : List ℕ). Whole q t t' r) front v
